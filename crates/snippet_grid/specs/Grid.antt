@@ -1,5 +1,5 @@
 -- Rows of cells, and what is written into them.
-use Rattle.std.specs.Prelude.{◌+◌, ◌-◌, ℕ, nat_lt, nat_le, max, Bool, ◌||◌, ◌&&◌, if◌then◌else◌, List, [], ◌∷◌, ◌++◌, length, map, take}
+use Rattle.std.specs.Prelude.{◌-◌, ℕ, nat_lt, nat_le, max, Bool, ◌||◌, ◌&&◌, if◌then◌else◌, List, [], ◌∷◌, ◌++◌, length, map, take}
 use Rattle.std.specs.Prelude.{drop, Some}
 use Rattle.std.specs.List.{slice_index_or}
 use Rattle.snippet_style.specs.Cell.{Cell, SPACE, gives_way, written}

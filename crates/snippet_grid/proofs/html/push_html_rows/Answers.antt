@@ -23,14 +23,8 @@ push_html_row-requires-clause-ends c =
     } in
     row_ends c.args.widths.now c.args.runs.now c.loop-row.row c.loop-row.from c.row_end-to.result at c.requires.grid.inside
 
-pub row_end-to-requires-clause-within : goal.row_end-to-requires-clause-within
-row_end-to-requires-clause-within c = c.loop-row.invariant.within
-
-pub row_end-to-requires-clause-ordered : goal.row_end-to-requires-clause-ordered
-row_end-to-requires-clause-ordered c = c.requires.grid.ordered
-
-pub row_end-to-requires-clause-from_here : goal.row_end-to-requires-clause-from_here
-row_end-to-requires-clause-from_here c = c.loop-row.invariant.below
+pub row_end-to-requires : goal.row_end-to-requires
+row_end-to-requires c = record { within = c.loop-row.invariant.within; ordered = c.requires.grid.ordered; from_here = c.loop-row.invariant.below }
 
 pub loop-row-preserved : goal.loop-row-preserved
 loop-row-preserved c =

@@ -7,20 +7,24 @@ use Rattle.snippet_grid.proofs.PieceLemmas.{ArePieces-two, ArePieces-three}
 use Rattle.snippet_grid.specs.Runs.{IsRun, AreTouchedRuns, IsFront, IsBack}
 use Rattle.snippet_grid.specs.declared.runs.Run.{Run}
 use Rattle.snippet_grid.proofs.put.add_pieces.Goals as goal
-use Rattle.snippet_grid.proofs.put.add_pieces.Goals.{in-Some+in_ok-push, in_default}
+use Rattle.snippet_grid.proofs.put.add_pieces.Goals.{After-add_run, in-Some+in_ok-push, in_default}
 
-pub add_run-requires-in-Some-back-clause-run : goal.add_run-requires-in-Some-back-clause-run
-add_run-requires-in-Some-back-clause-run c =
+pub add_run-requires-in-Some-back : goal.add_run-requires-in-Some-back
+add_run-requires-in-Some-back c =
     let text = string_bytes c.args.text.now in
     let back : IsBack text c.args.touched.now c.args.run.now (c.in-Some-back.right ∷ []) = subst
     (λ (t : List ℕ). IsBack t c.args.touched.now c.args.run.now (c.in-Some-back.right ∷ [])) c.as_str-2.ensures.value c.in-Some-back.ensures.back in
-    IsRun-grown text (string_bytes c.add_run.new.text) c.in-Some-back.right c.in_ok-add_run.ensures.text
-    (back.is_row.are_runs 0 c.in-Some-back.right (omega arith))
+    record {
+      runs = c.in_ok-add_run.ensures.are_runs;
+      run = IsRun-grown text (string_bytes c.add_run.new.text) c.in-Some-back.right c.in_ok-add_run.ensures.text
+          (back.is_row.are_runs 0 c.in-Some-back.right (omega arith));
+    }
 
-pub returns-in-Some-back-clause-pieces : goal.returns-in-Some-back-clause-pieces
-returns-in-Some-back-clause-pieces c =
+-- what the first of the runs holds before the new one stays
+front_kept : (c : After-add_run) → IsFront (string_bytes c.args.text.now) c.args.touched.now c.args.run.now c.match-front.pieces.items
+front_kept c =
     let text = string_bytes c.args.text.now in
-    let front : IsFront text c.args.touched.now c.args.run.now c.match-front.pieces.items = elim c.match-front.branch [
+    elim c.match-front.branch [
       | in-Some+in_ok-push w ↦
           let items : w.push.new.self.items ≡ w.in-Some.left ∷ [] = w.in_ok-push.ensures.items
           ∙ ap (λ (l : List Run). l ++ w.in-Some.left ∷ []) c.requires.none in
@@ -28,28 +32,30 @@ returns-in-Some-back-clause-pieces c =
           (subst (λ (t : List ℕ). IsFront t c.args.touched.now c.args.run.now (w.in-Some.left ∷ [])) c.as_str.ensures.value w.in-Some.ensures.front))
       | in_default w ↦ rw (w.pieces-is) (subst (λ (l : List Run). IsFront text c.args.touched.now c.args.run.now l) (sym c.requires.none)
           (subst (λ (t : List ℕ). IsFront t c.args.touched.now c.args.run.now []) c.as_str.ensures.value w.in_default.ensures.front))
-    ] in
+    ]
+
+pub returns-in-Some-back : goal.returns-in-Some-back
+returns-in-Some-back c =
+    let text = string_bytes c.args.text.now in
+    let mid = string_bytes c.add_run.new.text in
+    let new = string_bytes c.add_run-in-Some-back.new.text in
+    let front = front_kept (goal.at.returns-in-Some-back c).After-add_run in
     let back = subst (λ (t : List ℕ). IsBack t c.args.touched.now c.args.run.now
     (c.in-Some-back.right ∷ [])) c.as_str-2.ensures.value c.in-Some-back.ensures.back in
-    on_ok_three c.add_run-in-Some-back.result
-    (λ shows are adds. ArePieces-three text (string_bytes c.add_run.new.text) (string_bytes c.add_run-in-Some-back.new.text)
-    c.args.touched.now c.match-front.pieces.items c.add_run.new.runs.items c.add_run-in-Some-back.new.runs.items c.args.run.now
-    c.in-Some-back.right c.requires.touched c.requires.run front back c.in_ok-add_run.ensures.ok c.in_ok-add_run.ensures.are_runs
-    c.in_ok-add_run.ensures.adds c.in_ok-add_run.ensures.text shows are adds)
-    c.add_run-in-Some-back.ensures.ok c.add_run-in-Some-back.ensures.are_runs c.add_run-in-Some-back.ensures.adds
+    let first = c.in_ok-add_run.ensures in
+    let last = c.add_run-in-Some-back.ensures in
+    record {
+      text = BeginsWith-trans text mid new first.text last.text;
+      pieces = on_ok_three c.add_run-in-Some-back.result
+          (λ shows are adds. ArePieces-three text mid new c.args.touched.now c.match-front.pieces.items c.add_run.new.runs.items
+          c.add_run-in-Some-back.new.runs.items c.args.run.now c.in-Some-back.right c.requires.touched c.requires.run front back first.ok first.are_runs
+          first.adds first.text shows are adds) last.ok last.are_runs last.adds;
+    }
 
 pub returns-in-None-clause-pieces : goal.returns-in-None-clause-pieces
 returns-in-None-clause-pieces c =
     let text = string_bytes c.args.text.now in
-    let front : IsFront text c.args.touched.now c.args.run.now c.match-front.pieces.items = elim c.match-front.branch [
-      | in-Some+in_ok-push w ↦
-          let items : w.push.new.self.items ≡ w.in-Some.left ∷ [] = w.in_ok-push.ensures.items
-          ∙ ap (λ (l : List Run). l ++ w.in-Some.left ∷ []) c.requires.none in
-          rw (w.pieces-is) (subst (λ (l : List Run). IsFront text c.args.touched.now c.args.run.now l) (sym items)
-          (subst (λ (t : List ℕ). IsFront t c.args.touched.now c.args.run.now (w.in-Some.left ∷ [])) c.as_str.ensures.value w.in-Some.ensures.front))
-      | in_default w ↦ rw (w.pieces-is) (subst (λ (l : List Run). IsFront text c.args.touched.now c.args.run.now l) (sym c.requires.none)
-          (subst (λ (t : List ℕ). IsFront t c.args.touched.now c.args.run.now []) c.as_str.ensures.value w.in_default.ensures.front))
-    ] in
+    let front = front_kept (goal.at.returns-in-None-clause-pieces c).After-add_run in
     let back = subst (λ (t : List ℕ). IsBack t c.args.touched.now c.args.run.now []) c.as_str-2.ensures.value c.in-None.ensures.back in
     ArePieces-two text (string_bytes c.add_run.new.text) c.args.touched.now c.match-front.pieces.items c.add_run.new.runs.items c.args.run.now
     c.requires.touched c.requires.run front back c.in_ok-add_run.ensures.ok c.in_ok-add_run.ensures.are_runs c.in_ok-add_run.ensures.adds
@@ -66,9 +72,6 @@ pub back_of-back-requires-clause-run : goal.back_of-back-requires-clause-run
 back_of-back-requires-clause-run c =
     subst (λ (t : List ℕ). IsRun t c.args.run.now) (sym c.as_str-2.ensures.value) c.requires.run
 
-pub add_run-requires-clause-run : goal.add_run-requires-clause-run
-add_run-requires-clause-run c = c.requires.run
-
 pub add_run-requires-clause-runs : goal.add_run-requires-clause-runs
 add_run-requires-clause-runs c =
     let text = string_bytes c.args.text.now in
@@ -82,10 +85,5 @@ add_run-requires-clause-runs c =
       | in_default w ↦ rw (w.pieces-is) (subst (λ (l : List Run). All (λ x. IsRun text x) l) (sym c.requires.none) (All-nil _))
     ]
 
-pub add_run-requires-in-Some-back-clause-runs : goal.add_run-requires-in-Some-back-clause-runs
-add_run-requires-in-Some-back-clause-runs c = c.in_ok-add_run.ensures.are_runs
-
-pub returns-in-Some-back-clause-text : goal.returns-in-Some-back-clause-text
-returns-in-Some-back-clause-text c =
-    BeginsWith-trans (string_bytes c.args.text.now) (string_bytes c.add_run.new.text)
-    (string_bytes c.add_run-in-Some-back.new.text) c.in_ok-add_run.ensures.text c.add_run-in-Some-back.ensures.text
+pub add_run-requires-clause-run : goal.add_run-requires-clause-run
+add_run-requires-clause-run c = c.requires.run

@@ -14,90 +14,78 @@ use Rattle.snippet_grid.specs.Runs.{IsRow, EndsBy}
 use Rattle.snippet_grid.specs.declared.runs.Run.{Run}
 use Rattle.snippet_grid.proofs.replace.replaced_row.Goals as goal
 
-pub copy_cells-requires-2-clause-runs : goal.copy_cells-requires-2-clause-runs
-copy_cells-requires-2-clause-runs c =
-    IsRow-grown (string_bytes c.args.text.now) (string_bytes c.add_word.new.text)
-    c.args.cells.row c.args.runs.now
-    (BeginsWith-trans (string_bytes c.args.text.now) (string_bytes c.copy_cells.new.text) (string_bytes c.add_word.new.text)
-    c.in_ok-copy_cells.ensures.text c.in_ok-add_word.ensures.text) c.requires.runs
-
-pub returns-clause-ok : goal.returns-clause-ok
-returns-clause-ok c =
-    let cells = text_cells c.args.role (chars c.args.word.now) in
-    let long = sym c.char_count.ensures.value in
-    let word = subst (λ n. ShowsSpan (string_bytes c.copy_cells.new.text)
-    (string_bytes c.add_word.new.text) c.copy_cells.new.out.items c.add_word.new.spare.runs.items c.args.cells.row c.args.cells.start
-    (c.args.cells.start + n) (λ k.
-    slice_index_or cells (k - c.args.cells.start) SPACE)) long c.in_ok-add_word.ensures.ok in
-    let ends = subst (λ n. EndsBy (c.args.cells.start + n) c.add_word.new.spare.runs.items) long c.in_ok-add_word.ensures.ends in
-    on_ok_weaker c.copy_cells-2.result
-    (λ copies. row_replaced (string_bytes c.args.text.now) (string_bytes c.copy_cells.new.text) (string_bytes c.add_word.new.text)
-    (string_bytes c.copy_cells-2.new.text) c.args.runs.now c.clear.new.self.items c.copy_cells.new.out.items c.add_word.new.spare.runs.items
-    c.copy_cells-2.new.out.items c.args.cells.row c.args.cells.start c.args.cells.end (c.args.cells.start + c.char_count.result)
-    _ cells c.requires.some (omega (arith, c.char_count.ensures.value, length-text_cells c.args.role (chars c.args.word.now))) (omega arith)
-    c.requires.runs c.in_ok-copy_cells.ensures.text c.in_ok-add_word.ensures.text c.in_ok-copy_cells.ensures.ok word ends copies)
-    c.copy_cells-2.ensures.ok
-
-pub returns-clause-ends : goal.returns-clause-ends
-returns-clause-ends c =
-    λ n all. on_ok_weaker c.copy_cells-2.result (λ tight k d within. omega (arith, tight k d within, c.char_count.ensures)) (c.copy_cells-2.ensures.tight n all)
-
-pub returns-clause-count : goal.returns-clause-count
-returns-clause-count c =
-    on_ok_weaker c.copy_cells-2.result
-    (λ count. omega (
-      arith,
-      c.in_ok-copy_cells.ensures.count,
-      c.in_ok-add_word.ensures.count,
-      count,
-      touched_outer (string_bytes c.args.text.now)
-          c.args.cells.row c.args.cells.start c.args.cells.end 18446744073709551615 c.args.runs.now c.requires.some c.requires.runs,
-      ap length c.clear.ensures.items,
-    ))
-    c.copy_cells-2.ensures.count
-
 -- the row is begun with no runs
-pub copy_cells-requires-clause-out : goal.copy_cells-requires-clause-out
-copy_cells-requires-clause-out c =
-    subst (λ (l : List Run). IsRow (string_bytes c.args.text.now) c.args.cells.row l) (sym c.clear.ensures.items)
-    (IsRow-none (string_bytes c.args.text.now) c.args.cells.row)
+pub copy_cells-requires : goal.copy_cells-requires
+copy_cells-requires c =
+    let text = string_bytes c.args.text.now in
+    let none = sym c.clear.ensures.items in
+    record {
+      out = subst (λ (l : List Run). IsRow text c.args.cells.row l) none (IsRow-none text c.args.cells.row);
+      before = subst (λ (l : List Run). EndsBy 0 l) none (All-nil _);
+      runs = c.requires.runs;
+      fits = λ k d within. omega (arith, (c.requires.runs.are_runs k d within).fits);
+    }
 
-pub copy_cells-requires-clause-before : goal.copy_cells-requires-clause-before
-copy_cells-requires-clause-before c =
-    subst (λ (l : List Run). EndsBy 0 l) (sym c.clear.ensures.items) (All-nil _)
+pub add_word-requires : goal.add_word-requires
+add_word-requires c = record {
+  out = c.in_ok-copy_cells.ensures.row;
+  before = λ k d within. omega (arith, c.in_ok-copy_cells.ensures.ends k d within);
+  fits = c.requires.fits;
+}
 
-pub copy_cells-requires-clause-runs : goal.copy_cells-requires-clause-runs
-copy_cells-requires-clause-runs c = c.requires.runs
-
-pub copy_cells-requires-clause-fits : goal.copy_cells-requires-clause-fits
-copy_cells-requires-clause-fits c =
-    λ k d within. omega (arith, (c.requires.runs.are_runs k d within).fits)
-
-pub add_word-requires-clause-out : goal.add_word-requires-clause-out
-add_word-requires-clause-out c = c.in_ok-copy_cells.ensures.row
-
-pub add_word-requires-clause-before : goal.add_word-requires-clause-before
-add_word-requires-clause-before c =
-    λ k d within. omega (arith, c.in_ok-copy_cells.ensures.ends k d within)
-
-pub copy_cells-requires-2-clause-out : goal.copy_cells-requires-2-clause-out
-copy_cells-requires-2-clause-out c = c.in_ok-add_word.ensures.row
-
-pub copy_cells-requires-2-clause-before : goal.copy_cells-requires-2-clause-before
-copy_cells-requires-2-clause-before c =
-    λ k d within. omega (arith, c.in_ok-add_word.ensures.ends k d within, c.char_count.ensures.value)
-
-pub copy_cells-requires-2-clause-fits : goal.copy_cells-requires-2-clause-fits
-copy_cells-requires-2-clause-fits c =
-    λ k d within. omega (arith, c.requires.moved k d within, c.char_count.ensures.value)
+pub copy_cells-requires-2 : goal.copy_cells-requires-2
+copy_cells-requires-2 c =
+    let words = string_bytes c.add_word.new.text in
+    let grows = BeginsWith-trans (string_bytes c.args.text.now) (string_bytes c.copy_cells.new.text) words c.in_ok-copy_cells.ensures.text
+    c.in_ok-add_word.ensures.text in
+    record {
+      out = c.in_ok-add_word.ensures.row;
+      before = λ k d within. omega (arith, c.in_ok-add_word.ensures.ends k d within, c.char_count.ensures.value);
+      runs = IsRow-grown (string_bytes c.args.text.now) words c.args.cells.row c.args.runs.now grows c.requires.runs;
+      fits = λ k d within. omega (arith, c.requires.moved k d within, c.char_count.ensures.value);
+    }
 
 pub returns-in_err-add_word-clause-text : goal.returns-in_err-add_word-clause-text
 returns-in_err-add_word-clause-text c =
     BeginsWith-trans (string_bytes c.args.text.now) (string_bytes c.copy_cells.new.text)
     (string_bytes c.add_word.new.text) c.in_ok-copy_cells.ensures.text c.in_err-add_word.ensures.text
 
-pub returns-clause-text : goal.returns-clause-text
-returns-clause-text c =
-    let word = BeginsWith-trans (string_bytes c.args.text.now) (string_bytes c.copy_cells.new.text)
-    (string_bytes c.add_word.new.text) c.in_ok-copy_cells.ensures.text c.in_ok-add_word.ensures.text in
-    BeginsWith-trans (string_bytes c.args.text.now) (string_bytes c.add_word.new.text) (string_bytes c.copy_cells-2.new.text) word c.copy_cells-2.ensures.text
+pub returns : goal.returns
+returns c =
+    let old = string_bytes c.args.text.now in
+    let front = string_bytes c.copy_cells.new.text in
+    let words = string_bytes c.add_word.new.text in
+    let new = string_bytes c.copy_cells-2.new.text in
+    let runs = c.args.runs.now in
+    let row = c.args.cells.row in
+    let start = c.args.cells.start in
+    let end = c.args.cells.end in
+    let cells = text_cells c.args.role (chars c.args.word.now) in
+    let long = sym c.char_count.ensures.value in
+    let first = c.in_ok-copy_cells.ensures in
+    let added = c.in_ok-add_word.ensures in
+    let word = subst (λ n. ShowsSpan front words c.copy_cells.new.out.items c.add_word.new.spare.runs.items row start (start + n)
+    (λ k. slice_index_or cells (k - start) SPACE)) long added.ok in
+    let ends = subst (λ n. EndsBy (start + n) c.add_word.new.spare.runs.items) long added.ends in
+    record {
+      text = BeginsWith-trans old words new (BeginsWith-trans old front words first.text added.text) c.copy_cells-2.ensures.text;
+      ok = on_ok_weaker c.copy_cells-2.result
+          (λ copies. row_replaced old front words new runs c.clear.new.self.items c.copy_cells.new.out.items c.add_word.new.spare.runs.items
+          c.copy_cells-2.new.out.items row start end (start + c.char_count.result) _ cells c.requires.some
+          (omega (arith, c.char_count.ensures.value, length-text_cells c.args.role (chars c.args.word.now))) (omega arith)
+          c.requires.runs first.text added.text first.ok word ends copies)
+          c.copy_cells-2.ensures.ok;
+      row = c.copy_cells-2.ensures.row;
+      ends = λ n all. on_ok_weaker c.copy_cells-2.result (λ tight k d within. omega (arith, tight k d within, c.char_count.ensures))
+          (c.copy_cells-2.ensures.tight n all);
+      count = on_ok_weaker c.copy_cells-2.result
+          (λ count. omega (
+            arith,
+            first.count,
+            added.count,
+            count,
+            touched_outer old row start end 18446744073709551615 runs c.requires.some c.requires.runs,
+            ap length c.clear.ensures.items,
+          ))
+          c.copy_cells-2.ensures.count;
+    }

@@ -17,21 +17,6 @@ goes_there c =
     let same = c.index-last.ensures ∙ get_or_default runs i c.index-last.result.now last (omega arith) ∙ sym c.index_mut.ensures.value in
     subst (λ x. Continues x c.args.run.now) same (c.continues.ensures.yes c.if-continues.true)
 
-pub returns-then-continues-clause-ok : goal.returns-then-continues-clause-ok
-returns-then-continues-clause-ok c =
-    on_ok_weaker c.join.result
-    (λ joined. ShowsMore-joined (string_bytes c.args.text.now) (string_bytes c.join.new.text)
-    c.args.runs.now.items _ c.index_mut.result.now c.args.run.now c.join.new.first (omega arith)
-    c.index_mut.ensures.value c.join.ensures.text c.requires.runs c.requires.run (goes_there c) joined) c.join.ensures.ok
-
-pub returns-then-continues-clause-are_runs : goal.returns-then-continues-clause-are_runs
-returns-then-continues-clause-are_runs c =
-    on_ok_weaker c.join.result
-    (λ joined. All-set (λ x. IsRun (string_bytes c.join.new.text) x)
-    c.args.runs.now.items _ c.join.new.first joined.is_run
-    (All-IsRun-grown (string_bytes c.args.text.now) (string_bytes c.join.new.text) c.args.runs.now.items c.join.ensures.text c.requires.runs))
-    c.join.ensures.ok
-
 pub returns-clause-ok : goal.returns-clause-ok
 returns-clause-ok c =
     ShowsMore-pushed (string_bytes c.args.text.now) c.args.runs.now.items c.push.new.self.items c.args.run.now c.in_ok-push.ensures.items
@@ -41,18 +26,25 @@ returns-clause-are_runs c =
     subst (λ (xs : List Run). All (λ x. IsRun (string_bytes c.args.text.now) x) xs) (sym c.in_ok-push.ensures.items)
     (All-push (λ x. IsRun (string_bytes c.args.text.now) x) c.args.runs.now.items c.args.run.now c.requires.runs c.requires.run)
 
-pub returns-then-continues-clause-adds : goal.returns-then-continues-clause-adds
-returns-then-continues-clause-adds c =
-    on_ok_weaker c.join.result (λ joined. AddsRun-joined (string_bytes c.args.text.now)
-    (string_bytes c.join.new.text) c.args.runs.now.items _ c.index_mut.result.now c.args.run.now c.join.new.first (omega arith) c.index_mut.ensures.value
-    (goes_there c) joined) c.join.ensures.ok
-
-pub returns-then-continues-clause-err : goal.returns-then-continues-clause-err
-returns-then-continues-clause-err c =
+pub returns-then-continues : goal.returns-then-continues
+returns-then-continues c =
+    let old = string_bytes c.args.text.now in
+    let new = string_bytes c.join.new.text in
     let runs = c.args.runs.now.items in
     let i : ℕ = c.len-len.result - 1 in
-    on_err_weaker c.join.result (λ same. ap (λ (x : Run). set runs i x) (same ∙ c.index_mut.ensures.value)
-    ∙ set-get_or runs i c.index_mut.result.now) c.join.ensures.err
+    let last = c.index_mut.result.now in
+    let is = c.index_mut.ensures.value in
+    let first = c.join.new.first in
+    let run = c.args.run.now in
+    let grown = All-IsRun-grown old new runs c.join.ensures.text c.requires.runs in
+    record {
+      text = c.join.ensures.text;
+      ok = on_ok_weaker c.join.result (λ joined. ShowsMore-joined old new runs _ last run first (omega arith) is c.join.ensures.text c.requires.runs
+          c.requires.run (goes_there c) joined) c.join.ensures.ok;
+      are_runs = on_ok_weaker c.join.result (λ joined. All-set (λ x. IsRun new x) runs _ first joined.is_run grown) c.join.ensures.ok;
+      adds = on_ok_weaker c.join.result (λ joined. AddsRun-joined old new runs _ last run first (omega arith) is (goes_there c) joined) c.join.ensures.ok;
+      err = on_err_weaker c.join.result (λ same. ap (λ (x : Run). set runs i x) (same ∙ is) ∙ set-get_or runs i last) c.join.ensures.err;
+    }
 
 pub returns-clause-adds : goal.returns-clause-adds
 returns-clause-adds c =

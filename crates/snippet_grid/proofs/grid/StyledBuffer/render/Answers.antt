@@ -15,20 +15,17 @@ printed c new adds =
     WeavesRows sheet c.args.level c.args.self.now (string_bytes c.new.result) new) c.new-codes.ensures.sheet adds in
     Prints-from_adds c.args.sheet.now c.args.level c.args.self.now _ _ _ refl c.new.ensures.bytes under
 
-pub returns-clause-prints : goal.returns-clause-prints
-returns-clause-prints c = if_ok_weaker c.render_after.result (λ t adds. printed c (string_bytes t) adds) c.render_after.ensures.added
-
-pub returns-clause-woven : goal.returns-clause-woven
-returns-clause-woven c =
-    if_ok_weaker c.render_after.result (λ t adds. IsWoven-from_prints c.args.sheet.now c.args.level c.args.self.now _
-    (printed c (string_bytes t) adds)) c.render_after.ensures.added
-
-pub returns-clause-plain : goal.returns-clause-plain
-returns-clause-plain c =
-    if_ok_weaker c.render_after.result (λ t adds plain none. plain_woven c.args.sheet.now _ (plain_text c.args.self.now) (links_of c.args.self.now) plain none
-    (IsWoven-from_prints c.args.sheet.now c.args.level c.args.self.now _ (printed c (string_bytes t) adds))) c.render_after.ensures.added
-
-pub returns-clause-only : goal.returns-clause-only
-returns-clause-only c =
-    if_ok_weaker c.render_after.result (λ t adds other prints. Prints-unique c.args.sheet.now c.args.level c.args.self.now _ other
-    (printed c (string_bytes t) adds) prints) c.render_after.ensures.added
+pub returns : goal.returns
+returns c =
+    let sheet = c.args.sheet.now in
+    let level = c.args.level in
+    let rows = c.args.self.now in
+    let result = c.render_after.result in
+    let added = c.render_after.ensures.added in
+    record {
+      prints = if_ok_weaker result (λ t adds. printed c (string_bytes t) adds) added;
+      only = if_ok_weaker result (λ t adds other prints. Prints-unique sheet level rows _ other (printed c (string_bytes t) adds) prints) added;
+      woven = if_ok_weaker result (λ t adds. IsWoven-from_prints sheet level rows _ (printed c (string_bytes t) adds)) added;
+      plain = if_ok_weaker result (λ t adds plain none. plain_woven sheet _ (plain_text rows) (links_of rows) plain none
+          (IsWoven-from_prints sheet level rows _ (printed c (string_bytes t) adds))) added;
+    }
