@@ -117,8 +117,8 @@ fn draw_rows(
     }
 }
 
-/// How many entries are few.
-const FEW: usize = 8;
+/// How many entries are few: painted in the grid, strokes of more would move each other.
+const FEW: usize = 2;
 
 /// Does the same of few entries: their strokes are painted one over another in the grid.
 ///
