@@ -1,5 +1,5 @@
 -- What a diagnostic is headed by stays, and the files of a package are no part of what it is read as.
-use Rattle.std.proofs.Common.{◌≡◌, ◌∙◌, Bool, List, ℕ, Option, None, Some, String, ap, option_map, string_bytes}
+use Rattle.std.proofs.Common.{◌∙◌, Bool, List, ℕ, Option, None, Some, String, ap, option_map, string_bytes}
 use Rattle.std.specs.Global.{Global, Vec}
 use Rattle.serde_json.specs.Data.{Data}
 use Rattle.redraw_report.specs.declared.diagnostic.Diagnostic.{Diagnostic}

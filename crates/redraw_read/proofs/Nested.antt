@@ -1,6 +1,6 @@
 -- Places by a file of their project, and there by their names.
 use Rattle.std.proofs.Common.{◌≡◌, ℕ, ◌&&◌, Bool, true, false, cond, List, []}
-use Rattle.std.proofs.Common.{Option, Some, None, String, BTreeMap, string_bytes, refl, sym, ap, ◌∙◌, if◌then◌else◌}
+use Rattle.std.proofs.Common.{Option, Some, None, String, BTreeMap, string_bytes, refl, ap, ◌∙◌, if◌then◌else◌}
 use Rattle.std.specs.Prelude.{Result, Ok, Err, OnErr}
 use Rattle.std.specs.Global.{Global}
 use Rattle.std.specs.BTreeMap.{get_by_text}

@@ -1,8 +1,8 @@
 -- Which places rustc's JSON has of a diagnostic or a child: those of its list, as each is shown, and the calls of macros beside them.
-use Rattle.std.specs.Prelude.{◌≡◌, ◌⊎◌, ℕ, zero, suc, ◌++◌, ◌==◌, ◌&&◌, ◌||◌, Bool, true, false, not, nat_le, List, [], ◌∷◌, Option, Some, None, codes}
+use Rattle.std.specs.Prelude.{◌≡◌, ◌⊎◌, ℕ, zero, suc, eqb, ◌++◌, ◌==◌, ◌&&◌, ◌||◌, Bool, true, false, not, nat_le, List, [], ◌∷◌, Option, Some, None, codes}
 use Rattle.std.specs.Prelude.{is_some, length, string_bytes, if◌then◌else◌}
 use Rattle.std.specs.BTreeSet.{contains_text}
-use Rattle.std.specs.List.{All, AllAdjacentBelow, AllZip, Contains, filter, flat_map}
+use Rattle.std.specs.List.{All, AllAdjacentBelow, AllZip, Contains, ends_with, filter, flat_map, starts_with}
 use Rattle.std.specs.List.Sorted.{IsPermutation}
 use Rattle.std.specs.Option.{option_and_then, option_map, option_map_or, unwrap_or}
 use Rattle.std.specs.Str.{bytes_eq}
@@ -143,10 +143,22 @@ ArePlacesIn named keeps items spans = (all : List FileSpan) × AllZip (IsPlaceOf
 abbrev pub AreListed : List ℕ → Data → List Data → Type 0
 AreListed name d items = given_or as_array no_items name d ≡ Some (items_of items)
 
--- a place is where a value says that a macro was called, of which something is said, and isn't the point
-pub record IsTold (call : Data) (s : FileSpan) : Type 0 where
+-- what is said of the call of a macro, by the name that it is declared with
+abbrev pub call_label : List ℕ → Option (List ℕ)
+call_label name =
+    if ends_with eqb name (codes "!") then Some (codes "in this macro invocation")
+    else (if starts_with eqb name (codes "#[derive(") then Some (codes "in this derive macro expansion")
+    else (if starts_with eqb name (codes "#[") then Some (codes "in this attribute macro expansion") else None))
+
+-- what is said of the call in an expansion
+abbrev pub label_in : Data → Option (List ℕ)
+label_in e = option_and_then call_label (option_and_then as_str (get (codes "macro_decl_name") e))
+
+-- a place is where a value says that a macro was called, of which this is said, and isn't the point
+pub record IsTold (call : Data) (said : List ℕ) (s : FileSpan) : Type 0 where
   pub place : SaysPlace call s
   pub lines : HasLines s.region call s.carried
+  pub label : option_map string_bytes s.label ≡ said_label (Some said)
   pub context : s.is_primary ≡ false
 
 -- a place is the call of the outermost macro around a primary one of these values
@@ -158,7 +170,9 @@ pub record IsCallBeside (items : List Data) (s : FileSpan) : Type 0 where
   pub around : outermost 128 inner ≡ Some expansion
   pub call : Data
   pub called : get (codes "span") expansion ≡ Some call
-  pub told : IsTold call s
+  pub said : List ℕ
+  pub says : label_in expansion ≡ Some said
+  pub told : IsTold call said s
 
 -- ---- those that are shown
 

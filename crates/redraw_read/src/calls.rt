@@ -76,7 +76,7 @@ fn add_told(
     told: &mut ToldCalls,
     spans: &mut Vec<FileSpan>,
 ) -> Result<(), Fault>
-    ensures added { OnOk result ((calls : List FileSpan) × All (IsTold (view place.now.value.now)) calls
+    ensures added { OnOk result ((calls : List FileSpan) × All (IsTold (view place.now.value.now) label.now) calls
         × (spans.new.items ≡ spans.old.items ++ calls)) }
 {
     let region = region_of(place)?;
@@ -91,7 +91,7 @@ fn add_told(
 /// A place in this region of which this is said, and which isn't the point of the report.
 fn told_span(place: &Node<'_, '_>, region: LineRegion, label: &str) -> Result<FileSpan, Fault>
     requires said { IsRegionOf (view place.now.value.now) region }
-    ensures told { IfOk result (IsTold (view place.now.value.now)) }
+    ensures told { IfOk result (IsTold (view place.now.value.now) label.now) }
 {
     let file = place.text("file_name")?;
     file_span(place, file, region, Some(label), false)

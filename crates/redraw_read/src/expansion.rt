@@ -4,7 +4,8 @@
 
 ghost use Rattle.std.specs.Prelude.{◌≡◌, Some, IfSome, codes, false, option_map};
 ghost use Rattle.std.specs.BTreeSet.{contains_text};
-ghost use Rattle.std.specs.Option.{option_map_or};
+ghost use Rattle.std.specs.Option.{option_and_then, option_map_or};
+ghost use Rattle.json_lines.specs.Field.{lent_text};
 ghost use Rattle.redraw_read.specs.Places as spec;
 ghost use Rattle.redraw_read.specs.Places.{call_around, expansion_of, shown_place};
 ghost use Rattle.serde_json.specs.Data.{Data};
@@ -12,6 +13,7 @@ ghost use Rattle.serde_json.specs.Find.{as_str, get};
 ghost use Rattle.serde_json.specs.View.{view};
 
 use crate::named_files::NamedFiles;
+use crate::words::{begins_with, finishes_with};
 use serde_json::Value;
 use std::alloc::{AllocError, Global};
 
@@ -149,7 +151,7 @@ pub fn told_call<'v>(
     named: &Option<NamedFiles>,
 ) -> Option<(&'v Value, &'static str)>
     ensures call { IfSome result (λ told. (e : Data) × (spec.outermost 128 (view span.now) ≡ Some e)
-        × (get (codes "span") e ≡ Some (view told.0.now))) }
+        × (get (codes "span") e ≡ Some (view told.0.now)) × (spec.label_in e ≡ Some told.1.now)) }
 {
     let expansion = outermost(span, EXPANSIONS)?;
     if is_shown_elsewhere(span, expansion, named) {
@@ -172,6 +174,7 @@ fn is_shown_elsewhere(span: &Value, expansion: &Value, named: &Option<NamedFiles
 /// Where a macro was called, and what is said of that.
 fn labelled_call(expansion: &Value) -> Option<(&Value, &'static str)>
     ensures call { IfSome result (λ told. get (codes "span") (view expansion.now) ≡ Some (view told.0.now)) }
+    ensures label { IfSome result (λ told. spec.label_in (view expansion.now) ≡ Some told.1.now) }
 {
     let call = expansion.get("span")?;
     match decl_name(expansion).and_then(call_label) {
@@ -181,7 +184,9 @@ fn labelled_call(expansion: &Value) -> Option<(&Value, &'static str)>
 }
 
 /// The name of the macro that an expansion is of, as it is declared.
-fn decl_name(expansion: &Value) -> Option<&str> {
+fn decl_name(expansion: &Value) -> Option<&str>
+    ensures value { lent_text result ≡ option_and_then as_str (get (codes "macro_decl_name") (view expansion.now)) }
+{
     expansion.get("macro_decl_name").and_then(Value::as_str)
 }
 
@@ -193,12 +198,14 @@ const DERIVE_CALL: &str = "in this derive macro expansion";
 const ATTRIBUTE_CALL: &str = "in this attribute macro expansion";
 
 /// What is said of the call of a macro of this name.
-fn call_label(name: &str) -> Option<&'static str> {
-    if name.ends_with('!') {
+fn call_label(name: &str) -> Option<&'static str>
+    ensures value { lent_text result ≡ spec.call_label name.now }
+{
+    if finishes_with(name, "!") {
         Some(CALL)
-    } else if name.starts_with("#[derive(") {
+    } else if begins_with(name, "#[derive(") {
         Some(DERIVE_CALL)
-    } else if name.starts_with("#[") {
+    } else if begins_with(name, "#[") {
         Some(ATTRIBUTE_CALL)
     } else {
         None
