@@ -1,18 +1,24 @@
 -- What a grid becomes where a row is begun with a glyph after the gutter.
-use Rattle.std.proofs.Common.{◌≡◌, ℕ, ◌+◌, ◌<◌, List, [], ◌∷◌, ◌++◌, length, chars, ap, ◌∙◌, arith}
+use Rattle.std.proofs.Common.{◌≡◌, ℕ, ◌+◌, ◌<◌, List, [], ◌∷◌, ◌++◌, length, chars, sym, ap, ◌∙◌, arith}
+use Rattle.std.proofs.Math.Seq.{get_or-append_seam}
+use Rattle.std.proofs.lemmas.List.{append-nil}
+use Rattle.snippet_text.specs.Normalized.{norm}
+use Rattle.snippet_titles.specs.Appended.{appended}
+use Rattle.snippet_titles.proofs.RowLemmas.{appended-two}
 use Rattle.snippet_style.specs.declared.glyphs.DecorStyle.{DecorStyle}
 use Rattle.snippet_style.specs.declared.glyphs.DecorStyle.TheVariants.{Ascii, Unicode}
 use Rattle.snippet_style.specs.declared.role.ElementStyle.TheVariants.{LineAndColumn, LineNumber}
 use Rattle.snippet_style.specs.Glyphs.{closing_of}
-use Rattle.snippet_grid.specs.Grid.{row_at, cells_written}
-use Rattle.snippet_style.specs.Cell.{Cell, text_cells}
+use Rattle.snippet_grid.specs.Grid.{cells_written}
+use Rattle.snippet_style.specs.Cell.{Cell, SPACE, text_cells}
 use Rattle.snippet_titles.specs.declared.origin.FileStart.{FileStart}
 use Rattle.snippet_titles.specs.declared.origin.FileStart.TheVariants.{Alone, First, Later, Secondary}
 use Rattle.snippet_titles.specs.declared.origin.OriginLocation.{OriginLocation}
 use Rattle.snippet_titles.specs.declared.origin.OriginLayout.{OriginLayout}
-use Rattle.snippet_titles.specs.Origin.{file_glyph, file_row, origin_row, origin_text}
+use Rattle.snippet_titles.specs.Origin.{file_glyph, file_row, line_text, origin_row, origin_text}
 use Rattle.snippet_style.specs.Separators.{closing_row}
-use Rattle.snippet_titles.proofs.ExtendLemmas.{extended, extended_from, length-begun}
+use Rattle.snippet_grid.proofs.GridLemmas.{cells_written_last}
+use Rattle.snippet_style.proofs.CellLemmas.{text_cells-append, written_end}
 use Rattle.snippet_style.proofs.RowLemmas.{closing_some as closing-some}
 use Rattle.snippet_grid.proofs.RowLemmas.{begun_by_text}
 pub use Rattle.snippet_grid.proofs.RowLemmas.{separator_row-begun}
@@ -44,23 +50,29 @@ pub closing_row-begun : (old new : List (List Cell)) (row gutter : ℕ) (text : 
 closing_row-begun old new row gutter text decor below is writes =
     begun_by_text old new row (gutter + 1) text (closing_of decor) below is (closing-some decor) writes
 
--- a text appended to the last row, in the role of places
-abbrev pub Appends : (now new : List (List Cell)) (row : ℕ) (text : List ℕ) → Type 0
-Appends now new row text =
-    (0 < length text → new ≡ cells_written now row (length (row_at now row)) (text_cells LineAndColumn (chars text))) × (text ≡ [] → new ≡ now)
+-- cells after the last row are added to it
+appended-last : (front : List (List Cell)) (row cells : List Cell)
+    → cells_written (front ++ row ∷ []) (length front) (length row) cells ≡ front ++ (row ++ cells) ∷ []
+appended-last front row cells =
+    cells_written_last front row (length row) cells ∙ ap (λ (r : List Cell). front ++ r ∷ []) (written_end SPACE row cells)
 
--- what the last row then holds
-row-appended : (old now new : List (List Cell)) (row : ℕ) (cells : List Cell) (text : List ℕ) → row ≡ length old → now ≡ old ++ cells ∷ []
-    → Appends now new row text → new ≡ old ++ (cells ++ text_cells LineAndColumn (chars text)) ∷ []
-row-appended old now new row cells text below begun writes =
-    extended_from old now new row cells (text_cells LineAndColumn (chars text)) below begun
-    (extended now new row LineAndColumn text (length-begun old now row cells below begun) writes.0 writes.1)
+-- cells added to the last row, which was just begun
+last_extended : (old : List (List Cell)) (cells more : List Cell) → appended (old ++ cells ∷ []) (length old) more ≡ old ++ (cells ++ more) ∷ []
+last_extended old cells [] = ap (λ (r : List Cell). old ++ r ∷ []) (sym (append-nil cells))
+last_extended old cells (c ∷ more) =
+    ap (λ (r : List Cell). cells_written (old ++ cells ∷ []) (length old) (length r) (c ∷ more)) (get_or-append_seam old cells [] [])
+    ∙ appended-last old cells (c ∷ more)
 
 -- the row of a path: the row that leads to it, with the path and its place after that
-pub origin_row-begun : (old begun new : List (List Cell)) (row : ℕ) (text path : List ℕ) (layout : OriginLayout) (start : FileStart)
-    (place : OriginLocation) → row ≡ length old → begun ≡ old ++ file_row layout start ∷ [] → chars text ≡ origin_text layout.anonymized path place
-    → Appends begun new row text → new ≡ old ++ origin_row layout start path place ∷ []
-unfolding origin_row
-origin_row-begun old begun new row text path layout start place below starts is writes =
-    row-appended old begun new row (file_row layout start) text below starts writes
-    ∙ ap (λ cs. old ++ (file_row layout start ++ text_cells LineAndColumn cs) ∷ []) is
+pub origin_row-begun : (old begun named new : List (List Cell)) (row : ℕ) (path : List ℕ) (layout : OriginLayout) (start : FileStart)
+    (place : OriginLocation) → let after = line_text layout.anonymized place.line place.column in row ≡ length old → begun ≡ old ++ file_row layout start ∷ []
+    → named ≡ appended begun row (text_cells LineAndColumn (norm (chars path))) → new ≡ appended named row (text_cells LineAndColumn after)
+    → new ≡ old ++ origin_row layout start path place ∷ []
+unfolding origin_row origin_text
+origin_row-begun old begun named new row path layout start place below starts names places =
+    let after : List ℕ = line_text layout.anonymized place.line place.column in
+    let shown : List ℕ = norm (chars path) in
+    appended-two begun named new row (text_cells LineAndColumn shown) (text_cells LineAndColumn after) names places
+    ∙ ap (appended begun row) (sym (text_cells-append LineAndColumn shown after)) ∙ ap (λ rows. appended rows row (text_cells LineAndColumn (shown ++ after))) starts
+    ∙ ap (λ n. appended (old ++ file_row layout start ∷ []) n (text_cells LineAndColumn (shown ++ after))) below
+    ∙ last_extended old (file_row layout start) (text_cells LineAndColumn (shown ++ after))

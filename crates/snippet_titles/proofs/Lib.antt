@@ -2,7 +2,6 @@ pub mod AddedLemmas
 pub mod AppendLemmas
 pub mod DigitLemmas
 pub mod EndLemmas
-pub mod ExtendLemmas
 pub mod FileRowLemmas
 pub mod FreeLemmas
 pub mod HeadFacts

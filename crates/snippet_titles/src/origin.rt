@@ -1,11 +1,16 @@
 //! The row of a path, and of the place after it.
-ghost use Rattle.std.specs.Prelude.{◌≡◌, ◌∷◌, ◌++◌, [], length, chars, string_bytes, OnOk, IfOk};
+ghost use Rattle.std.specs.Prelude.{◌≡◌, ◌+◌, ◌≤◌, ◌∷◌, ◌++◌, [], length, chars, string_bytes, OnOk, IfOk};
 ghost use Rattle.std.specs.Fmt.{decimal};
 ghost use Rattle.snippet_text.specs.Normalized.{norm};
 ghost use Rattle.snippet_titles.specs.Origin as spec;
 ghost use Rattle.snippet_titles.specs.Origin.{file_glyph, file_row, line_text, origin_row};
-ghost use Rattle.snippet_style.specs.Bounds.{IsRowNumber};
+ghost use Rattle.snippet_titles.specs.Appended.{appended};
+ghost use Rattle.snippet_style.specs.Bounds.{HasNext, IsRowNumber};
+ghost use Rattle.snippet_style.specs.Cell.{text_cells};
+ghost use Rattle.snippet_style.specs.declared.role.ElementStyle.TheVariants.{LineAndColumn};
 
+use crate::row::extend_row;
+use arrayvec::ArrayString;
 use itoa::Buffer;
 use snippet_grid::{Layout, StyledBuffer};
 use snippet_style::{DecorStyle, ElementStyle};
@@ -148,10 +153,76 @@ pub fn draw_origin(
 ) -> Result<(), AllocError>
     ensures row { OnOk result (buffer.new ≡ buffer.old ++ origin_row layout start path.now place ∷ []) }
 {
-    let alloc = buffer.allocator();
-    let text = origin_text(alloc, path, place, layout.anonymized)?;
+    let anonymized = layout.anonymized;
     let row = begin_file_row(buffer, layout, start)?;
-    buffer.append(row, text.as_str(), ElementStyle::LineAndColumn)
+    append_path(buffer, row, path)?;
+    append_place(buffer, row, place, anonymized)
+}
+
+/// Adds a path, normalised, to a row.
+///
+/// # Errors
+///
+/// There is no memory for the row.
+fn append_path(buffer: &mut StyledBuffer, row: usize, path: &str) -> Result<(), AllocError>
+    requires row { HasNext row }
+    ensures added { OnOk result (buffer.new
+        ≡ appended buffer.old row (text_cells LineAndColumn (norm (chars path.now)))) }
+{
+    let shown = normalized(buffer.allocator(), path)?;
+    extend_row(buffer, row, shown.as_str(), ElementStyle::LineAndColumn)
+}
+
+/// Adds the place that stands after a path to its row.
+///
+/// # Errors
+///
+/// There is no memory for the row.
+fn append_place(
+    buffer: &mut StyledBuffer,
+    row: usize,
+    place: OriginLocation,
+    anonymized: bool,
+) -> Result<(), AllocError>
+    requires row { HasNext row }
+    ensures added { OnOk result (buffer.new
+        ≡ appended buffer.old row (text_cells LineAndColumn (line_text anonymized place.line place.column))) }
+{
+    let text = place_text(place, anonymized);
+    extend_row(buffer, row, text.as_str(), ElementStyle::LineAndColumn)
+}
+
+/// The bytes that the place after a path takes at most: two colons, and after each a number of 20 digits.
+const MOST_PLACE_BYTES: usize = 42;
+
+/// The place that stands after a path, which takes no memory.
+fn place_text(place: OriginLocation, anonymized: bool) -> ArrayString<MOST_PLACE_BYTES>
+    ensures value { result.bytes ≡ line_text anonymized place.line place.column }
+{
+    let mut text = ArrayString::new();
+    let Some(line) = place.line else {
+        return text;
+    };
+    if anonymized {
+        text.push_str(":LL");
+    } else {
+        push_short(&mut text, line);
+    }
+    if let Some(column) = place.column {
+        push_short(&mut text, column);
+    }
+    text
+}
+
+/// Adds a colon and a number to a text that has room for them.
+fn push_short(text: &mut ArrayString<MOST_PLACE_BYTES>, number: usize)
+    requires room { length text.old.bytes + 21 ≤ 42 }
+    ensures added { text.new.bytes ≡ text.old.bytes ++ 58 ∷ decimal number }
+    ensures short { length text.new.bytes ≤ length text.old.bytes + 21 }
+{
+    text.push_str(":");
+    let mut digits = Buffer::new();
+    text.push_str(digits.format(number));
 }
 
 /// Begins a row below all that stands in the grid with what leads to a file, and gives the row's number.

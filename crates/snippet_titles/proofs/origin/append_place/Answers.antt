@@ -1,0 +1,16 @@
+use Rattle.std.proofs.Common.{◌∙◌, ap, chars}
+use Rattle.std.proofs.lemmas.Result.{on_ok_weaker}
+use Rattle.snippet_style.specs.Cell.{text_cells}
+use Rattle.snippet_style.specs.declared.role.ElementStyle.TheVariants.{LineAndColumn}
+use Rattle.snippet_titles.specs.Appended.{appended}
+use Rattle.snippet_titles.proofs.OriginText.{place-chars}
+use Rattle.snippet_titles.proofs.origin.append_place.Goals as goal
+
+pub returns : goal.returns
+returns c =
+    record {
+      added = on_ok_weaker c.extend_row.result
+          (λ adds. adds ∙ ap (λ cs. appended c.args.buffer.now c.args.row (text_cells LineAndColumn cs))
+          (ap chars (c.as_str.ensures.value ∙ c.place_text-text.ensures.value) ∙ place-chars c.args.anonymized c.args.place))
+          c.extend_row.ensures.extended;
+    }
