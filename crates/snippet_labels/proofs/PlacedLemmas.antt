@@ -1,5 +1,5 @@
 -- How the entries of a line are placed, one position after another.
-use Rattle.std.proofs.Common.{◌≡◌, ℕ, suc, ◌+◌, ◌-◌, ◌<◌, ◌≤◌, ◌^◌, ◌==◌, ◌&&◌, ◌||◌, cond, nat_lt, not, None, Some, Bool, true, false, List, [], ◌∷◌, ◌++◌}
+use Rattle.std.proofs.Common.{◌≡◌, ℕ, suc, ◌+◌, ◌<◌, ◌≤◌, ◌^◌, ◌==◌, ◌&&◌, ◌||◌, cond, nat_lt, not, None, Some, Bool, true, false, List, [], ◌∷◌, ◌++◌}
 use Rattle.std.proofs.Common.{length, map, drop, take}
 use Rattle.std.proofs.Common.{set, get_or, refl, sym, ap, ◌∙◌, subst, arith, All, zero}
 use Rattle.std.specs.List.{list_all, list_any, position, position_or_len, zip}
@@ -17,7 +17,6 @@ use Rattle.snippet_labels.specs.Positions.{do_overlap, ends_no_later, has_label,
 use Rattle.snippet_labels.specs.Positions.{are_starts, crosses, position_at, position_after, positions, line_positions}
 use Rattle.snippet_labels.specs.Placing.{ArePlaced, IsFromRight, HasItsBytes, HasItsLabel, asks, unplaced}
 use Rattle.snippet_labels.specs.Positions.{is_placed_before, look_counts, looked_after, placed_of}
-use Rattle.snippet_parts.specs.Least.{greatest}
 use Rattle.snippet_parts.proofs.PartLemmas.{list_any-map}
 use Rattle.std.proofs.lemmas.List.Elements.{All-map}
 use Rattle.snippet_labels.specs.PlacedEntries.{shifted}
@@ -70,12 +69,6 @@ pub placed_more : (f : PlacedEntry → ℕ) (es : List PlacedEntry) (ns : List �
 placed_more f es ns i e within within_ns so_far is =
     ap (map f) (take_more_set es i e within) ∙ map_push f (take i es) e ∙ ap (λ xs. xs ++ f e ∷ []) so_far
     ∙ ap (λ n. take i ns ++ n ∷ []) is ∙ sym (take_more ns i 0 within_ns)
-
--- there are as many positions as entries
-pub length-positions : (p : ℕ) (es : List PlacedEntry) → length (positions p es) ≡ length es
-length-positions p [] = refl
-length-positions p (e ∷ others) =
-    ap suc (length-positions (position_after (position_at p e others) e others) others)
 
 -- what holds of the entries of a line holds of the placed ones
 pub entries_all : (Q : LineAnnotation → Type 0) (es : List LineAnnotation) (ps : List PlacedEntry) → IsPermutation es (map (λ (e : PlacedEntry). e.entry) ps)
@@ -192,14 +185,6 @@ entries_kept es fs kept =
     let f : PlacedEntry → LineAnnotation = λ e. e.entry in
     sym (map-map f unplaced es) ∙ ap (map f) kept ∙ map-map f unplaced fs
 
--- each entry of a line has a position
-pub length-line_positions : (es : List PlacedEntry) → length (line_positions es) ≡ length es
-length-line_positions es =
-    elim (are_starts es) as (λ b. length (cond b (flipped (positions 0 es)) (positions 0 es)) ≡ length es) [
-      | true ↦ length-map (positions 0 es) (λ p. greatest (positions 0 es) - p) ∙ length-positions 0 es
-      | false ↦ length-positions 0 es
-    ]
-
 -- so positions don't depend on positions
 line_positions-unplaced : (es : List PlacedEntry) → line_positions (map unplaced es) ≡ line_positions es
 line_positions-unplaced = line_positions-changed unplaced (λ e. refl) (λ e. refl) (λ p e. refl) refl
@@ -221,12 +206,12 @@ written_back xs ys len is kept =
     ∙ take_all len xs (omega (arith, is, long))
 
 -- entries that were put in an order and got the positions of it are placed
-pub ArePlaced-from : (es : List LineAnnotation) (labelled sorted placed : List PlacedEntry) (ps ns : List ℕ)
+pub ArePlaced-from : (es : List LineAnnotation) (labelled sorted placed : List PlacedEntry)
     → map (λ (e : PlacedEntry). e.entry) labelled ≡ es → All HasItsLabel labelled → All HasItsBytes labelled → IsPermutation labelled sorted
     → map (λ (e : PlacedEntry). e.entry) sorted ≡ ordered_by is_placed_before (map (λ (e : PlacedEntry). e.entry) labelled)
-    → IsFromRight (map (λ (e : PlacedEntry). e.entry) sorted) → ps ≡ line_positions sorted → map (λ (e : PlacedEntry). e.position) placed ≡ ps
-    → ns ≡ look_counts 0 sorted → map (λ (e : PlacedEntry). e.looked) placed ≡ ns → map unplaced placed ≡ map unplaced sorted → ArePlaced es placed
-ArePlaced-from es labelled sorted placed ps ns entries labels bytes same order ordered are got counts counted kept =
+    → IsFromRight (map (λ (e : PlacedEntry). e.entry) sorted) → map (λ (e : PlacedEntry). e.position) placed ≡ line_positions sorted
+    → map (λ (e : PlacedEntry). e.looked) placed ≡ look_counts 0 sorted → map unplaced placed ≡ map unplaced sorted → ArePlaced es placed
+ArePlaced-from es labelled sorted placed entries labels bytes same order ordered are counts kept =
     let f : PlacedEntry → LineAnnotation = λ e. e.entry in
     record {
       order = entries_kept placed sorted kept ∙ order ∙ ap (ordered_by is_placed_before) entries;
@@ -235,8 +220,8 @@ ArePlaced-from es labelled sorted placed ps ns entries labels bytes same order o
       from_right = subst IsFromRight (sym (entries_kept placed sorted kept)) ordered;
       labels = each_kept HasItsLabel placed sorted (λ e has. has) (λ e has. has) kept (All-permutation HasItsLabel labelled sorted same labels);
       bytes = each_kept HasItsBytes placed sorted (λ e has. has) (λ e has. has) kept (All-permutation HasItsBytes labelled sorted same bytes);
-      positions_are = got ∙ are ∙ sym (line_positions_kept placed sorted kept);
-      looked_are = counted ∙ counts ∙ sym (look_counts_kept placed sorted kept);
+      positions_are = are ∙ sym (line_positions_kept placed sorted kept);
+      looked_are = counts ∙ sym (look_counts_kept placed sorted kept);
     }
 
 -- ---- entries that ask for no row

@@ -3,7 +3,6 @@ use Rattle.std.specs.Prelude.{◌≤◌, ◌≡◌, ℕ, ◌+◌, ◌<◌, ◌||
 use Rattle.std.specs.Prelude.{if◌then◌else◌}
 use Rattle.snippet_parts.specs.declared.entries.LineAnnotation.{LineAnnotation}
 use Rattle.snippet_style.specs.Bounds.{IsColumn}
-use Rattle.std.specs.List.{position}
 use Rattle.snippet_lines.specs.OrderedBy.{ordered_by}
 use Rattle.snippet_labels.specs.declared.positions.PlacedEntry.{PlacedEntry}
 use Rattle.snippet_text.specs.Normalized.{normalized_chars}

@@ -1,8 +1,10 @@
 //! Where the labels of a line stand: how far below the row of its marks each hangs.
-ghost use Rattle.std.specs.Prelude.{◌≡◌, ◌+◌, ◌-◌, ◌^◌, ◌<◌, ◌≤◌, ◌&&◌, ◌||◌, true, All, IfOk, IfSome, chars, length};
+ghost use Rattle.std.specs.Prelude.{◌≡◌, ◌+◌, ◌-◌, ◌^◌, ◌<◌, ◌≤◌, ◌&&◌, ◌||◌, true, All, IfOk, IfSome, chars, drop};
+ghost use Rattle.std.specs.Prelude.{length, slice_index_or};
 ghost use Rattle.std.specs.Prelude.{map, not, reverse};
 ghost use Rattle.std.specs.List.{list_any, position, range_with_len};
 ghost use Rattle.snippet_labels.specs.Positions as spec;
+ghost use Rattle.snippet_labels.specs.declared.positions.PlacedEntry.{PlacedEntry};
 ghost use Rattle.snippet_labels.specs.Placing as placing;
 ghost use Rattle.snippet_labels.specs.Placing.{ArePlaced, AsksBefore, FitsLeftOf, HasItsBytes, HasItsLabel, StandInRow};
 ghost use Rattle.snippet_labels.specs.PlacedEntries.{shifted};
@@ -96,8 +98,7 @@ pub fn placed_entries<'a>(
     }
     placed.reverse();
     placed.sort_by_key(|p| Reverse((p.entry.start.display, p.entry.start.char)))?;
-    let found = line_positions(alloc, &placed)?;
-    set_positions(&mut placed, &found);
+    set_positions(&mut placed);
     Ok(placed)
 }
 
@@ -202,22 +203,19 @@ fn shown_label<'a>(alloc: Global, entry: &LineAnnotation<'a>) -> Result<DrawnLab
     }
 }
 
-/// The position of each entry, from right to left. Where all are starts they are flipped, so that the line to the bar
-/// of the one farthest left stands highest.
-///
-/// # Errors
-///
-/// There is no memory for the list.
-fn line_positions(alloc: Global, entries: &[PlacedEntry]) -> Result<Vec<FoundPosition>, AllocError>
-    requires columns { All (λ e. IsColumn e.entry.end.display) entries.now }
-    ensures value { IfOk result (λ found. map (λ f. f.position) found.items ≡ spec.line_positions entries.now) }
-    ensures looked { IfOk result (λ found. map (λ f. f.looked) found.items ≡ spec.look_counts 0 entries.now) }
+/// Gives entries, from right to left, their positions. Where all are starts they are flipped, so that the line to the
+/// bar of the one farthest left stands highest.
+fn set_positions(entries: &mut [PlacedEntry])
+    requires columns { All (λ e. IsColumn e.entry.end.display) entries.old }
+    ensures placed { map (λ e. e.position) entries.new ≡ spec.line_positions entries.old }
+    ensures looked { map (λ e. e.looked) entries.new ≡ spec.look_counts 0 entries.old }
+    ensures kept { map placing.unplaced entries.new ≡ map placing.unplaced entries.old }
 {
-    let found = label_positions(alloc, entries)?;
-    if !are_starts(entries) {
-        return Ok(found);
+    let flips = are_starts(entries);
+    set_label_positions(entries);
+    if flips {
+        flip(entries);
     }
-    flipped(alloc, &found)
 }
 
 /// Whether each of these entries is the start of a span of several lines, and has no label to show.
@@ -237,33 +235,26 @@ fn is_start(placed: &PlacedEntry) -> bool
     ) && !placed.has_label()
 }
 
-/// Positions flipped: the greatest becomes 0, and 0 the greatest.
-///
-/// # Errors
-///
-/// There is no memory for the list.
-fn flipped(alloc: Global, found: &[FoundPosition]) -> Result<Vec<FoundPosition>, AllocError>
-    ensures value { IfOk result (λ flipped. map (λ f. f.position) flipped.items
-        ≡ map (λ p. greatest (map (λ f. f.position) found.now) - p) (map (λ f. f.position) found.now)) }
-    ensures looked { IfOk result (λ flipped. map (λ f. f.looked) flipped.items ≡ map (λ f. f.looked) found.now) }
+/// Flips positions: the greatest becomes 0, and 0 the greatest.
+fn flip(entries: &mut [PlacedEntry])
+    ensures flipped { map (λ e. e.position) entries.new ≡ map (λ p. greatest (map (λ e. e.position) entries.old) - p)
+        (map (λ e. e.position) entries.old) }
+    ensures looked { map (λ e. e.looked) entries.new ≡ map (λ e. e.looked) entries.old }
+    ensures kept { map placing.unplaced entries.new ≡ map placing.unplaced entries.old }
 {
-    let greatest = greatest(found);
-    let mut flipped = Vec::new(alloc);
-    for one in found {
-        flipped.push(FoundPosition {
-            position: greatest.saturating_sub(one.position),
-            looked: one.looked,
-        })?;
+    let greatest = greatest(entries);
+    for i in 0..entries.len() {
+        let placed = &mut entries[i];
+        placed.position = greatest.saturating_sub(placed.position);
     }
-    Ok(flipped)
 }
 
-/// The greatest of some positions, 0 where there is none.
-fn greatest(found: &[FoundPosition]) -> usize
-    ensures value { result ≡ greatest (map (λ f. f.position) found.now) }
+/// The greatest position of some entries, 0 where there is none.
+fn greatest(entries: &[PlacedEntry]) -> usize
+    ensures value { result ≡ greatest (map (λ e. e.position) entries.now) }
 {
     let mut greatest = 0;
-    for one in found {
+    for one in entries {
         if greatest < one.position {
             greatest = one.position;
         }
@@ -271,27 +262,67 @@ fn greatest(found: &[FoundPosition]) -> usize
     greatest
 }
 
-/// The position of each label, from right to left. A label goes one row farther down than the last one where the row
-/// would not hold both, and the first one where a mark stands in its way.
-///
-/// # Errors
-///
-/// There is no memory for the list.
-fn label_positions(alloc: Global, entries: &[PlacedEntry]) -> Result<Vec<FoundPosition>, AllocError>
-    requires columns { All (λ e. IsColumn e.entry.end.display) entries.now }
-    ensures value { IfOk result (λ found. map (λ f. f.position) found.items ≡ spec.positions 0 entries.now) }
-    ensures looked { IfOk result (λ found. map (λ f. f.looked) found.items ≡ spec.look_counts 0 entries.now) }
+/// Gives entries, from right to left, the positions of their labels. A label goes one row farther down than the last
+/// one where the row would not hold both, and the first one where a mark stands in its way.
+fn set_label_positions(entries: &mut [PlacedEntry])
+    requires columns { All (λ e. IsColumn e.entry.end.display) entries.old }
+    ensures placed { map (λ e. e.position) entries.new ≡ spec.positions 0 entries.old }
+    ensures looked { map (λ e. e.looked) entries.new ≡ spec.look_counts 0 entries.old }
+    ensures kept { map placing.unplaced entries.new ≡ map placing.unplaced entries.old }
 {
-    let mut found = Vec::with_capacity(alloc, entries.len())?;
     let end = askers_end(entries);
     let mut reached = 0;
     for i in 0..entries.len() {
-        let entry = &entries[i];
-        let here = position_at(reached, entry, &entries[i + 1..]);
-        found.push(here)?;
-        reached = position_after(here.position, entry, &entries[i + 1..end.max(i + 1)]);
+        let (here, after) = found_at(reached, entries, i, end);
+        let placed = &mut entries[i];
+        placed.position = here.position;
+        placed.looked = here.looked;
+        reached = after;
     }
-    Ok(found)
+}
+
+/// What is found for the entry at place `i` of some, where this position is reached, and the position that is reached
+/// after it. Only entries before place `end` may ask for a row of their own.
+fn found_at(reached: usize, entries: &[PlacedEntry], i: usize, end: usize) -> (FoundPosition, usize)
+    requires within { i < length entries.now }
+    requires columns { All (λ e. IsColumn e.entry.end.display) entries.now }
+    requires low { HasNext (reached + 1) }
+    requires none { AsksBefore end entries.now }
+    ensures position { (d : PlacedEntry) → result.0.position
+        ≡ spec.position_at reached (slice_index_or entries.now i d) (drop (i + 1) entries.now) }
+    ensures looked { (d : PlacedEntry) → result.0.looked
+        ≡ spec.looked_after reached (slice_index_or entries.now i d) (drop (i + 1) entries.now) }
+    ensures after { (d : PlacedEntry) → let e = slice_index_or entries.now i d in
+        let others = drop (i + 1) entries.now in
+        result.1 ≡ spec.position_after (spec.position_at reached e others) e others }
+{
+    found_before(
+        reached,
+        &entries[i],
+        &entries[i + 1..],
+        end.saturating_sub(i + 1),
+    )
+}
+
+/// The same of an entry before others, of which only the first so many may ask for a row of their own.
+fn found_before(
+    reached: usize,
+    entry: &PlacedEntry,
+    others: &[PlacedEntry],
+    asking: usize,
+) -> (FoundPosition, usize)
+    requires columns { All (λ e. IsColumn e.entry.end.display) others.now }
+    requires low { HasNext (reached + 1) }
+    requires none { AsksBefore asking others.now }
+    ensures position { result.0.position ≡ spec.position_at reached entry.now others.now }
+    ensures looked { result.0.looked ≡ spec.looked_after reached entry.now others.now }
+    ensures after { result.1
+        ≡ spec.position_after (spec.position_at reached entry.now others.now) entry.now others.now }
+{
+    let here = position_at(reached, entry, others);
+    let asking = asking.min(others.len());
+    let after = position_after(here.position, entry, &others[..asking]);
+    (here, after)
 }
 
 /// Where the last of these entries ends that may ask for a row of its own: none after it does.
@@ -359,20 +390,6 @@ fn position_after(position: usize, entry: &PlacedEntry, others: &[PlacedEntry]) 
         position + 1
     } else {
         position
-    }
-}
-
-/// Gives entries these positions, one to each.
-fn set_positions(entries: &mut [PlacedEntry], found: &[FoundPosition])
-    requires count { length found.now ≡ length entries.old }
-    ensures placed { map (λ e. e.position) entries.new ≡ map (λ f. f.position) found.now }
-    ensures looked { map (λ e. e.looked) entries.new ≡ map (λ f. f.looked) found.now }
-    ensures kept { map placing.unplaced entries.new ≡ map placing.unplaced entries.old }
-{
-    for i in 0..entries.len() {
-        let entry = &mut entries[i];
-        entry.position = found[i].position;
-        entry.looked = found[i].looked;
     }
 }
 

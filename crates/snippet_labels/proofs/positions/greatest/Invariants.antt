@@ -1,7 +1,7 @@
 use Rattle.std.proofs.Common.{◌≡◌, max, fold, take}
-use Rattle.snippet_labels.specs.declared.positions.FoundPosition.{FoundPosition}
+use Rattle.snippet_labels.specs.declared.positions.PlacedEntry.{PlacedEntry}
 use Rattle.snippet_labels.proofs.positions.greatest.Given as goal
 
 -- the greatest so far
 abbrev pub invariant-loop-one : goal.invariant-loop-one
-invariant-loop-one l = l.greatest ≡ fold (λ m (f : FoundPosition). max m f.position) 0 (take l.one-index l.found)
+invariant-loop-one l = l.greatest ≡ fold (λ m (f : PlacedEntry). max m f.position) 0 (take l.one-index l.entries)

@@ -1,15 +1,14 @@
-use Rattle.std.proofs.Common.{rules, ℕ, List, ◌≡◌, ◌∙◌, ◌-◌, ◌<◌, ◌^◌, All, sym, subst, ap, length, map, reverse}
+use Rattle.std.proofs.Common.{rules, List, ◌≡◌, ◌∙◌, ◌-◌, ◌<◌, ◌^◌, All, sym, subst, ap, map, reverse}
 use Rattle.std.specs.List.{range_with_len}
 use Rattle.std.specs.List.Sorted.{IsPermutation}
 use Rattle.std.proofs.lemmas.List.Sorted.{All-permutation, IsPermutation-map, IsPermutation-reverse, answers_always}
 use Rattle.snippet_parts.specs.declared.entries.LineAnnotation.{LineAnnotation}
 use Rattle.snippet_labels.specs.declared.positions.PlacedEntry.{PlacedEntry}
-use Rattle.snippet_labels.proofs.PlacedLemmas.{length-line_positions, entries_all, written_back, ArePlaced-from, shifted_narrow}
+use Rattle.snippet_labels.proofs.PlacedLemmas.{entries_all, written_back, ArePlaced-from, shifted_narrow}
 use Rattle.snippet_labels.specs.PlacedEntries.{shifted}
 use Rattle.snippet_labels.specs.Positions.{line_positions, look_counts}
 use Rattle.snippet_labels.specs.Placing.{ArePlaced, HasItsBytes, HasItsLabel, StandInRow, unplaced}
 use Rattle.snippet_labels.proofs.RowLemmas.{ArePlaced-row, map-reverse}
-use Rattle.snippet_labels.specs.declared.positions.FoundPosition.{FoundPosition}
 use Rattle.std.proofs.lemmas.List.{length-map, reverse-reverse}
 use Rattle.snippet_labels.proofs.OrderLemmas.{order_of_sort, place_key, from_right_from_sort}
 use Rattle.snippet_labels.proofs.positions.placed_entries.Goals as goal
@@ -42,8 +41,8 @@ returns-then-stand_in_row c =
           (subst (StandInRow (2 ^ 64 - 1)) c.deref.ensures.value (c.stand_in_row.ensures.yes c.if-stand_in_row.true));
     }
 
-pub line_positions-requires : goal.line_positions-requires
-line_positions-requires c =
+pub set_positions-requires : goal.set_positions-requires
+set_positions-requires c =
     let Q : LineAnnotation → Type 0 = λ e. e.end.display < 2 ^ 60 in
     let sorted = c.sort_by_key.new.self.items in
     let es = map (shifted c.args.dropped) c.args.entries.now in
@@ -51,17 +50,8 @@ line_positions-requires c =
     let same = subst (λ es. IsPermutation es (map (λ (e : PlacedEntry). e.entry) sorted)) given
     (IsPermutation-map (λ (e : PlacedEntry). e.entry) _ _ c.in_ok-sort_by_key.ensures.permutation) in
     record {
-      columns = subst (λ (ps : _). All (λ (e : PlacedEntry). Q e.entry) ps) (sym c.deref-2.ensures.value)
+      columns = subst (λ (ps : _). All (λ (e : PlacedEntry). Q e.entry) ps) (sym c.deref_mut.ensures.value)
           (entries_all Q (map (shifted c.args.dropped) c.args.entries.now) sorted same (shifted_narrow c.args.dropped c.args.entries.now c.requires.columns));
-    }
-
-pub set_positions-requires : goal.set_positions-requires
-set_positions-requires c =
-    record {
-      count = sym (length-map c.deref-3.result.now (λ (f : FoundPosition). f.position))
-          ∙ ap (λ (fs : List FoundPosition). length (map (λ (f : FoundPosition). f.position) fs)) c.deref-3.ensures.value
-          ∙ ap length c.in_ok-found.ensures.value ∙ length-line_positions c.deref-2.result.now
-          ∙ ap length (c.deref-2.ensures.value ∙ sym c.deref_mut.ensures.value);
     }
 
 pub returns : goal.returns
@@ -69,13 +59,11 @@ returns c =
     let es = map (shifted c.args.dropped) c.args.entries.now in
     let given = c.reverse.new.self in
     let sorted = c.sort_by_key.new.self in
-    let positions : List FoundPosition → List ℕ = map (λ f. f.position) in
-    let counts : List FoundPosition → List ℕ = map (λ f. f.looked) in
     let placed = c.set_positions.new.entries in
     let kept = c.set_positions.ensures.kept ∙ ap (map unplaced) c.deref_mut.ensures.value in
     record {
       placed = subst (ArePlaced es) (sym (written_back placed sorted.items sorted.len sorted.ok.0 kept))
-          (ArePlaced-from es given.items sorted.items placed (positions c.deref-3.result.now) (counts c.deref-3.result.now)
+          (ArePlaced-from es given.items sorted.items placed
           (turned es c.in_ok-placed.placed.items given.items c.in_ok-placed.ensures.entries c.reverse.ensures.items)
           (All-permutation HasItsLabel c.in_ok-placed.placed.items given.items c.reverse.ensures.permutation c.in_ok-placed.ensures.labels)
           (All-permutation HasItsBytes c.in_ok-placed.placed.items given.items c.reverse.ensures.permutation c.in_ok-placed.ensures.bytes)
@@ -84,6 +72,6 @@ returns c =
           (c.in_ok-sort_by_key.ensures.sorted place_key (answers_always _ _ _ (λ f a r g h. search rules)))
           (c.sort_by_key.ensures.stable place_key (answers_always _ _ _ (λ f a r g h. search rules))))
           (from_right_from_sort sorted.items (c.in_ok-sort_by_key.ensures.sorted place_key (answers_always _ _ _ (λ f a r g h. search rules))))
-          (ap positions c.deref-3.ensures.value ∙ c.in_ok-found.ensures.value ∙ ap line_positions c.deref-2.ensures.value) c.set_positions.ensures.placed
-          (ap counts c.deref-3.ensures.value ∙ c.in_ok-found.ensures.looked ∙ ap (look_counts 0) c.deref-2.ensures.value) c.set_positions.ensures.looked kept);
+          (c.set_positions.ensures.placed ∙ ap line_positions c.deref_mut.ensures.value)
+          (c.set_positions.ensures.looked ∙ ap (look_counts 0) c.deref_mut.ensures.value) kept);
     }
