@@ -4,18 +4,15 @@ use Rattle.std.proofs.Common.{◌⊎◌, map, take, drop, get_or, replicate, All
 use Rattle.std.proofs.lemmas.List.{append_assoc, append-nil, length-append, length-map, length-replicate, map-append, map-set, places, same_lists}
 use Rattle.std.proofs.lemmas.List.{drop-map, take-map}
 use Rattle.std.proofs.Math.ListN.{set}
-use Rattle.std.proofs.lemmas.List.{get_or-map, length-drop, set_split, take_all}
+use Rattle.std.proofs.lemmas.List.{get_or-map, get_or-replicate, length-drop, replicate-append-replicate, set_split, take_all}
 use Rattle.std.proofs.lemmas.List.Elements.{All-head, All-tail}
 use Rattle.std.specs.Global.{Vec}
-use Rattle.std.proofs.lemmas.Bool.{cases_lt}
-use Rattle.snippet_style.proofs.CellLemmas.{length-written}
-use Rattle.snippet_grid.proofs.GridLemmas.{cells_written_below, cells_written_last}
 use Rattle.snippet_grid.specs.Grid.{cells_written, row_at}
 use Rattle.snippet_grid.specs.StyledChars.{cell_of}
 use Rattle.snippet_strokes.specs.CellRows.{cells_of}
 use Rattle.snippet_grid.specs.declared.styled_char.StyledChar.{StyledChar}
-use Rattle.snippet_style.specs.Cell.{Cell, SPACE, text_cells, unlinked_cell, written}
-use Rattle.snippet_style.specs.declared.role.ElementStyle.{ElementStyle}
+use Rattle.snippet_style.specs.Cell.{Cell, SPACE, written}
+use Rattle.snippet_style.specs.declared.role.ElementStyle.TheVariants.{NoStyle}
 
 -- ---- writes into a row
 
@@ -65,18 +62,28 @@ pub more_cells : (xs mid new : List Cell) (at next : ℕ) (ys : List Cell) (y : 
 more_cells xs mid new at next ys y here so_far writes =
     writes ∙ ap (λ n. written SPACE mid n (y ∷ [])) here ∙ ap (λ m. written SPACE m (at + length ys) (y ∷ [])) so_far ∙ written_more SPACE xs at ys (y ∷ [])
 
--- a row is filled up with blanks
-pub filled_up : (xs new : List StyledChar) (at : ℕ) (blank : StyledChar) → cell_of blank ≡ SPACE
-    → new ≡ xs ++ replicate (at - length xs) blank → map cell_of new ≡ written SPACE (map cell_of xs) at []
-filled_up xs new at blank is filled =
-    let cells : List Cell = map cell_of xs in
-    ap (map cell_of) filled ∙ map-append cell_of xs (replicate (at - length xs) blank)
-    ∙ ap (λ ys. cells ++ ys) (blanks (at - length xs)) ∙ ap (λ n. cells ++ replicate (at - n) SPACE) (sym (length-map xs cell_of))
-    ∙ sym (written_none SPACE cells at)
-  where
-    blanks : (n : ℕ) → map cell_of (replicate n blank) ≡ replicate n SPACE
-    blanks zero = refl
-    blanks (suc n) = ap (λ c. c ∷ map cell_of (replicate n blank)) is ∙ ap (λ ys. SPACE ∷ ys) (blanks n)
+-- what a row is filled up with
+abbrev pub BLANK : StyledChar
+BLANK = record { ch = 32; role = NoStyle }
+
+pub are_blanks : All (λ (c : StyledChar). cell_of c ≡ SPACE) (replicate 64 BLANK)
+are_blanks k d within = ap cell_of (get_or-replicate 64 k BLANK d (omega (arith, within, length-replicate {A = StyledChar} 64 BLANK)))
+
+-- the cells of the first of some blanks
+pub blank_part : (blanks : List StyledChar) (count : ℕ) → count ≤ length blanks → All (λ (c : StyledChar). cell_of c ≡ SPACE) blanks
+    → map cell_of (take count blanks) ≡ replicate count SPACE
+blank_part blanks zero within are = refl
+blank_part [] (suc n) within are = absurd (omega (arith, within))
+blank_part (b ∷ bs) (suc n) within are =
+    ap (λ c. c ∷ map cell_of (take n bs)) (All-head (λ (c : StyledChar). cell_of c ≡ SPACE) b bs are)
+    ∙ ap (λ ys. SPACE ∷ ys) (blank_part bs n (omega (arith, within)) (All-tail (λ (c : StyledChar). cell_of c ≡ SPACE) b bs are))
+
+-- more blanks after some
+pub more_blanks : (xs mid new : List Cell) (a b n : ℕ) → a + b ≡ n → mid ≡ xs ++ replicate a SPACE → new ≡ mid ++ replicate b SPACE
+    → new ≡ xs ++ replicate n SPACE
+more_blanks xs mid new a b n sums so_far adds =
+    adds ∙ ap (λ ys. ys ++ replicate b SPACE) so_far ∙ append_assoc xs (replicate a SPACE) (replicate b SPACE)
+    ∙ ap (λ ys. xs ++ ys) (replicate-append-replicate a b SPACE ∙ ap (λ k. replicate k SPACE) sums)
 
 -- characters that are all the same
 cells-replicate : (n : ℕ) (new : StyledChar) → map cell_of (replicate n new) ≡ replicate n (cell_of new)

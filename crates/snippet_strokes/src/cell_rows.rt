@@ -32,11 +32,17 @@ const MAX_ROWS: usize = (1 << 60) - 1;
 /// How many cells a row has room for at first. A longer one grows from there.
 const ROW_ROOM: usize = 128;
 
+/// How many rows ask for rooms that differ. Few blocks of one size are at hand where memory is taken.
+const ROOM_SIZES: usize = 32;
+
 /// What a row is filled up with.
 const BLANK: StyledChar = StyledChar {
     ch: ' ',
     role: ElementStyle::NoStyle,
 };
+
+/// Blanks to take a part of: a row is filled up by many at once, which `resize` would store one by one.
+static BLANKS: [StyledChar; 64] = [BLANK; 64];
 
 /// Rows that are kept cell by cell.
 #[derive(Drop)]
@@ -59,15 +65,15 @@ impl Model for CellRows {
 }
 
 impl CellRows {
-    /// One row with no cells, which stands for a source row. The others come below it.
+    /// One row with no cells, which stands for a source row. The others, which are to be so many, come below it.
     ///
     /// # Errors
     ///
-    /// There is no memory for the row.
-    pub(crate) fn below_source(alloc: Global) -> Result<CellRows, AllocError>
+    /// There is no memory for the rows.
+    pub(crate) fn below_source(alloc: Global, count: usize) -> Result<CellRows, AllocError>
         ensures source { IfOk result (λ rows. rows ≡ [] ∷ []) }
     {
-        let mut rows = Vec::new(alloc);
+        let mut rows = Vec::with_capacity(alloc, count.saturating_add(1))?;
         rows.push(Vec::new(alloc))?;
         Ok(CellRows { alloc, rows })
     }
@@ -85,6 +91,7 @@ impl CellRows {
     }
 
     /// Makes the row of this number, and all above it that aren't there.
+    #[inline(never)]
     fn add_rows(&mut self, row: usize) -> Result<(), AllocError>
         requires row { HasNext row }
         ensures made { OnOk result (self.new ≡ self.old ++ replicate (row + 1 - length self.old) []) }
@@ -93,7 +100,8 @@ impl CellRows {
             return Err(AllocError);
         }
         for _ in self.rows.len()..row + 1 {
-            let fresh = Vec::with_capacity(self.alloc, ROW_ROOM)?;
+            let room = room_of(self.rows.len());
+            let fresh = Vec::with_capacity(self.alloc, room)?;
             self.rows.push(fresh)?;
         }
         Ok(())
@@ -120,6 +128,7 @@ impl Canvas for CellRows {
         self.rows.len()
     }
 
+    #[inline(always)]
     fn putc(
         &mut self,
         row: usize,
@@ -160,6 +169,12 @@ impl Canvas for CellRows {
     }
 }
 
+/// For how many cells the row of this number has room at first.
+#[inline(always)]
+fn room_of(row: usize) -> usize {
+    ROW_ROOM - 2 * (row % ROOM_SIZES)
+}
+
 /// Fills a row up with blanks to this cell, unless it is longer.
 #[inline(always)]
 fn fill_up(cells: &mut Vec<StyledChar>, at: usize) -> Result<(), AllocError>
@@ -179,7 +194,27 @@ fn add_blanks(cells: &mut Vec<StyledChar>, at: usize) -> Result<(), AllocError>
     ensures filled { OnOk result (map cell_of cells.new.items ≡ written SPACE (map cell_of cells.old.items) at []) }
     ensures long { OnOk result (at ≤ length cells.new.items) }
 {
-    cells.resize(at, BLANK)
+    let mut left = at - cells.len();
+    while left > 64 {
+        push_part(cells, &BLANKS, 64)?;
+        left -= 64;
+    }
+    push_part(cells, &BLANKS, left)
+}
+
+/// Adds the first of some blanks to a row.
+#[inline(always)]
+fn push_part(
+    cells: &mut Vec<StyledChar>,
+    blanks: &[StyledChar],
+    count: usize,
+) -> Result<(), AllocError>
+    requires blanks { All (λ blank. cell_of blank ≡ SPACE) blanks.now }
+    requires within { count ≤ length blanks.now }
+    ensures added { OnOk result
+        (map cell_of cells.new.items ≡ map cell_of cells.old.items ++ replicate count SPACE) }
+{
+    cells.extend_from_slice(&blanks[..count])
 }
 
 /// Writes a character in a role into a row at this cell.
@@ -192,6 +227,16 @@ fn write_char(cells: &mut Vec<StyledChar>, at: usize, new: StyledChar) -> Result
         cells[at] = new;
         return Ok(());
     }
+    add_char(cells, at, new)
+}
+
+/// Adds a character in a role to a row that ends before this cell, or at it.
+#[inline(never)]
+fn add_char(cells: &mut Vec<StyledChar>, at: usize, new: StyledChar) -> Result<(), AllocError>
+    requires past { length cells.old.items ≤ at }
+    ensures written { OnOk result
+        (map cell_of cells.new.items ≡ written SPACE (map cell_of cells.old.items) at (cell_of new ∷ [])) }
+{
     fill_up(cells, at)?;
     cells.push(new)?;
     Ok(())

@@ -176,7 +176,7 @@ fn draw_many(
     ensures count { OnOk result (length buffer.new ≡ length buffer.old + count) }
 {
     draw_tops(buffer, layout, placed)?;
-    let mut rows = CellRows::below_source(buffer.allocator())?;
+    let mut rows = CellRows::below_source(buffer.allocator(), count)?;
     begin_rows(&mut rows, layout, place.closes, count)?;
     draw_under_marks(&mut rows, layout, 0, placed)?;
     draw_marks(&mut rows, layout, 1, placed)?;

@@ -1,21 +1,55 @@
-use Rattle.std.proofs.Common.{◌∙◌, ◌-◌, ◌++◌, ap, arith, refl, replicate}
-use Rattle.std.proofs.lemmas.List.{take_all}
+use Rattle.std.proofs.Common.{◌≡◌, ◌∙◌, ◌-◌, ◌++◌, ap, arith, length, map, replicate, sym}
+use Rattle.std.proofs.lemmas.List.{append-nil, length-append, length-map, length-replicate}
 use Rattle.std.proofs.lemmas.Result.{on_ok_weaker}
-use Rattle.std.specs.Vec.{vec_len}
-use Rattle.snippet_grid.proofs.OutcomeLemmas.{on_ok_value}
-use Rattle.snippet_style.specs.declared.role.ElementStyle.TheVariants.{NoStyle}
-use Rattle.snippet_grid.specs.declared.styled_char.StyledChar.{StyledChar}
-use Rattle.snippet_strokes.proofs.CellRowLemmas.{filled_up}
+use Rattle.snippet_grid.specs.StyledChars.{cell_of}
+use Rattle.snippet_style.specs.Cell.{Cell, SPACE}
+use Rattle.snippet_strokes.proofs.CellRowLemmas.{are_blanks, more_blanks, written_none}
 use Rattle.snippet_strokes.proofs.cell_rows.add_blanks.Goals as goal
 
--- what a row is filled up with
-abbrev BLANK : StyledChar
-BLANK = record { ch = 32; role = NoStyle }
+pub loop-left-init : goal.loop-left-init
+loop-left-init c =
+    let cells = map cell_of c.args.cells.now.items in
+    let none : c.args.at - length c.args.cells.now.items - (c.args.at - c.len.result) ≡ 0 =
+    omega (arith, c.len.ensures, c.args.cells.now.ok.0) in
+    record {
+      low = omega (arith, c.len.ensures, c.args.cells.now.ok.0);
+      so_far = sym (ap (λ n. cells ++ replicate n SPACE) none ∙ append-nil cells);
+    }
 
-pub returns-clause-filled : goal.returns-clause-filled
-returns-clause-filled c =
-    let cells = c.args.cells.now.items in
-    let len = c.args.cells.now.ok.0 in
-    on_ok_weaker c.resize.result (λ items. filled_up cells c.resize.new.self.items c.args.at BLANK refl (items
-    ∙ ap (λ xs. xs ++ replicate (c.args.at - vec_len c.args.cells.now) BLANK) (take_all c.args.at cells (omega (arith, c.requires.shorter)))
-    ∙ ap (λ n. cells ++ replicate (c.args.at - n) BLANK) len)) (on_ok_value c.resize.result _ _ _ c.resize.ensures.items)
+pub push_part-requires-clause-blanks : goal.push_part-requires-clause-blanks
+push_part-requires-clause-blanks c = are_blanks
+
+pub push_part-requires-2-clause-blanks : goal.push_part-requires-2-clause-blanks
+push_part-requires-2-clause-blanks c = are_blanks
+
+pub loop-left-preserved : goal.loop-left-preserved
+loop-left-preserved c =
+    let all = c.args.at - length c.args.cells.now.items in
+    record {
+      low = omega (arith, c.loop-left.invariant.low);
+      so_far = more_blanks (map cell_of c.args.cells.now.items) (map cell_of c.loop-left.cells.items) (map cell_of c.push_part.new.cells.items)
+          (all - c.loop-left.left) 64 (all - (c.loop-left.left - 64)) (omega (arith, c.loop-left.invariant.low, c.loop-left-test.true))
+          c.loop-left.invariant.so_far c.in_ok-push_part.ensures.added;
+    }
+
+pub returns : goal.returns
+returns c =
+    let items = c.args.cells.now.items in
+    let cells = map cell_of items in
+    let new = map cell_of c.push_part-2.new.cells.items in
+    let all = c.args.at - length items in
+    let filled : new ≡ map cell_of c.loop-left.cells.items ++ replicate c.loop-left.left SPACE → new ≡ cells ++ replicate all SPACE =
+    λ added. more_blanks cells (map cell_of c.loop-left.cells.items) new (all - c.loop-left.left) c.loop-left.left all
+    (omega (arith, c.loop-left.invariant.low)) c.loop-left.invariant.so_far added in
+    record {
+      filled = on_ok_weaker c.push_part-2.result (λ added. filled added ∙ ap (λ n. cells ++ replicate (c.args.at - n) SPACE) (sym (length-map items cell_of))
+          ∙ sym (written_none SPACE cells c.args.at)) c.push_part-2.ensures.added;
+      long = on_ok_weaker c.push_part-2.result (λ added. omega (
+        arith,
+        ap length (filled added),
+        length-append cells (replicate all SPACE),
+        length-replicate {A = Cell} all SPACE,
+        length-map items cell_of,
+        length-map c.push_part-2.new.cells.items cell_of,
+      )) c.push_part-2.ensures.added;
+    }
