@@ -1,14 +1,15 @@
 -- The order that entries are painted in.
 use Rattle.std.proofs.Common.{◌≡◌, ℕ, zero, suc, ◌≤◌, ◌==◌, ◌&&◌, ◌||◌, nat_lt, not, Bool, true, false, List, [], ◌∷◌, map, get_or, refl, All}
-use Rattle.std.proofs.Common.{sym, subst, arith, inl, inr, nat_cmp, is_lt}
+use Rattle.std.proofs.Common.{◌<◌, ◌++◌, ◌∙◌, ap, sym, subst, arith, inl, inr, nat_cmp, is_lt, reverse}
 use Rattle.std.specs.Cmp.{IsStrictWeakOrder}
 use Rattle.std.specs.List.Sorted.{IsPermutation, IsSortedBy, IsStableBy}
 use Rattle.std.specs.Ordering.{ordering_then, bool_cmp}
 use Rattle.std.specs.declared.cmp.Reverse.{Reverse}
 use Rattle.std.proofs.lemmas.Bool.{cases_Bool, cond-false, cond-true}
 use Rattle.std.proofs.lemmas.Bool.Decides.{nat_tests}
-use Rattle.std.proofs.lemmas.List.Elements.{All-cons, All-nil}
-use Rattle.std.proofs.lemmas.List.Sorted.{IsPermutation-cons, IsPermutation-middle, IsPermutation-refl, IsPermutation-sym, IsPermutation-trans}
+use Rattle.std.proofs.lemmas.List.{reverse-append}
+use Rattle.std.proofs.lemmas.List.Elements.{All-cons, All-nil, All-head, All-tail}
+use Rattle.std.proofs.lemmas.List.Sorted.{All-permutation, IsPermutation-cons, IsPermutation-middle, IsPermutation-refl, IsPermutation-sym, IsPermutation-trans}
 use Rattle.snippet_lines.specs.OrderedBy.{ordered_by, put_in}
 use Rattle.snippet_lines.proofs.OrderLemmas.{All-put_in, map-ordered_by, sorted-only}
 use Rattle.snippet_parts.specs.declared.entries.LineAnnotation.{LineAnnotation}
@@ -162,3 +163,35 @@ IsPermutation-ordered_by before (x ∷ xs) =
 -- it is an order of the same entries
 pub IsPermutation-painting_order : (placed : List PlacedEntry) → IsPermutation placed (painting_order placed)
 IsPermutation-painting_order placed = IsPermutation-ordered_by (λ e f. is_painted_before e.entry f.entry) placed
+
+-- ---- entries that stand the other way round
+
+-- each entry is wider than the one before it, and the first than so many columns
+abbrev pub Widens : ℕ → List PlacedEntry → Type 0
+Widens width [] = Unit {0}
+Widens width (e ∷ es) = (width < entry_width e.entry) × Widens (entry_width e.entry) es
+
+all_wider : (width : ℕ) (es : List PlacedEntry) → Widens width es → All (λ (e : PlacedEntry). width < entry_width e.entry) es
+all_wider width [] up = All-nil (λ (e : PlacedEntry). width < entry_width e.entry)
+all_wider width (e ∷ es) up =
+    All-cons (λ (e : PlacedEntry). width < entry_width e.entry) e es up.0
+    (λ k d within. omega (arith, up.0, all_wider (entry_width e.entry) es up.1 k d within))
+
+-- an entry comes after all that are wider
+put_last : (e : PlacedEntry) (fs : List PlacedEntry) → All (λ (f : PlacedEntry). entry_width e.entry < entry_width f.entry) fs
+    → put_in (λ (x y : PlacedEntry). is_painted_before x.entry y.entry) e fs ≡ fs ++ e ∷ []
+put_last e [] wider = refl
+put_last e (f ∷ fs) wider =
+    let before : PlacedEntry → PlacedEntry → Bool = λ x y. is_painted_before x.entry y.entry in
+    let first : entry_width e.entry < entry_width f.entry = All-head (λ (g : PlacedEntry). entry_width e.entry < entry_width g.entry) f fs wider in
+    let over : before f e ≡ true = grind (arith, nat_tests, first) in
+    cond-true (before f e) (f ∷ put_in before e fs) (e ∷ f ∷ fs) over
+    ∙ ap (λ gs. f ∷ gs) (put_last e fs (All-tail (λ (g : PlacedEntry). entry_width e.entry < entry_width g.entry) f fs wider))
+
+-- so where each is wider than the one before it, the order turned round is that of painting
+pub reversed_order : (width : ℕ) (es : List PlacedEntry) → Widens width es → reverse es ≡ painting_order es
+reversed_order width [] up = refl
+reversed_order width (e ∷ es) up =
+    reverse-append (e ∷ []) es ∙ ap (λ gs. gs ++ e ∷ []) (reversed_order (entry_width e.entry) es up.1)
+    ∙ sym (put_last e (painting_order es) (All-permutation (λ (f : PlacedEntry). entry_width e.entry < entry_width f.entry) es (painting_order es)
+    (IsPermutation-painting_order es) (all_wider (entry_width e.entry) es up.1)))

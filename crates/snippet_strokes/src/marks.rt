@@ -1,5 +1,5 @@
 //! The marks below a line of the source.
-ghost use Rattle.std.specs.Prelude.{◌≡◌, ◌==◌, ◌&&◌, All, OnOk};
+ghost use Rattle.std.specs.Prelude.{◌≡◌, ◌==◌, ◌&&◌, All, OnOk, reverse, true};
 ghost use Rattle.std.specs.List.{flat_map};
 ghost use Rattle.snippet_labels.specs.PlacedEntries as spec;
 ghost use Rattle.snippet_strokes.specs.Painting.{mark_of, painting_order};
@@ -50,7 +50,30 @@ pub fn draw_marks<C: Canvas>(
 pub(crate) fn sort_for_painting(placed: &mut Vec<PlacedEntry>) -> Result<(), AllocError>
     ensures order { OnOk result (placed.new.items ≡ painting_order placed.old.items) }
 {
+    if is_order_reversed(placed) {
+        placed.reverse();
+        return Ok(());
+    }
     placed.sort_by_key(|p| (Reverse(entry_width(&p.entry)), is_primary(p.entry.kind)))
+}
+
+/// Whether each of many entries is wider than the one before it, as those of nested spans are: then this order turned
+/// round is that of painting. Two are as soon sorted.
+fn is_order_reversed(placed: &[PlacedEntry]) -> bool
+    ensures yes { result ≡ true → reverse placed.now ≡ painting_order placed.now }
+{
+    if placed.len() <= 2 {
+        return false;
+    }
+    let mut widest = 0;
+    for entry in placed {
+        let width = entry_width(&entry.entry);
+        if width <= widest {
+            return false;
+        }
+        widest = width;
+    }
+    true
 }
 
 /// How many columns an entry covers.

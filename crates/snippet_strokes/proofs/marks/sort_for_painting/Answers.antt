@@ -1,8 +1,17 @@
-use Rattle.std.proofs.Common.{rules}
+use Rattle.std.proofs.Common.{◌≡◌, ◌∙◌, List, reverse, rules, subst}
 use Rattle.std.proofs.lemmas.List.Sorted.{answers_always}
 use Rattle.std.proofs.lemmas.Result.{on_ok_weaker}
+use Rattle.snippet_labels.specs.declared.positions.PlacedEntry.{PlacedEntry}
+use Rattle.snippet_strokes.specs.Painting.{painting_order}
 use Rattle.snippet_strokes.proofs.PaintOrder.{paint_key, painting_order_of_sort}
 use Rattle.snippet_strokes.proofs.marks.sort_for_painting.Goals as goal
+
+pub returns-then-is_order_reversed : goal.returns-then-is_order_reversed
+returns-then-is_order_reversed c =
+    record {
+      order = c.reverse.ensures.items ∙ subst (λ (es : List PlacedEntry). reverse es ≡ painting_order es) c.deref.ensures.value
+          (c.is_order_reversed.ensures.yes c.if-is_order_reversed.true);
+    }
 
 pub returns : goal.returns
 returns c =
