@@ -1,6 +1,7 @@
 -- The cells of a window, and how they are written.
 use Rattle.std.proofs.Common.{◌≡◌, ℕ, ◌+◌, ◌-◌, ◌<◌, ◌≤◌, ◌^◌, ◌==◌, cond, true, false, Option, None, Some, IfSome, List, [], ◌∷◌, ◌++◌, length, drop, refl}
-use Rattle.std.proofs.Common.{sym, ap, ◌∙◌, arith, add-zero, All, chars, IsUtf8}
+use Rattle.std.proofs.Common.{sym, ap, ◌∙◌, arith, add-zero, All, chars, IsUtf8, nat_lt}
+use Rattle.std.proofs.lemmas.Bool.{cond-false, cond-true}
 use Rattle.std.proofs.lemmas.List.{places, same_lists}
 use Rattle.std.proofs.lemmas.List.Elements.{All-take, All-drop}
 use Rattle.std.proofs.lemmas.Str.{chars-nil}
@@ -19,7 +20,7 @@ use Rattle.snippet_grid.specs.Grid.{cells_written}
 use Rattle.snippet_style.specs.Cell.{Cell, SPACE, text_cells, written}
 use Rattle.snippet_grid.proofs.GridLemmas.{cells_written_last}
 use Rattle.snippet_style.proofs.CellLemmas.{length-text_cells, length-written}
-use Rattle.snippet_text.specs.Normalized.{is_listed}
+use Rattle.snippet_text.specs.Normalized.{is_listed, norm}
 use Rattle.snippet_model.specs.FreeRows.{IsFree}
 use Rattle.snippet_strokes.specs.SourceRows.{begun_cells, ended_cells, window_cells, with_cells}
 use Rattle.snippet_model.proofs.RowLemmas.{free_drawn, free_written}
@@ -229,3 +230,17 @@ cells_are decor margin start end shown placeholder cs text is_placeholder is_tex
     ∙ ap (λ e. ended_cells decor e (begun_cells decor (covered_columns left placeholder inner) (uncovered_part left placeholder inner))) is_end
     ∙ ap (λ p. ended_cells decor (covered_end room left right p cs) (begun_cells decor (covered_columns left p inner) (uncovered_part left p inner)))
     is_placeholder ∙ ap (λ t. window_cells decor margin t) is_text
+
+-- nothing stands in the window of a line with no text, where lines aren't cut on the left
+pub no_window : (decor : DecorStyle) (margin : Margin) → margin.computed_left ≡ 0 → window_cells decor margin [] ≡ []
+no_window decor margin uncut =
+    let zero : (margin.computed_left == 0) ≡ true = grind (arith, nat_tests, uncut) in
+    let never : nat_lt (window_right margin.term_width margin.computed_left margin.computed_right []) 0 ≡ false = grind (arith, nat_tests) in
+    sym (cells_are decor margin None None [] (placeholder_of decor) [] [] refl refl (sym (cond-true (margin.computed_left == 0) None _ zero))
+    (sym (cond-true (margin.computed_left == 0) [] _ zero)) (sym (cond-false (nat_lt _ 0) _ None never)))
+
+-- and nothing is shown of such a line
+pub nothing_shown : (line : List ℕ) → length line ≡ 0 → norm (chars line) ≡ []
+unfolding norm
+nothing_shown [] none = ap norm chars-nil
+nothing_shown (c ∷ cs) none = absurd (omega (arith, none))

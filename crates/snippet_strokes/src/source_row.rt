@@ -88,6 +88,9 @@ pub fn draw_source_row(
         layout.gutter,
         line.info.line_index,
     )?;
+    if line.info.line.is_empty() && !view.margin.was_cut_left() {
+        return draw_empty_row(buffer, layout, &number, beside);
+    }
     let near = near_part(view.margin, line.info.line, line.width);
     let text = normalized(alloc, near.text)?;
     let placeholder = layout.decor.placeholder();
@@ -105,6 +108,42 @@ pub fn draw_source_row(
     };
     let row = write_source_row(buffer, layout, texts, beside)?;
     Ok((row, window.dropped))
+}
+
+/// Draws the source row of a line with no text, where lines aren't cut on the left: nothing is shown of it, and nothing
+/// dropped.
+///
+/// # Errors
+///
+/// There is no memory for the row.
+#[inline(never)]
+fn draw_empty_row(
+    buffer: &mut StyledBuffer,
+    layout: Layout,
+    number: &CowStr<'_>,
+    beside: Beside<'_>,
+) -> Result<(usize, usize), AllocError>
+    requires number { length (chars (cow_str_bytes number.now)) ≤ separator_cell layout }
+    requires beside { FitBeside layout beside.tops.now beside.past.now }
+    ensures added { OnOk result (buffer.new ≡ buffer.old
+        ++ with_bars layout (λ strokes. strokes.bar) beside.entry.past.now
+        (with_bars layout (λ strokes. strokes.whole_line) beside.entry.tops.now
+        (source_row layout (chars (cow_str_bytes number.now)) [])) ∷ []) }
+    ensures row { IfOk result (λ at. at.0 ≡ length buffer.old) }
+    ensures dropped { IfOk result (λ at. at.1 ≡ 0) }
+{
+    let texts = SourceTexts {
+        number: number.as_str(),
+        placeholder: layout.decor.placeholder(),
+        window: LineWindow {
+            dropped: 0,
+            start: None,
+            text: "",
+            end: None,
+        },
+    };
+    let row = write_source_row(buffer, layout, texts, beside)?;
+    Ok((row, 0))
 }
 
 /// What the gutter shows beside a line. It is made in `digits` where it is a number that fills the gutter.
@@ -142,6 +181,7 @@ fn digits_beside<'b>(
 }
 
 /// Writes a source row of these texts from left to right: the number and the separator, the bars, and the window.
+#[inline(always)]
 fn write_source_row(
     buffer: &mut StyledBuffer,
     layout: Layout,
@@ -181,6 +221,7 @@ fn write_source_row(
 
 /// Begins a source row below all that stands in the grid, with what the gutter shows and the separator, and gives the
 /// row's number.
+#[inline(always)]
 fn begin_source_row(
     buffer: &mut StyledBuffer,
     layout: Layout,

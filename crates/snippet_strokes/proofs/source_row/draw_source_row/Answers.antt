@@ -1,7 +1,7 @@
-use Rattle.std.proofs.Common.{◌≡◌, ◌++◌, ◌∷◌, [], List, refl, ap, sym, subst, ◌∙◌, ◌+◌, ◌≤◌, ◌<◌, ◌^◌, arith, length, chars}
+use Rattle.std.proofs.Common.{◌≡◌, ◌++◌, ◌∷◌, [], ℕ, List, refl, ap, sym, subst, ◌∙◌, ◌+◌, ◌≤◌, ◌<◌, ◌^◌, arith, length, chars}
 use Rattle.snippet_grid.specs.Layout.{Layout}
 use Rattle.snippet_grid.specs.LayoutOf.{layout_of}
-use Rattle.snippet_strokes.specs.SourceRows.{begun_cells, ended_cells, source_row}
+use Rattle.snippet_strokes.specs.SourceRows.{begun_cells, ended_cells, source_row, window_cells}
 use Rattle.snippet_style.specs.Cell.{Cell}
 use Rattle.snippet_style.specs.declared.glyphs.DecorStyle.{DecorStyle}
 use Rattle.snippet_strokes.proofs.BarParts.{with_parts}
@@ -10,9 +10,15 @@ use Rattle.snippet_window.proofs.NearLemmas.{part_of_norm}
 use Rattle.snippet_text.specs.Normalized.{norm}
 use Rattle.snippet_text.proofs.WidthBounds.{width_of-chars}
 use Rattle.snippet_lines.specs.Number.{shown_number}
-use Rattle.snippet_strokes.proofs.CellLemmas.{cells_are, part_few}
+use Rattle.snippet_strokes.proofs.CellLemmas.{cells_are, no_window, nothing_shown, part_few}
 use Rattle.snippet_lines.proofs.NumberLemmas.{chars-shown_number}
 use Rattle.snippet_labels.proofs.CharLemmas.{norm_short}
+use Rattle.std.proofs.lemmas.Bool.Decides.{nat_tests}
+use Rattle.std.proofs.lemmas.Result.{on_ok_weaker}
+use Rattle.std.specs.Cow.{cow_str_bytes}
+use Rattle.snippet_grid.proofs.OutcomeLemmas.{if_ok_weaker}
+use Rattle.snippet_text.specs.Width.{width_of}
+use Rattle.snippet_window.specs.Window.{dropped_part}
 use Rattle.snippet_strokes.proofs.source_row.draw_source_row.Goals as goal
 
 pub near_part-near-requires-clause-narrow : goal.near_part-near-requires-clause-narrow
@@ -106,3 +112,39 @@ returns-clause-dropped c =
     let text = ap chars c.as_str.ensures.value ∙ c.in_ok-text.ensures.value in
     c.window_of-window.ensures.dropped (norm line) (part_of_norm c.args.view.margin c.args.line.now.width c.near_part-near.result.skipped line
     (chars c.near_part-near.result.text.now) (chars c.as_str.result.now) c.args.line.now.measured text c.near_part-near.ensures.holds)
+
+pub draw_empty_row-requires-clause-number : goal.draw_empty_row-requires-clause-number
+draw_empty_row-requires-clause-number c =
+    let short = subst (λ (l : Layout). length (shown_number c.args.view.numbers l.gutter c.args.line.now.info.line_index) ≤ l.gutter + 1)
+    (sym c.layout.view_is) c.requires.number in
+    rw (← c.layout.view_is) (omega (
+      arith,
+      short,
+      ap length (ap chars c.in_ok-number.ensures.text
+          ∙ chars-shown_number c.args.view.numbers c.layout.inside.gutter c.args.line.now.info.line_index (omega arith)),
+    ))
+
+pub returns-then-not-was_cut_left : goal.returns-then-not-was_cut_left
+returns-then-not-was_cut_left c =
+    let args = c.args in
+    let layout = layout_of c.layout.inside in
+    let margin = args.view.margin in
+    let shown = shown_number args.view.numbers layout.gutter args.line.now.info.line_index in
+    let number = ap chars c.in_ok-number.ensures.text
+    ∙ chars-shown_number args.view.numbers layout.gutter args.line.now.info.line_index (omega arith) in
+    let none = nothing_shown args.line.now.info.line.now (grind arith) in
+    let cells = ap (window_cells layout.decor margin) none ∙ no_window layout.decor margin (grind (arith, nat_tests)) in
+    let old = args.buffer.now in
+    let sides : Layout → List ℕ → List Cell → List (List Cell) = λ l digits cs.
+    old ++ with_parts l Solid args.beside.past.now (with_parts l Top args.beside.tops.now (source_row l digits cs)) ∷ [] in
+    let digits = chars (cow_str_bytes c.in_ok-number.number) in
+    record {
+      added = on_ok_weaker c.draw_empty_row.result (λ added. rw (← c.layout.view_is)
+          (subst (λ (l : Layout). c.draw_empty_row.new.buffer ≡ sides l digits []) (sym c.layout.view_is) added
+          ∙ ap (λ (ds : List ℕ). sides layout ds []) number ∙ ap (sides layout shown) (sym cells))) c.draw_empty_row.ensures.added;
+      short = on_ok_weaker c.draw_empty_row.result (λ _. rw (← c.layout.view_is) (omega (arith, ap length cells))) c.draw_empty_row.ensures.added;
+      row = c.draw_empty_row.ensures.row;
+      dropped = if_ok_weaker c.draw_empty_row.result (λ at is. is ∙ sym (ap (λ (text : List ℕ). width_of (dropped_part margin.computed_left text)) none))
+          c.draw_empty_row.ensures.dropped;
+      few = if_ok_weaker c.draw_empty_row.result (λ at is. omega (arith, is)) c.draw_empty_row.ensures.dropped;
+    }

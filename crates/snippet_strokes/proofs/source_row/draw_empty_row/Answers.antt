@@ -1,0 +1,30 @@
+use Rattle.std.proofs.Common.{◌≡◌, ◌∙◌, ◌≤◌, ◌+◌, ◌++◌, ◌∷◌, [], ℕ, List, None, ap, arith, chars, length, subst, sym}
+use Rattle.std.proofs.lemmas.Str.{chars-nil}
+use Rattle.std.specs.Cow.{cow_str_bytes}
+use Rattle.snippet_grid.specs.Layout.{Layout}
+use Rattle.snippet_grid.specs.LayoutOf.{layout_of}
+use Rattle.snippet_style.specs.Cell.{Cell}
+use Rattle.snippet_strokes.specs.SourceRows.{begun_cells, ended_cells, source_row}
+use Rattle.snippet_strokes.proofs.BarParts.{with_parts}
+use Rattle.snippet_strokes.specs.declared.bars.BarStroke.TheVariants.{Solid, Top}
+use Rattle.snippet_strokes.proofs.source_row.draw_empty_row.Goals as goal
+
+pub write_source_row-requires-clause-number : goal.write_source_row-requires-clause-number
+write_source_row-requires-clause-number c =
+    let short = subst (λ (l : Layout). length (chars (cow_str_bytes c.args.number.now)) ≤ l.gutter + 1) (sym c.layout.view_is) c.requires.number in
+    rw (← c.layout.view_is) (omega (arith, short, ap length (ap chars c.as_str.ensures.value)))
+
+pub write_source_row-requires-clause-text : goal.write_source_row-requires-clause-text
+write_source_row-requires-clause-text c = omega (arith, ap length chars-nil)
+
+pub returns-clause-added : goal.returns-clause-added
+returns-clause-added c =
+    let layout = layout_of c.layout.inside in
+    let old = c.args.buffer.now in
+    let number = c.args.number.now in
+    let sides : Layout → List ℕ → List ℕ → List (List Cell) = λ l shown text. old ++ with_parts l Solid c.args.beside.past.now
+    (with_parts l Top c.args.beside.tops.now (source_row l shown (ended_cells l.decor None (begun_cells l.decor None text)))) ∷ [] in
+    let given = subst (λ (l : Layout). c.write_source_row.new.buffer ≡ sides l (chars c.as_str.result.now) (chars []))
+    (sym c.layout.view_is) c.in_ok-row.ensures.added in
+    rw (← c.layout.view_is) (given ∙ ap (λ (shown : List ℕ). sides layout shown (chars [])) (ap chars c.as_str.ensures.value)
+    ∙ ap (sides layout (chars (cow_str_bytes number))) chars-nil)
