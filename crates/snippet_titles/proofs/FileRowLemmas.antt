@@ -70,9 +70,9 @@ pub origin_row-begun : (old begun named new : List (List Cell)) (row : ℕ) (pat
     → new ≡ old ++ origin_row layout start path place ∷ []
 unfolding origin_row origin_text
 origin_row-begun old begun named new row path layout start place below starts names places =
-    let after : List ℕ = line_text layout.anonymized place.line place.column in
     let shown : List ℕ = norm (chars path) in
+    let after : List ℕ = line_text layout.anonymized place.line place.column in
+    let cells : List Cell = text_cells LineAndColumn (shown ++ after) in
     appended-two begun named new row (text_cells LineAndColumn shown) (text_cells LineAndColumn after) names places
-    ∙ ap (appended begun row) (sym (text_cells-append LineAndColumn shown after)) ∙ ap (λ rows. appended rows row (text_cells LineAndColumn (shown ++ after))) starts
-    ∙ ap (λ n. appended (old ++ file_row layout start ∷ []) n (text_cells LineAndColumn (shown ++ after))) below
-    ∙ last_extended old (file_row layout start) (text_cells LineAndColumn (shown ++ after))
+    ∙ ap (appended begun row) (sym (text_cells-append LineAndColumn shown after)) ∙ ap (λ rows. appended rows row cells) starts
+    ∙ ap (λ n. appended (old ++ file_row layout start ∷ []) n cells) below ∙ last_extended old (file_row layout start) cells
