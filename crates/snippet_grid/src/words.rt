@@ -38,10 +38,10 @@ pub(crate) fn fits(text: &str, room: usize) -> bool
     char_count(text) <= room
 }
 
-/// What the smallest reports take: the first write makes room for so much at once.
-const FIRST_BYTES: usize = 384;
+/// What most reports take: the first write makes room for so much at once.
+const FIRST_BYTES: usize = 1008;
 
-const FIRST_RUNS: usize = 24;
+const FIRST_RUNS: usize = 112;
 
 const FIRST_ROWS: usize = 16;
 

@@ -43,7 +43,7 @@ pub fn text_in_form(
 }
 
 /// Room for the text of a report of everyday size, in bytes. A longer one grows from there.
-const ROOM: usize = 1024;
+const ROOM: usize = 2048;
 
 /// The text of a report's graphic form, a group at a time.
 fn page_text(
