@@ -13,7 +13,7 @@ ghost use Rattle.snippet_parts.specs.Located.{HasTextLabel, IsLocated, annotatio
 
 use crate::entries::{AnnotatedLineInfo, LineAnnotation};
 use crate::kept::{is_among, kept_lines, seen_lines};
-use crate::located::{LocatedSpan, located_spans};
+use crate::located::{LocatedSpan, located_span, located_spans};
 use crate::made_entries::made_entries;
 use crate::only_line::{one_line, only_line};
 use crate::source_map::SourceMap;
@@ -35,8 +35,25 @@ pub(crate) fn annotated_lines<'a>(
         ≡ spec.annotated_lines fold source.now annotations.now) }
     ensures labels { IfOk result (λ drawn. All HasTextLabel annotations.now) }
 {
-    let located = located_spans(alloc, source, annotations)?;
-    located_lines(alloc, source, &located, fold)
+    // Most snippets have one span or two, whose places need no list.
+    let mut known = None;
+    match annotations {
+        [one] => {
+            let located = [located_span(source, &mut known, one)];
+            located_lines(alloc, source, &located, fold)
+        }
+        [one, other] => {
+            let located = [
+                located_span(source, &mut known, one),
+                located_span(source, &mut known, other),
+            ];
+            located_lines(alloc, source, &located, fold)
+        }
+        _ => {
+            let located = located_spans(alloc, source, annotations)?;
+            located_lines(alloc, source, &located, fold)
+        }
+    }
 }
 
 /// The greatest depth, and the lines that are kept with their entries, of spans whose places are known.

@@ -53,7 +53,7 @@ pub(crate) fn located_spans<'a>(
 }
 
 /// The span of an annotation, with its place. A place before it may be known; that of its start is known then.
-fn located_span<'a>(
+pub(crate) fn located_span<'a>(
     source: &SourceMap<'a>,
     known: &mut Option<LinePlace<'a>>,
     annotation: &'a Annotation<'a>,
