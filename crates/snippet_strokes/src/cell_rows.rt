@@ -231,7 +231,7 @@ fn write_char(cells: &mut Vec<StyledChar>, at: usize, new: StyledChar) -> Result
 }
 
 /// Adds a character in a role to a row that ends before this cell, or at it.
-#[inline(never)]
+#[inline(always)]
 fn add_char(cells: &mut Vec<StyledChar>, at: usize, new: StyledChar) -> Result<(), AllocError>
     requires past { length cells.old.items ≤ at }
     ensures written { OnOk result

@@ -247,6 +247,7 @@ fn begin_source_row(
 
 /// Writes the text of a window after a row that ends left of the code, and the placeholder before it where lines are
 /// cut on the left.
+#[inline(always)]
 fn write_beginning(
     buffer: &mut StyledBuffer,
     layout: Layout,
@@ -278,6 +279,7 @@ fn write_beginning(
 }
 
 /// Writes the placeholder over the end of a window, where the line is cut on the right.
+#[inline(always)]
 fn write_end(
     buffer: &mut StyledBuffer,
     layout: Layout,
