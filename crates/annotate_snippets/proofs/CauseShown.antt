@@ -11,7 +11,7 @@ use Rattle.snippet_model.specs.declared.snippet.Element.TheVariants.{Cause}
 use Rattle.snippet_grid.specs.Grid.{row_at}
 use Rattle.snippet_style.specs.Cell.{Cell}
 use Rattle.snippet_grid.specs.Print.{row_text}
-use Rattle.snippet_lines.specs.Span.{IsSpan}
+use Rattle.snippet_lines.specs.IsSpan.{IsSpan}
 use Rattle.snippet_parts.specs.Annotated.{KeptLine, annotated_lines, is_long}
 use Rattle.snippet_parts.specs.Kept.{shown_lines}
 use Rattle.snippet_parts.specs.Mark.{is_marking}

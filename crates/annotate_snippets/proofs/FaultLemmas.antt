@@ -20,7 +20,8 @@ use Rattle.snippet_model.specs.declared.snippet.Element.TheVariants.{Message, Ca
 use Rattle.snippet_style.specs.Bounds.{max_usize}
 use Rattle.snippet_lines.specs.declared.span.SpanFault.{SpanFault}
 use Rattle.snippet_lines.specs.declared.span.SpanFault.TheVariants.{Reversed, PastEnd, OffBoundary}
-use Rattle.snippet_lines.specs.Span.{IsSpan, IsSpanBorder, is_span_border, is_character_border, span_fault}
+use Rattle.snippet_lines.specs.Span.{is_span_border, is_character_border, span_fault}
+use Rattle.snippet_lines.specs.IsSpan.{IsSpan, IsSpanBorder}
 use Rattle.snippet_splice.specs.Edits.{edit_of}
 use Rattle.snippet_splice.specs.Overlap.{first_overlap}
 use Rattle.annotate_snippets.specs.Fault.{added_lines, faults_from, missing_title, number_after_lines, first_of, span_faults, overlap_faults, group_faults}

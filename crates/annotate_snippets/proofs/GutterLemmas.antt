@@ -16,7 +16,8 @@ use Rattle.snippet_model.specs.declared.snippet.Annotation.{Annotation}
 use Rattle.snippet_lines.specs.declared.lines.EndLine.{EndLine}
 use Rattle.snippet_lines.specs.declared.lines.EndLine.TheVariants.{Eof, Lf, Crlf}
 use Rattle.snippet_parts.specs.declared.entries.AnnotatedLineInfo.{AnnotatedLineInfo}
-use Rattle.snippet_lines.specs.Lines.{Line, AreLines, joined, line_bytes, is_lf, last_byte, newline_count, source_lines, start_of}
+use Rattle.snippet_lines.specs.Lines.{Line, joined, line_bytes, is_lf, last_byte, newline_count, source_lines, start_of}
+use Rattle.snippet_lines.specs.CutLines.{AreLines}
 use Rattle.snippet_lines.specs.Place.{line_of}
 use Rattle.snippet_parts.specs.Counted.{counted_number}
 use Rattle.snippet_parts.proofs.CountedWords.{greatest_end, reached_source}

@@ -6,7 +6,7 @@ use Rattle.std.specs.List.{list_any}
 use Rattle.snippet_grid.specs.Layout.{Layout}
 use Rattle.snippet_lines.specs.Lines.{Source, source_lines, text_at}
 use Rattle.snippet_lines.specs.Number.{shown_number}
-use Rattle.snippet_lines.specs.Span.{IsSpan}
+use Rattle.snippet_lines.specs.IsSpan.{IsSpan}
 use Rattle.snippet_model.specs.declared.snippet.Annotation.{Annotation}
 use Rattle.snippet_model.specs.declared.snippet.Element.TheVariants.{Cause}
 use Rattle.snippet_model.specs.declared.snippet.Snippet.{Snippet}

@@ -29,7 +29,7 @@ use Rattle.snippet_parts.specs.OnLine.{seen_kept}
 use Rattle.snippet_lines.specs.Lines.{source_lines}
 use Rattle.snippet_parts.specs.Mark.{end_column, is_marked_on, is_marking, is_single_line, is_wide, qualifies_for_marks, touches}
 use Rattle.snippet_parts.specs.Entries.{is_bar, is_single_part, is_wide_entry}
-use Rattle.snippet_lines.specs.Span.{IsSpan}
+use Rattle.snippet_lines.specs.IsSpan.{IsSpan}
 use Rattle.snippet_window.specs.Window.{AreReplaced, chars_at, dropped_part, stands_whole, window}
 use Rattle.snippet_strokes.specs.EntryMarks.{IsMarkCell, is_mark_role}
 use Rattle.snippet_strokes.proofs.PlainEntries.{IsEntryMark, are_plain, has_column, is_single, wide_entries}

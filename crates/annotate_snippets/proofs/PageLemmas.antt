@@ -17,7 +17,7 @@ use Rattle.snippet_parts.specs.Annotated.{KeptLine, kept_line}
 use Rattle.snippet_parts.specs.OnLine.{seen_kept}
 use Rattle.snippet_lines.specs.Lines.{source_lines}
 use Rattle.snippet_lines.specs.Number.{shown_number}
-use Rattle.snippet_lines.specs.Span.{IsSpan}
+use Rattle.snippet_lines.specs.IsSpan.{IsSpan}
 use Rattle.snippet_labels.specs.PlacedEntries.{shifted}
 use Rattle.snippet_strokes.specs.Bars.{Bar, open_past}
 use Rattle.snippet_strokes.specs.DrawnBars.{HasBarRoom, open_below}

@@ -40,7 +40,7 @@ use Rattle.snippet_labels.specs.Placing.{HasPlace}
 use Rattle.snippet_grid.specs.Layout.{Layout}
 use Rattle.annotate_snippets.specs.ElementRoom.{code_after}
 use Rattle.annotate_snippets.proofs.Ascending.{IsAscending, ascending}
-use Rattle.snippet_lines.specs.Span.{IsSpan}
+use Rattle.snippet_lines.specs.IsSpan.{IsSpan}
 use Rattle.snippet_window.specs.Window.{stands_whole}
 use Rattle.snippet_parts.proofs.RawDepthLemmas.{greatest-bound, places-bound}
 use Rattle.snippet_parts.proofs.PartWords.{long_places, stands_before}

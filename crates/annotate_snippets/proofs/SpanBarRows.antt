@@ -14,7 +14,7 @@ use Rattle.snippet_style.specs.declared.glyphs.DecorStyle.{DecorStyle}
 use Rattle.snippet_style.specs.declared.role.ElementStyle.TheVariants.{LineNumber}
 use Rattle.snippet_style.proofs.CellLemmas.{length-text_cells}
 use Rattle.std.proofs.lemmas.List.{length-append, length-replicate, length-take}
-use Rattle.snippet_lines.specs.Span.{IsSpan}
+use Rattle.snippet_lines.specs.IsSpan.{IsSpan}
 use Rattle.snippet_parts.specs.Annotated.{deepest, depth_of, is_long}
 use Rattle.snippet_parts.specs.declared.entries.LineAnnotation.{LineAnnotation}
 use Rattle.snippet_parts.specs.declared.entries.LineAnnotationType.{LineAnnotationType}

@@ -10,7 +10,7 @@ use Rattle.snippet_model.specs.declared.snippet.Element.{Element}
 use Rattle.snippet_model.specs.declared.snippet.Element.TheVariants as element
 use Rattle.snippet_model.specs.Fits.{AnnotationFits, GroupFits, MessageFits}
 use Rattle.snippet_lines.specs.Lines.{source_lines}
-use Rattle.snippet_lines.specs.Span.{IsSpan}
+use Rattle.snippet_lines.specs.IsSpan.{IsSpan}
 use Rattle.snippet_parts.specs.Annotated.{annotated_lines, deepest}
 use Rattle.snippet_parts.specs.OnLine.{seen_kept}
 use Rattle.snippet_parts.specs.Located.{HasTextLabel}

@@ -11,8 +11,9 @@ use Rattle.std.proofs.lemmas.List.Sums.{sum_by-append}
 use Rattle.std.proofs.lemmas.Bool.{cases_lt, eqb-true}
 use Rattle.snippet_lines.specs.declared.lines.EndLine.{EndLine}
 use Rattle.snippet_lines.specs.declared.lines.EndLine.TheVariants.{Eof, Lf, Crlf}
-use Rattle.snippet_lines.specs.Lines.{Line, end_bytes, line_bytes, joined, last_byte, IsLine, AreLines, AreLinesOf, lines_of, source_lines, is_lf, start_of}
-use Rattle.snippet_lines.specs.Lines.{IsLineWithEnd}
+use Rattle.snippet_lines.specs.Lines.{Line, end_bytes, line_bytes, joined, last_byte, lines_of, source_lines, is_lf, start_of}
+use Rattle.snippet_lines.specs.CutLines.{IsLine, AreLines, AreLinesOf}
+use Rattle.snippet_lines.specs.CutLines.{IsLineWithEnd}
 use Rattle.snippet_lines.specs.Place.{HoldsByte, line_of}
 use Rattle.snippet_lines.proofs.LinesLemmas.{split_last, joined-lines_of, lines_of-append, length-lines_of, source_lines-some, start_of-end, start_of-le}
 use Rattle.snippet_lines.proofs.LinesLemmas.{start_of-next, joined-source_lines, AreLinesOf-source_lines, IsUtf8-line}

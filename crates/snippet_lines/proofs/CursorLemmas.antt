@@ -7,7 +7,8 @@ use Rattle.std.proofs.lemmas.List.Sums.{sum_by-cons}
 use Rattle.std.proofs.lemmas.Bool.{cond-false, false_from_ne_true}
 use Rattle.snippet_lines.specs.declared.lines.EndLine.{EndLine}
 use Rattle.snippet_lines.specs.declared.lines.EndLine.TheVariants.{Eof}
-use Rattle.snippet_lines.specs.Lines.{end_bytes, line_bytes, last_byte, IsLine, lines_of, IsLineWithEnd}
+use Rattle.snippet_lines.specs.Lines.{end_bytes, line_bytes, last_byte, lines_of}
+use Rattle.snippet_lines.specs.CutLines.{IsLine, IsLineWithEnd}
 use Rattle.snippet_lines.proofs.LinesLemmas.{split_last, lines_of-line}
 
 -- a text cut after its first LF

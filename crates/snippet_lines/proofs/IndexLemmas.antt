@@ -8,7 +8,8 @@ use Rattle.std.proofs.lemmas.List.Elements.{All-take}
 use Rattle.std.proofs.lemmas.Bool.{cases_lt, cond_both, ltb-true, ltb-false, eqb-true}
 use Rattle.snippet_lines.specs.declared.lines.EndLine.{EndLine}
 use Rattle.snippet_lines.specs.declared.lines.EndLine.TheVariants.{Eof, Lf, Crlf}
-use Rattle.snippet_lines.specs.Lines.{Line, line_bytes, joined, last_byte, IsLineWithEnd, AreLines, lines_of, source_lines, is_lf}
+use Rattle.snippet_lines.specs.Lines.{Line, line_bytes, joined, last_byte, lines_of, source_lines, is_lf}
+use Rattle.snippet_lines.specs.CutLines.{IsLineWithEnd, AreLines}
 use Rattle.snippet_lines.specs.Lines.{newline_count, start_of}
 use Rattle.snippet_lines.specs.Place.{line_of}
 use Rattle.snippet_lines.proofs.LinesLemmas.{split_last, last_byte-push, lines_of-append, length-lines_of, length-source_lines}

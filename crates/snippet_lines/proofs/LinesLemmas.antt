@@ -11,7 +11,8 @@ use Rattle.std.proofs.lemmas.List.Elements.{All-same, All-head, All-tail, All-ni
 use Rattle.std.proofs.lemmas.Bool.{cases_lt, cond_both, cond-true, cond-false, eq-eqb, ne_eqb, eqb-true, eqb-false}
 use Rattle.snippet_lines.specs.declared.lines.EndLine.{EndLine}
 use Rattle.snippet_lines.specs.declared.lines.EndLine.TheVariants.{Eof, Lf, Crlf}
-use Rattle.snippet_lines.specs.Lines.{Line, end_bytes, line_bytes, joined, last_byte, IsLine, AreLines, IsCutOf, AreLinesOf, line_with_byte, with_first_byte}
+use Rattle.snippet_lines.specs.Lines.{Line, end_bytes, line_bytes, joined, last_byte, line_with_byte, with_first_byte}
+use Rattle.snippet_lines.specs.CutLines.{IsLine, AreLines, IsCutOf, AreLinesOf}
 use Rattle.snippet_lines.specs.Lines.{lines_of, source_lines, is_lf, newline_count, text_at, StandsAt, start_of}
 
 -- a byte in front of a text that isn't empty leaves its last byte

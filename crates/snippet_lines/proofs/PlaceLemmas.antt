@@ -9,10 +9,11 @@ use Rattle.std.proofs.lemmas.Str.{IsUtf8-take, chars-append}
 use Rattle.std.proofs.lemmas.Bool.{cases_lt, cases_order, cond_both, ltb-true, ltb-false, cond-true, cond-false, eq-eqb, ne_eqb}
 use Rattle.snippet_lines.specs.declared.lines.EndLine.{EndLine}
 use Rattle.snippet_lines.specs.declared.lines.EndLine.TheVariants.{Eof, Lf, Crlf}
-use Rattle.snippet_lines.specs.Lines.{Line, line_bytes, AreLines, AreLinesOf, source_lines, text_at, start_of, Source}
+use Rattle.snippet_lines.specs.Lines.{Line, line_bytes, source_lines, text_at, start_of, Source}
+use Rattle.snippet_lines.specs.CutLines.{AreLines, AreLinesOf}
 use Rattle.snippet_text.specs.Width.{char_width, width_of}
 use Rattle.snippet_lines.specs.Place.{HoldsByte, line_of, prefix_at, place_of, location_of, steps_after_text, start_location, end_location, locations_of}
-use Rattle.snippet_lines.specs.Span.{IsSpanBorder}
+use Rattle.snippet_lines.specs.IsSpan.{IsSpanBorder}
 use Rattle.snippet_lines.proofs.LinesLemmas.{start_of-zero, start_of-cons, start_of-le, start_of-end, start_of-next, AreLinesOf-source_lines}
 use Rattle.snippet_lines.proofs.LinesLemmas.{joined-source_lines, length-source_lines, text_at-stands, text_at-within}
 

@@ -6,7 +6,8 @@ use Rattle.std.proofs.lemmas.Bool.{cases_lt, cond_both, cond-true, cond-false, l
 use Rattle.memchr.specs.Find.{is_byte, places, places_from}
 use Rattle.snippet_lines.specs.declared.lines.EndLine.{EndLine}
 use Rattle.snippet_lines.specs.declared.lines.EndLine.TheVariants.{Eof, Lf}
-use Rattle.snippet_lines.specs.Lines.{Line, end_bytes, line_bytes, joined, IsLine, line_with_byte, with_first_byte, lines_of, source_lines, text_at}
+use Rattle.snippet_lines.specs.Lines.{Line, end_bytes, line_bytes, joined, line_with_byte, with_first_byte, lines_of, source_lines, text_at}
+use Rattle.snippet_lines.specs.CutLines.{IsLine}
 use Rattle.snippet_lines.proofs.LinesLemmas.{line_bytes-line_with_byte, lines_of-joined}
 use Rattle.snippet_lines.specs.Starts.{starts_from}
 

@@ -1,9 +1,11 @@
 pub mod Controls
 pub mod Lines
+pub mod CutLines
 pub mod Number
 pub mod OrderedBy
 pub mod Place
 pub mod Places
 pub mod Span
+pub mod IsSpan
 pub mod Starts
 pub mod TextLines

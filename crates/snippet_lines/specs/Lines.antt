@@ -1,5 +1,6 @@
 -- The lines of a text: how a text is cut into lines, and where each of them stands.
-use Rattle.std.specs.Prelude.{◌≡◌, ◌≢◌, ℕ, ◌-◌, ◌<◌, ◌⊎◌, Bool, ◌==◌, nat_lt, nat_le, ◌&&◌, Option, Some, None, List, [], ◌∷◌, ◌++◌, All, count_by, length}
+use Rattle.std.specs.Prelude.{◌≡◌, ℕ, ◌-◌, Bool, ◌==◌, nat_lt, nat_le, ◌&&◌, Option, Some, None, List, [], ◌∷◌, ◌++◌, count_by}
+use Rattle.std.specs.Prelude.{length}
 use Rattle.std.specs.Prelude.{take, drop, slice_index, slice_index_or, if◌then◌else◌}
 use Rattle.std.specs.List.{flat_map}
 use Rattle.snippet_lines.specs.declared.lines.EndLine.{EndLine}
@@ -26,30 +27,6 @@ joined ls = flat_map line_bytes ls
 -- the last byte of a text, or 0 of an empty one
 abbrev pub last_byte : List ℕ → ℕ
 last_byte text = slice_index text (length text - 1)
-
--- some bytes are one line at most, its end counted: no byte but the last is an LF
-abbrev pub IsLineWithEnd : List ℕ → Type 0
-IsLineWithEnd bytes = All (λ b. b ≢ 10) (take (length bytes - 1) bytes)
-
--- what one line may hold: no LF in its text, and no CR before an LF alone, since CR LF is one line end
-pub record IsLine (l : Line) : Type 0 where
-  pub no_lf : All (λ b. b ≢ 10) l.0
-  pub no_cr : l.1 ≡ Lf → last_byte l.0 ≢ 13
-
--- what some lines may hold: each is a line, and only the last may have no end, if it has a text
-abbrev pub AreLines : List Line → Type 0
-AreLines [] = Unit {0}
-AreLines (l ∷ ls) = IsLine l × (l.1 ≡ Eof → (0 < length l.0) × (ls ≡ [])) × AreLines ls
-
--- these lines are the cut of a text: joined they are the text. An empty text has none.
-pub record IsCutOf (text : List ℕ) (ls : List Line) : Type 0 where
-  pub whole : joined ls ≡ text
-  pub lines : AreLines ls
-
--- these lines are the lines of a source: its cut, but an empty source has one empty line
-pub record AreLinesOf (source : List ℕ) (ls : List Line) : Type 0 where
-  pub whole : joined ls ≡ source
-  pub lines : (ls ≡ ([], Eof) ∷ []) ⊎ ((0 < length ls) × AreLines ls)
 
 -- a byte other than LF in front of a line: a CR in front of an LF alone becomes part of the line end
 abbrev pub line_with_byte : ℕ → List ℕ → EndLine → Line

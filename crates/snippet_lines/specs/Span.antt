@@ -1,19 +1,8 @@
 -- Which spans of a source are taken, and what is wrong with the others.
-use Rattle.std.specs.Prelude.{◌≡◌, ℕ, ◌+◌, ◌≤◌, ◌⊎◌, nat_lt, nat_le, ◌==◌, ◌&&◌, ◌||◌, Bool, List, Option, Some, None, length, slice_index, if◌then◌else◌}
-use Rattle.std.specs.Str.{IsCharBoundary}
+use Rattle.std.specs.Prelude.{ℕ, ◌+◌, nat_lt, nat_le, ◌==◌, ◌&&◌, ◌||◌, Bool, List, Option, Some, None, length, slice_index}
+use Rattle.std.specs.Prelude.{if◌then◌else◌}
 use Rattle.snippet_lines.specs.declared.span.SpanFault.{SpanFault}
 use Rattle.snippet_lines.specs.declared.span.SpanFault.TheVariants.{Reversed, PastEnd, OffBoundary}
-
--- a span may start and end where a character of the source starts or ends, and one byte after the source
-abbrev pub IsSpanBorder : List ℕ → ℕ → Type 0
-IsSpanBorder source b = IsCharBoundary source b ⊎ (b ≡ length source + 1)
-
--- a span that is taken
-pub record IsSpan (source : List ℕ) (start end : ℕ) : Type 0 where
-  pub ordered : start ≤ end
-  pub within : end ≤ length source + 1
-  pub from : IsSpanBorder source start
-  pub to : IsSpanBorder source end
 
 -- whether no character of the source lies across byte b: a byte from 128 to 191 goes on with a character
 abbrev pub is_character_border : List ℕ → ℕ → Bool

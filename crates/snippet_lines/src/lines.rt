@@ -1,6 +1,7 @@
 //! The lines of a text, found one after another.
 ghost use Rattle.std.specs.Prelude.{◌≡◌, ◌≢◌, ◌+◌, ◌<◌, ◌≤◌, ◌⊎◌, List, [], ◌++◌, length};
-ghost use Rattle.snippet_lines.specs.Lines.{Line, end_bytes, line_bytes, last_byte, IsLineWithEnd, IsLine, IsCutOf};
+ghost use Rattle.snippet_lines.specs.Lines.{Line, end_bytes, line_bytes, last_byte};
+ghost use Rattle.snippet_lines.specs.CutLines.{IsLineWithEnd, IsLine, IsCutOf};
 ghost use Rattle.snippet_lines.specs.Lines.{lines_of, newline_count, source_lines};
 
 use crate::counts::newline_count_before;

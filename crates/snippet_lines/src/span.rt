@@ -1,6 +1,7 @@
 //! Spans of a source, and what is wrong with those that are refused.
 ghost use Rattle.std.specs.Prelude.{◌≡◌, ◌↔◌, IsNone};
-ghost use Rattle.snippet_lines.specs.Span.{IsSpan, is_span_border, span_fault};
+ghost use Rattle.snippet_lines.specs.Span.{is_span_border, span_fault};
+ghost use Rattle.snippet_lines.specs.IsSpan.{IsSpan};
 
 use std::ops::Range;
 

@@ -3,7 +3,8 @@ use Rattle.std.proofs.Common.{rules, arith}
 use Rattle.std.proofs.lemmas.Grind.{common_steps}
 use Rattle.snippet_model.specs.declared.snippet.Annotation.{Annotation}
 use Rattle.snippet_model.specs.declared.snippet.Patch.{Patch}
-use Rattle.snippet_model.specs.Same.{SameAnnotation, SamePatch}
+use Rattle.snippet_model.specs.Same.{SamePatch}
+use Rattle.snippet_model.specs.Copies.{SameAnnotation}
 use Rattle.snippet_model.specs.contracts.snippet.AnnotationClone.TheImpl as annotation
 use Rattle.snippet_model.specs.contracts.snippet.PatchClone.TheImpl as patch
 

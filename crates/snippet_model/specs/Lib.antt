@@ -8,6 +8,7 @@ pub mod LevelTies
 pub mod OptionCow
 pub mod FreeRows
 pub mod Same
+pub mod Copies
 pub mod Source
 pub mod StandardName
 pub mod Trusted

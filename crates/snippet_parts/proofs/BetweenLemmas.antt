@@ -10,7 +10,7 @@ use Rattle.snippet_parts.specs.Between.{lines_between}
 use Rattle.snippet_parts.specs.Kept.{keeps, shown_lines, with_between}
 use Rattle.snippet_lines.specs.Lines.{Source, source_lines, text_at, line_at}
 use Rattle.snippet_parts.specs.Mark.{is_marking, touches}
-use Rattle.snippet_lines.specs.Span.{IsSpan}
+use Rattle.snippet_lines.specs.IsSpan.{IsSpan}
 use Rattle.snippet_parts.proofs.KeptPartLemmas.{none-unkept, unseen-unkept}
 use Rattle.snippet_parts.proofs.ShownLemmas.{same-kept}
 

@@ -31,7 +31,7 @@ use Rattle.snippet_parts.specs.Mark.{is_marking, is_single_line, touches, is_mar
 use Rattle.snippet_parts.specs.Marked.{first_line, last_line}
 use Rattle.snippet_parts.specs.Entries.{is_single_part, is_wide_entry}
 use Rattle.snippet_lines.specs.Place.{locations_of, place_of}
-use Rattle.snippet_lines.specs.Span.{IsSpan}
+use Rattle.snippet_lines.specs.IsSpan.{IsSpan}
 use Rattle.snippet_parts.proofs.DepthLemmas.{depths-within}
 use Rattle.snippet_parts.proofs.RawDepthLemmas.{same-true}
 use Rattle.snippet_parts.proofs.KeptPartLemmas.{lines_ordered}

@@ -13,7 +13,7 @@ use Rattle.snippet_parts.specs.Kept.{has_bar, is_trivial_line, keeps}
 use Rattle.snippet_lines.specs.Lines.{Source, source_lines}
 use Rattle.snippet_parts.specs.Mark.{is_marking, touches}
 use Rattle.snippet_parts.specs.Marked.{first_line, last_line}
-use Rattle.snippet_lines.specs.Span.{IsSpan}
+use Rattle.snippet_lines.specs.IsSpan.{IsSpan}
 use Rattle.snippet_parts.proofs.MarkLemmas.{start-line, end-line, entry_of-line}
 use Rattle.snippet_parts.proofs.PartLemmas.{HoldsOfSpan, IsBarLine, bar_lines-stand, filter-none, made-all}
 use Rattle.snippet_lines.proofs.PlaceLemmas.{line_of-mono, line_of-within}

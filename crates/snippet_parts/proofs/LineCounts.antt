@@ -9,7 +9,7 @@ use Rattle.std.proofs.lemmas.List.Elements.{All-head, All-map, All-tail, All-wea
 use Rattle.std.proofs.lemmas.List.Sums.{count_by-le-length, length-filter, sum_by-append, sum_by-cons}
 use Rattle.snippet_lines.specs.Lines.{Source}
 use Rattle.snippet_lines.specs.OrderedBy.{ordered_by, put_in}
-use Rattle.snippet_lines.specs.Span.{IsSpan}
+use Rattle.snippet_lines.specs.IsSpan.{IsSpan}
 use Rattle.snippet_model.specs.declared.snippet.Annotation.{Annotation}
 use Rattle.snippet_model.specs.declared.snippet.AnnotationKind.TheVariants.{Primary}
 use Rattle.snippet_parts.specs.declared.entries.LineAnnotation.{LineAnnotation}

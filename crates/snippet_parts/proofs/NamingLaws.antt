@@ -15,7 +15,7 @@ use Rattle.snippet_model.specs.declared.snippet.AnnotationKind.TheVariants.{Prim
 use Rattle.snippet_lines.specs.declared.place.Loc.{Loc}
 use Rattle.snippet_lines.specs.Lines.{Line, Source, source_lines, start_of, text_at}
 use Rattle.snippet_lines.specs.Place.{line_of, location_of, place_of, prefix_at, start_location, steps_after_text}
-use Rattle.snippet_lines.specs.Span.{IsSpan, IsSpanBorder}
+use Rattle.snippet_lines.specs.IsSpan.{IsSpan, IsSpanBorder}
 use Rattle.snippet_lines.proofs.LinesLemmas.{IsUtf8-text_at}
 use Rattle.snippet_lines.proofs.PlaceLemmas.{IsCharBoundary-prefix, line_of-mono, line_of-within, locations_of-start, place_of-character, start_location-line}
 use Rattle.snippet_parts.specs.declared.entries.LineAnnotation.{LineAnnotation}

@@ -24,7 +24,7 @@ use Rattle.snippet_parts.specs.Mark.{is_marking, touches}
 use Rattle.snippet_parts.specs.Marked.{first_line, last_line}
 use Rattle.snippet_parts.specs.OnLine.{numbers_of_lines, AreEntriesOn, seen_kept}
 use Rattle.snippet_lines.specs.Place.{locations_of, start_location, end_location, location_of}
-use Rattle.snippet_lines.specs.Span.{IsSpan}
+use Rattle.snippet_lines.specs.IsSpan.{IsSpan}
 use Rattle.snippet_parts.specs.LineStretches.{is_seen}
 use Rattle.snippet_parts.proofs.RawDepthLemmas.{same-true, same-refl}
 use Rattle.snippet_parts.proofs.EntryFacts.{each-line, entries-parts_on, longs-off, singles-on}

@@ -2,7 +2,8 @@
 use Rattle.std.proofs.Common.{◌≡◌, ℕ, zero, suc, ◌+◌, ◌-◌, ◌<◌, ◌≤◌, List, [], ◌∷◌, inl, inr, length, take, drop, refl, sym, ap, ◌∙◌, ⊎_elim, arith}
 use Rattle.std.proofs.lemmas.List.{drop_at, length-drop, length-take, take-append-drop, take_at}
 use Rattle.std.proofs.lemmas.List.Concat.{flat_map-append}
-use Rattle.snippet_lines.specs.Lines.{Line, line_bytes, joined, AreLines, AreLinesOf, source_lines, start_of}
+use Rattle.snippet_lines.specs.Lines.{Line, line_bytes, joined, source_lines, start_of}
+use Rattle.snippet_lines.specs.CutLines.{AreLines, AreLinesOf}
 use Rattle.snippet_lines.proofs.LinesLemmas.{AreLinesOf-source_lines, joined-source_lines, source_lines-only}
 use Rattle.snippet_parts.proofs.TableLemmas.{start_of-drop}
 

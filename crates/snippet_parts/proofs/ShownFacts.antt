@@ -9,7 +9,7 @@ use Rattle.snippet_parts.specs.Entries.{Ascends}
 use Rattle.snippet_parts.specs.Kept.{keeps, kept_lines, shown_lines, with_between}
 use Rattle.snippet_lines.specs.Lines.{source_lines}
 use Rattle.snippet_parts.specs.Marked.{first_line, last_line}
-use Rattle.snippet_lines.specs.Span.{IsSpan}
+use Rattle.snippet_lines.specs.IsSpan.{IsSpan}
 use Rattle.snippet_parts.proofs.BetweenLemmas.{rest_between, between-rest}
 use Rattle.snippet_parts.proofs.KeptPartLemmas.{any-member, keeps-first, keeps-last}
 use Rattle.snippet_lines.proofs.PlaceLemmas.{line_of-within}

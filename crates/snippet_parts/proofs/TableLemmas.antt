@@ -14,7 +14,7 @@ use Rattle.snippet_lines.specs.Lines.{Line, line_bytes, joined, source_lines, te
 use Rattle.snippet_text.specs.Width.{width_of}
 use Rattle.snippet_lines.specs.declared.place.Loc.{Loc}
 use Rattle.snippet_lines.specs.Place.{HoldsByte, line_of, place_of, prefix_at, location_of, steps_after_text}
-use Rattle.snippet_lines.specs.Span.{IsSpanBorder}
+use Rattle.snippet_lines.specs.IsSpan.{IsSpanBorder}
 use Rattle.std.specs.Str.{IsCharBoundary, IsUtf8, chars}
 use Rattle.snippet_parts.specs.LineTable.{LineEntry, IsLineTable, table_entry, entry_at}
 use Rattle.snippet_lines.specs.Starts.{starts_from, line_starts}

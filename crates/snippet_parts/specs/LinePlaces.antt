@@ -2,7 +2,7 @@
 use Rattle.std.specs.Prelude.{◌≡◌}
 use Rattle.snippet_lines.specs.Lines.{Source, source_lines}
 use Rattle.snippet_lines.specs.Place.{line_of, location_of}
-use Rattle.snippet_lines.specs.Span.{IsSpanBorder}
+use Rattle.snippet_lines.specs.IsSpan.{IsSpanBorder}
 use Rattle.snippet_parts.specs.LineTable.{entry_at, table_entry}
 use Rattle.snippet_text.specs.TextBounds.{TextFits}
 use Rattle.snippet_parts.specs.declared.line_place.LinePlace.{LinePlace}

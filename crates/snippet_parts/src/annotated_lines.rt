@@ -8,7 +8,7 @@ ghost use Rattle.snippet_parts.specs.OnLine.{seen_kept};
 ghost use Rattle.snippet_parts.specs.declared.entries.LineAnnotation.{LineAnnotation};
 ghost use Rattle.snippet_parts.specs.KeptEntries.{line_with};
 ghost use Rattle.snippet_lines.specs.Lines.{source_lines, text_at};
-ghost use Rattle.snippet_lines.specs.Span.{IsSpan};
+ghost use Rattle.snippet_lines.specs.IsSpan.{IsSpan};
 ghost use Rattle.snippet_parts.specs.Located.{HasTextLabel, IsLocated, annotations_of};
 
 use crate::entries::{AnnotatedLineInfo, LineAnnotation};

@@ -7,7 +7,7 @@ ghost use Rattle.snippet_parts.specs.OnLine.{seen_kept};
 ghost use Rattle.snippet_parts.specs.Between as spec;
 ghost use Rattle.snippet_parts.specs.Kept.{shown_lines};
 ghost use Rattle.snippet_parts.specs.ShownLines.{infos_of, kept_of};
-ghost use Rattle.snippet_lines.specs.Span.{IsSpan};
+ghost use Rattle.snippet_lines.specs.IsSpan.{IsSpan};
 ghost use Rattle.snippet_text.specs.TextBounds.{TextFits};
 
 use crate::entries::AnnotatedLineInfo;

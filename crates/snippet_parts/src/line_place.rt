@@ -1,7 +1,7 @@
 //! Places of bytes, each looked for from one that is known.
 ghost use Rattle.std.specs.Prelude.{◌≡◌, IfSome};
 ghost use Rattle.snippet_lines.specs.Place.{locations_of};
-ghost use Rattle.snippet_lines.specs.Span.{IsSpan, IsSpanBorder};
+ghost use Rattle.snippet_lines.specs.IsSpan.{IsSpan, IsSpanBorder};
 ghost use Rattle.snippet_parts.specs.LinePlaces.{IsLinePlace};
 ghost use Rattle.snippet_style.specs.Bounds.{IsSourceColumn, IsSourceEnd};
 ghost use Rattle.snippet_text.specs.TextBounds.{IsInText, IsOffset};

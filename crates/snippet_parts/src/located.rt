@@ -3,7 +3,7 @@ ghost use Rattle.std.specs.Prelude.{◌≡◌, ◌<◌, ◌≤◌, All, IfOk, If
 ghost use Rattle.std.specs.Cow.{cow_str_bytes};
 ghost use Rattle.std.specs.Str.{IsUtf8};
 ghost use Rattle.snippet_lines.specs.Lines.{source_lines};
-ghost use Rattle.snippet_lines.specs.Span.{IsSpan};
+ghost use Rattle.snippet_lines.specs.IsSpan.{IsSpan};
 ghost use Rattle.snippet_parts.specs.LinePlaces.{IsLinePlace};
 ghost use Rattle.snippet_parts.specs.Located.{AreBars, HasTextLabel, IsLocated, annotations_of};
 ghost use Rattle.snippet_parts.specs.Mark as mark;

@@ -3,7 +3,7 @@ ghost use Rattle.std.specs.Prelude.{◌≡◌, ℕ, Bool, List, All, IfSome, map
 ghost use Rattle.std.specs.Option.{option_map};
 ghost use Rattle.std.specs.Str.{IsUtf8};
 ghost use Rattle.snippet_lines.specs.Lines.{Source};
-ghost use Rattle.snippet_lines.specs.Span.{IsSpan};
+ghost use Rattle.snippet_lines.specs.IsSpan.{IsSpan};
 ghost use Rattle.snippet_parts.specs.Annotated.{annotated_lines};
 ghost use Rattle.snippet_parts.specs.Mark.{is_marking};
 ghost use Rattle.snippet_parts.specs.Least.{least};

@@ -4,7 +4,7 @@ ghost use Rattle.std.specs.Option.{IfNone};
 ghost use Rattle.snippet_model.specs.declared.snippet.AnnotationKind.TheVariants.{Primary, Context};
 ghost use Rattle.snippet_parts.specs.Mark.{start_column, end_column, span_width, is_marking, is_marked_on, IsMarkedAt};
 ghost use Rattle.snippet_parts.specs.Mark.{IsMarkOf};
-ghost use Rattle.snippet_lines.specs.Span.{IsSpan};
+ghost use Rattle.snippet_lines.specs.IsSpan.{IsSpan};
 
 use crate::location::is_marking;
 use crate::source_map::SourceMap;

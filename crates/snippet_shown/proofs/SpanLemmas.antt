@@ -9,7 +9,8 @@ use Rattle.std.specs.Str.{IsCharBoundary, IsUtf8}
 use Rattle.snippet_lines.proofs.BoundsLemmas.{IsCharBoundary-start_of, line_bytes-slice}
 use Rattle.snippet_lines.proofs.LinesLemmas.{AreLinesOf-source_lines, joined-source_lines, last_byte-push, start_of-end, start_of-le, start_of-next}
 use Rattle.snippet_lines.proofs.PlaceLemmas.{HoldsByte-source, line_of-is, line_of-start, start_of-inside}
-use Rattle.snippet_lines.specs.Lines.{AreLines, AreLinesOf, Line, Source, last_byte, line_bytes, source_lines, start_of}
+use Rattle.snippet_lines.specs.Lines.{Line, Source, last_byte, line_bytes, source_lines, start_of}
+use Rattle.snippet_lines.specs.CutLines.{AreLines, AreLinesOf}
 use Rattle.snippet_lines.specs.declared.lines.EndLine.{EndLine}
 use Rattle.snippet_lines.specs.declared.lines.EndLine.TheVariants.{Eof, Lf, Crlf}
 use Rattle.snippet_lines.specs.Place.{HoldsByte, line_of}

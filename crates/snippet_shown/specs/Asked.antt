@@ -2,7 +2,7 @@
 use Rattle.std.specs.Prelude.{◌+◌, All, ℕ, ◌≤◌, ◌-◌, ◌&&◌, nat_le, Bool, true, List, [], ◌∷◌, if◌then◌else◌}
 use Rattle.std.specs.Cow.{cow_str_bytes}
 use Rattle.snippet_lines.specs.Lines.{newline_count}
-use Rattle.snippet_lines.specs.Span.{IsSpan}
+use Rattle.snippet_lines.specs.IsSpan.{IsSpan}
 use Rattle.snippet_model.specs.declared.snippet.Annotation.{Annotation}
 use Rattle.snippet_model.specs.declared.snippet.Element.{Element}
 use Rattle.snippet_model.specs.declared.snippet.Element.TheVariants.{Message, Cause, Suggestion, Origin, Padding}

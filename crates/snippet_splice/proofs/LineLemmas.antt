@@ -7,7 +7,8 @@ use Rattle.std.proofs.lemmas.Bool.{cases_Bool, cond-true, cond-false, eqb-true, 
 use Rattle.std.specs.List.{slice_range}
 use Rattle.snippet_lines.specs.declared.lines.EndLine.{EndLine}
 use Rattle.snippet_lines.specs.declared.lines.EndLine.TheVariants.{Eof, Lf, Crlf}
-use Rattle.snippet_lines.specs.Lines.{Line, AreLines, line_bytes, end_bytes, joined, lines_of, with_first_byte, source_lines, start_of, last_byte, is_lf}
+use Rattle.snippet_lines.specs.Lines.{Line, line_bytes, end_bytes, joined, lines_of, with_first_byte, source_lines, start_of, last_byte, is_lf}
+use Rattle.snippet_lines.specs.CutLines.{AreLines}
 use Rattle.snippet_lines.specs.Place.{line_of}
 use Rattle.snippet_lines.proofs.LinesLemmas.{AreLinesOf-source_lines, lines_of-append, lines_of-joined, last_byte-cons}
 use Rattle.snippet_lines.proofs.PlaceLemmas.{line_of-within}

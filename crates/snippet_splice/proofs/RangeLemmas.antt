@@ -9,7 +9,8 @@ use Rattle.std.proofs.lemmas.Bool.{cond-false, ne_eqb}
 use Rattle.std.specs.List.{slice_range}
 use Rattle.snippet_lines.specs.declared.lines.EndLine.{EndLine}
 use Rattle.snippet_lines.specs.declared.lines.EndLine.TheVariants.{Eof, Lf, Crlf}
-use Rattle.snippet_lines.specs.Lines.{Line, IsLine, AreLines, line_bytes, end_bytes, joined, source_lines, start_of, is_lf}
+use Rattle.snippet_lines.specs.Lines.{Line, line_bytes, end_bytes, joined, source_lines, start_of, is_lf}
+use Rattle.snippet_lines.specs.CutLines.{IsLine, AreLines}
 use Rattle.snippet_lines.specs.Place.{line_of}
 use Rattle.snippet_lines.proofs.LinesLemmas.{AreLinesOf-source_lines, joined-source_lines}
 use Rattle.snippet_lines.proofs.PlaceLemmas.{line_of-within}

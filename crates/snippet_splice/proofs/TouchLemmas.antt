@@ -9,7 +9,8 @@ use Rattle.std.proofs.lemmas.List.Elements.{All-nil, All-cons, All-take, All-pus
 use Rattle.std.proofs.lemmas.Bool.{cases_lt}
 use Rattle.std.specs.List.{slice_range}
 use Rattle.snippet_lines.specs.declared.lines.EndLine.TheVariants.{Eof}
-use Rattle.snippet_lines.specs.Lines.{Line, line_bytes, lines_of, source_lines, start_of, text_at, last_byte, is_lf, IsLineWithEnd}
+use Rattle.snippet_lines.specs.Lines.{Line, line_bytes, lines_of, source_lines, start_of, text_at, last_byte, is_lf}
+use Rattle.snippet_lines.specs.CutLines.{IsLineWithEnd}
 use Rattle.snippet_lines.proofs.LinesLemmas.{text_at-stands, start_of-next, start_of-end, joined-source_lines, split_last, newline_count-open}
 use Rattle.snippet_lines.proofs.LinesLemmas.{length-source_lines, source_lines-some, last_byte-push}
 use Rattle.snippet_lines.proofs.PlaceLemmas.{text_at-end}

@@ -2,7 +2,7 @@
 use Rattle.std.specs.Prelude.{◌≡◌, ◌≢◌, ℕ, ◌+◌, ◌<◌, ◌≤◌, Bool, List, [], All, length, map}
 use Rattle.std.specs.String.{string_bytes}
 use Rattle.snippet_lines.specs.Lines.{lines_of, source_lines, text_at}
-use Rattle.snippet_lines.specs.Span.{IsSpan}
+use Rattle.snippet_lines.specs.IsSpan.{IsSpan}
 use Rattle.snippet_splice.specs.declared.splice.SplicedLines.{SplicedLines}
 use Rattle.snippet_splice.specs.Copied.{written_ranges}
 use Rattle.snippet_splice.specs.Edits.{Edit, edited_from, in_order, patched, trimmed_edits}

@@ -4,7 +4,7 @@ ghost use Rattle.std.specs.Prelude.{slice_index, true, if◌then◌else◌};
 ghost use Rattle.std.specs.String.{string_bytes};
 ghost use Rattle.std.specs.Str.{IsCharBoundary};
 ghost use Rattle.snippet_lines.specs.Lines.{is_lf, last_byte};
-ghost use Rattle.snippet_lines.specs.Span.{IsSpanBorder};
+ghost use Rattle.snippet_lines.specs.IsSpan.{IsSpanBorder};
 ghost use Rattle.snippet_splice.specs.Copied.{in_text, with_line_feeds, copied};
 
 use memchr::memchr;

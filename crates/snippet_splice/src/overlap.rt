@@ -1,7 +1,7 @@
 //! Patches that overlap.
 ghost use Rattle.std.specs.Prelude.{◌≡◌, ◌↔◌, ℕ, ◌<◌, ◌+◌, ◌≤◌, true, false, map, All, IfSome, IfNone, IsNone, length};
 ghost use Rattle.std.specs.Prelude.{slice_index_or};
-ghost use Rattle.snippet_lines.specs.Span.{IsSpan};
+ghost use Rattle.snippet_lines.specs.IsSpan.{IsSpan};
 ghost use Rattle.snippet_splice.specs.Edits.{edit_of};
 ghost use Rattle.snippet_splice.specs.Overlap.{overlap};
 ghost use Rattle.snippet_splice.specs.FirstOverlap.{overlap_at, IsFirstOverlap, AreDisjoint, no_edit};

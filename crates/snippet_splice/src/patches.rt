@@ -1,7 +1,7 @@
 //! Patches trimmed to what they change, in order.
 ghost use Rattle.std.specs.Prelude.{◌≡◌, map, All, IfOk};
 ghost use Rattle.std.specs.Ordering.{nat_cmp, ordering_then};
-ghost use Rattle.snippet_lines.specs.Span.{IsSpan};
+ghost use Rattle.snippet_lines.specs.IsSpan.{IsSpan};
 ghost use Rattle.snippet_splice.specs.Edits.{edit_of, trimmed_edit, trimmed_edits, in_order, edited_from, patched};
 ghost use Rattle.snippet_splice.specs.TrimmedEdits.{trimmed_edit_of, edit_bounds, original_bounds_of, AreApart};
 

@@ -3,7 +3,7 @@ ghost use Rattle.std.specs.Prelude.{◌≡◌, ◌↔◌, ◌+◌, ◌<◌, [], 
 ghost use Rattle.std.specs.Prelude.{◌≤◌, ◌*◌};
 ghost use Rattle.std.specs.String.{string_bytes};
 ghost use Rattle.snippet_lines.specs.Lines.{source_lines, text_at};
-ghost use Rattle.snippet_lines.specs.Span.{IsSpan, IsSpanBorder};
+ghost use Rattle.snippet_lines.specs.IsSpan.{IsSpan, IsSpanBorder};
 ghost use Rattle.snippet_splice.specs.Edits.{edit_of};
 ghost use Rattle.snippet_splice.specs.Copied.{written_from, written_ranges, end_from};
 ghost use Rattle.snippet_splice.specs.Splice.{IsSplice};

@@ -4,7 +4,7 @@ ghost use Rattle.std.specs.Prelude.{count_by, length, map, max, ◌+◌, if◌th
 ghost use Rattle.std.specs.List.{slice_range, slice_split};
 ghost use Rattle.std.specs.Str.{IsUtf8};
 ghost use Rattle.snippet_lines.specs.Lines.{is_lf};
-ghost use Rattle.snippet_lines.specs.Span.{IsSpan, IsSpanBorder};
+ghost use Rattle.snippet_lines.specs.IsSpan.{IsSpan, IsSpanBorder};
 ghost use Rattle.snippet_splice.specs.Copied.{in_text};
 ghost use Rattle.snippet_splice.specs.EditStretches.{after_last_lf, capped, characters_before, end_character};
 ghost use Rattle.snippet_splice.specs.EditStretches.{extents_from};

@@ -18,7 +18,7 @@ use Rattle.snippet_grid.specs.Layout.{Layout}
 use Rattle.snippet_labels.specs.declared.positions.PlacedEntry.{PlacedEntry}
 use Rattle.snippet_strokes.specs.EntryMarks.{IsBarCell}
 use Rattle.snippet_strokes.proofs.PlainEntries.{is_single}
-use Rattle.snippet_strokes.specs.Drawing.{HasRows}
+use Rattle.snippet_strokes.specs.Places.{HasRows}
 use Rattle.snippet_strokes.proofs.DrawnCells.{DrawsBarCells, DrawsFrom, KeepsBarCells}
 use Rattle.snippet_strokes.specs.Strokes.{connector_of, corner_of}
 use Rattle.snippet_strokes.specs.PaintedStrokes.{connectors_of, corners_of}

@@ -24,7 +24,8 @@ use Rattle.snippet_labels.specs.declared.positions.PlacedEntry.{PlacedEntry}
 use Rattle.snippet_strokes.specs.EntryMarks.{IsBarCell}
 use Rattle.snippet_strokes.proofs.PlainEntries.{are_plain, has_column, is_single, wide_entries}
 use Rattle.snippet_model.specs.FreeRows.{IsFreeCell, IsFree}
-use Rattle.snippet_strokes.specs.Drawing.{HasRows, row_count}
+use Rattle.snippet_strokes.specs.Drawing.{row_count}
+use Rattle.snippet_strokes.specs.Places.{HasRows}
 use Rattle.snippet_strokes.specs.SourceRows.{bare_row}
 use Rattle.snippet_strokes.proofs.SeenRows.{IsCut, IsStrokeRow}
 use Rattle.snippet_style.specs.Separators.{separator_row}

@@ -22,7 +22,8 @@ use Rattle.snippet_grid.proofs.GridLemmas.{cells_written_last}
 use Rattle.snippet_style.proofs.CellLemmas.{length-text_cells, length-written}
 use Rattle.snippet_text.specs.Normalized.{is_listed, norm}
 use Rattle.snippet_model.specs.FreeRows.{IsFree}
-use Rattle.snippet_strokes.specs.SourceRows.{begun_cells, ended_cells, window_cells, with_cells}
+use Rattle.snippet_strokes.specs.SourceRows.{window_cells, with_cells}
+use Rattle.snippet_strokes.specs.BegunRow.{begun_cells, ended_cells}
 use Rattle.snippet_model.proofs.RowLemmas.{free_drawn, free_written}
 use Rattle.snippet_grid.proofs.GridShown.{chars_some}
 

@@ -30,7 +30,8 @@ use Rattle.snippet_strokes.specs.Bars.{Bar, bar_at, bars_apart, ends_of_bars, is
 use Rattle.snippet_strokes.proofs.OneStep.{with_bar}
 use Rattle.snippet_strokes.specs.DrawnBars.{HasOwnDepth, bar_of, has_depth, is_whole_line, bar_cell_part}
 use Rattle.snippet_strokes.proofs.BarParts.{with_parts}
-use Rattle.snippet_strokes.specs.Drawing.{HasRows, row_count}
+use Rattle.snippet_strokes.specs.Drawing.{row_count}
+use Rattle.snippet_strokes.specs.Places.{HasRows}
 use Rattle.snippet_strokes.specs.EndBars.{BarEnds}
 use Rattle.snippet_strokes.proofs.BarFacts.{BarBegins, BeginsBelow}
 use Rattle.snippet_strokes.proofs.LineFacts.{AreLineRows, StrokesPainted}

@@ -11,7 +11,7 @@ use Rattle.snippet_labels.specs.declared.positions.PlacedEntry.{PlacedEntry}
 use Rattle.snippet_labels.specs.PlacedEntries.{label_role}
 use Rattle.snippet_labels.proofs.LabelWords.{label_text}
 use Rattle.snippet_strokes.specs.EntryMarks.{is_mark_role}
-use Rattle.snippet_strokes.specs.Drawing.{HasRows}
+use Rattle.snippet_strokes.specs.Places.{HasRows}
 use Rattle.snippet_strokes.proofs.DrawnCells.{DrawsFrom, MarksStarts, StandsFrom}
 use Rattle.snippet_labels.specs.Positions.{has_label}
 use Rattle.snippet_strokes.specs.Writes.{Write, painted}

@@ -13,7 +13,8 @@ use Rattle.snippet_parts.specs.declared.entries.LineAnnotation.{LineAnnotation}
 use Rattle.snippet_labels.specs.declared.positions.PlacedEntry.{PlacedEntry}
 use Rattle.snippet_labels.specs.Positions.{has_label, takes_space, has_stem, is_start_part, are_starts, crosses, position_at}
 use Rattle.snippet_labels.specs.Positions.{position_after, positions, line_positions, label_place, look_counts, looked_after}
-use Rattle.snippet_strokes.specs.Drawing.{row_count, HasRows}
+use Rattle.snippet_strokes.specs.Drawing.{row_count}
+use Rattle.snippet_strokes.specs.Places.{HasRows}
 use Rattle.snippet_parts.specs.Least.{greatest}
 use Rattle.snippet_strokes.specs.PaintedStrokes.{lowest_position}
 use Rattle.snippet_labels.specs.Placing.{ArePlaced, HasPlace}

@@ -16,7 +16,8 @@ use Rattle.snippet_strokes.specs.Writes.{painted}
 use Rattle.snippet_strokes.proofs.LineRowLemmas.{rows_cut}
 use Rattle.snippet_strokes.proofs.MarkWriteLemmas.{Painted-marks}
 use Rattle.snippet_strokes.specs.Drawable.{AreDrawable, IsReady, HasBarCell}
-use Rattle.snippet_strokes.specs.Drawing.{AreEnough, HasPlaceAmong, HasRows, row_count}
+use Rattle.snippet_strokes.specs.Drawing.{row_count}
+use Rattle.snippet_strokes.specs.Places.{AreEnough, HasPlaceAmong, HasRows}
 use Rattle.snippet_strokes.proofs.LineFacts.{StrokesPainted}
 use Rattle.snippet_strokes.specs.Strokes.{is_uncut}
 use Rattle.snippet_strokes.specs.PaintedStrokes.{connectors_of, corners_of, labels_of}

@@ -20,7 +20,8 @@ use Rattle.snippet_labels.specs.declared.positions.PlacedEntry.{PlacedEntry}
 use Rattle.snippet_strokes.specs.Cuts.{overlapped}
 use Rattle.snippet_strokes.proofs.StrokeWords.{cut_row}
 use Rattle.snippet_strokes.proofs.CutWords.{cuts_of}
-use Rattle.snippet_strokes.specs.Drawing.{HasRows, row_count}
+use Rattle.snippet_strokes.specs.Drawing.{row_count}
+use Rattle.snippet_strokes.specs.Places.{HasRows}
 use Rattle.snippet_strokes.specs.Painting.{painting_order, stroke_role}
 use Rattle.snippet_strokes.specs.SourceRows.{bare_row}
 use Rattle.snippet_strokes.specs.Strokes.{column_of, connector_of, corner_of, label_of}

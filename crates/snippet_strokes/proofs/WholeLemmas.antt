@@ -9,7 +9,8 @@ use Rattle.snippet_style.specs.declared.role.ElementStyle.TheVariants.{Quotation
 use Rattle.snippet_style.specs.Glyphs.{placeholder_of}
 use Rattle.snippet_style.specs.Cell.{Cell, text_cells}
 use Rattle.snippet_text.specs.Width.{width_of}
-use Rattle.snippet_strokes.specs.SourceRows.{begun_cells, ended_cells, window_cells}
+use Rattle.snippet_strokes.specs.SourceRows.{window_cells}
+use Rattle.snippet_strokes.specs.BegunRow.{begun_cells, ended_cells}
 use Rattle.snippet_window.proofs.LineWindowLemmas.{reaching-none, fitting_all}
 
 -- a window with no bound on the left begins at column 0

@@ -10,7 +10,8 @@ use Rattle.snippet_style.specs.declared.role.ElementStyle.TheVariants.{LineNumbe
 use Rattle.snippet_style.specs.Glyphs.{placeholder_of}
 use Rattle.snippet_style.specs.Cell.{Cell, SPACE, text_cells, written}
 use Rattle.snippet_grid.specs.Print.{row_text}
-use Rattle.snippet_strokes.specs.SourceRows.{begun_cells, ended_cells, window_cells}
+use Rattle.snippet_strokes.specs.SourceRows.{window_cells}
+use Rattle.snippet_strokes.specs.BegunRow.{begun_cells, ended_cells}
 use Rattle.snippet_grid.proofs.RowLemmas.{row_text-text_cells}
 use Rattle.snippet_strokes.proofs.CellLemmas.{above_zero}
 

@@ -3,6 +3,7 @@ pub mod CellRows
 pub mod Cuts
 pub mod Drawable
 pub mod Drawing
+pub mod Places
 pub mod DrawnStems
 pub mod EndBars
 pub mod EntryMarks
@@ -13,6 +14,7 @@ pub mod Painting
 pub mod StrokeRows
 pub mod Snippet
 pub mod SourceRows
+pub mod BegunRow
 pub mod Strokes
 pub mod Writes
 pub mod DrawnBars

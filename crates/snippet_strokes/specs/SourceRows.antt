@@ -1,5 +1,5 @@
 -- The source row of a line, and the rows below it before any stroke is drawn.
-use Rattle.std.specs.Prelude.{ℕ, Bool, Option, List, [], ◌∷◌, if◌then◌else◌}
+use Rattle.std.specs.Prelude.{ℕ, Bool, List, [], ◌∷◌, if◌then◌else◌}
 use Rattle.snippet_window.specs.declared.margin.Margin.{Margin}
 use Rattle.snippet_window.specs.Window.{inner_part, covered_columns, uncovered_part, covered_end}
 use Rattle.snippet_style.specs.declared.glyphs.DecorStyle.{DecorStyle}
@@ -37,14 +37,3 @@ window_cells decor margin text =
 abbrev pub source_row : Layout → List ℕ → List Cell → List Cell
 source_row layout shown cells =
     with_cells layout.code cells (written SPACE (separator_row layout.decor layout.gutter) 0 (text_cells LineNumber shown))
-
--- ---- how the code writes a window
-
--- its cells before its end is cut: the placeholder begins them, if lines are cut on the left
-abbrev pub begun_cells : DecorStyle → Option ℕ → List ℕ → List Cell
-begun_cells decor start text =
-    option_map_or (λ columns. with_cells columns (text_cells Quotation text) (text_cells LineNumber (placeholder_of decor))) start (text_cells Quotation text)
-
--- the same cells with the placeholder over their end, from this one on, if the line is cut on the right
-abbrev pub ended_cells : DecorStyle → Option ℕ → List Cell → List Cell
-ended_cells decor end cells = option_map_or (λ at. written SPACE cells at (text_cells LineNumber (placeholder_of decor))) end cells

@@ -1,6 +1,6 @@
 //! The lines that lead from the ends of spans of several lines to their bars.
 ghost use Rattle.std.specs.Prelude.{◌≡◌, ◌+◌, ◌<◌, All, OnOk, length};
-ghost use Rattle.snippet_strokes.specs.Drawing.{HasPlaceAmong};
+ghost use Rattle.snippet_strokes.specs.Places.{HasPlaceAmong};
 ghost use Rattle.snippet_strokes.specs.Strokes.{connector_of};
 ghost use Rattle.snippet_strokes.specs.PaintedStrokes.{connectors_of};
 ghost use Rattle.snippet_strokes.specs.Drawable.{HasBarCell};

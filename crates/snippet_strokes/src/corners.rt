@@ -1,6 +1,6 @@
 //! The bars of spans of several lines, beside the lines on which they begin and end.
 ghost use Rattle.std.specs.Prelude.{◌≡◌, ◌+◌, ◌-◌, ◌<◌, ◌≤◌, ◌++◌, ◌∷◌, [], All, OnOk, length};
-ghost use Rattle.snippet_strokes.specs.Drawing.{HasRows};
+ghost use Rattle.snippet_strokes.specs.Places.{HasRows};
 ghost use Rattle.snippet_strokes.specs.Strokes.{column_of, corner_of};
 ghost use Rattle.snippet_strokes.specs.PaintedStrokes.{corners_of, top_of, tops_of};
 ghost use Rattle.snippet_strokes.specs.Drawable.{HasBarCell};

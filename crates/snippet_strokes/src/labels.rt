@@ -1,7 +1,7 @@
 //! The labels of marks.
 ghost use Rattle.std.specs.Prelude.{◌≡◌, All, OnOk, length};
 ghost use Rattle.snippet_text.specs.Normalized.{normalized_chars};
-ghost use Rattle.snippet_strokes.specs.Drawing.{HasPlaceAmong};
+ghost use Rattle.snippet_strokes.specs.Places.{HasPlaceAmong};
 ghost use Rattle.snippet_labels.specs.Positions as spec;
 ghost use Rattle.snippet_strokes.specs.Strokes.{label_of};
 ghost use Rattle.snippet_strokes.specs.PaintedStrokes.{labels_of};

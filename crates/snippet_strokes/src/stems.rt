@@ -1,7 +1,7 @@
 //! The stems that lead from marks down to their labels, or to the lines to their bars.
 ghost use Rattle.std.specs.Prelude.{◌≡◌, ◌==◌, [], if◌then◌else◌, All, OnOk, length};
 ghost use Rattle.std.specs.List.{flat_map};
-ghost use Rattle.snippet_strokes.specs.Drawing.{HasPlaceAmong};
+ghost use Rattle.snippet_strokes.specs.Places.{HasPlaceAmong};
 ghost use Rattle.snippet_strokes.specs.PaintedStrokes.{foot_glyph};
 ghost use Rattle.snippet_strokes.specs.Writes.{painted};
 ghost use Rattle.snippet_strokes.specs.Strokes.{stem_of};

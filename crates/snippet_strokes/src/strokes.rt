@@ -6,7 +6,7 @@ ghost use Rattle.snippet_strokes.specs.LineRows.{own_rows};
 ghost use Rattle.snippet_style.specs.Cell.{Cell};
 ghost use Rattle.snippet_strokes.specs.Drawing as spec;
 ghost use Rattle.snippet_strokes.specs.PaintedStrokes as painter;
-ghost use Rattle.snippet_strokes.specs.Drawing.{AreEnough, HasRows};
+ghost use Rattle.snippet_strokes.specs.Places.{AreEnough, HasRows};
 ghost use Rattle.snippet_strokes.specs.SourceRows.{bare_row};
 ghost use Rattle.snippet_strokes.specs.Strokes.{line_strokes};
 ghost use Rattle.snippet_strokes.specs.PaintedStrokes.{strokes_under_marks};

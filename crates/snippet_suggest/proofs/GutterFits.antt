@@ -13,7 +13,7 @@ use Rattle.snippet_lines.specs.Lines.{lines_of, source_lines, newline_count, las
 use Rattle.snippet_lines.specs.Number.{number_width, shown_number}
 use Rattle.snippet_lines.specs.declared.number.LineNumbers.{LineNumbers}
 use Rattle.snippet_lines.specs.Place.{line_of}
-use Rattle.snippet_lines.specs.Span.{IsSpan}
+use Rattle.snippet_lines.specs.IsSpan.{IsSpan}
 use Rattle.snippet_lines.proofs.LinesLemmas.{length-source_lines}
 use Rattle.snippet_lines.proofs.NumberLemmas.{length-shown_number, number_width_monotone}
 use Rattle.snippet_lines.proofs.PlaceLemmas.{line_of-mono, line_of-within}

@@ -7,7 +7,7 @@ use Rattle.snippet_model.specs.declared.snippet.Snippet.{Snippet}
 use Rattle.snippet_model.specs.declared.snippet.Patch.{Patch}
 use Rattle.snippet_lines.specs.declared.lines.EndLine.TheVariants.{Eof}
 use Rattle.snippet_lines.specs.Lines.{Line, lines_of, source_lines, text_at}
-use Rattle.snippet_lines.specs.Span.{IsSpan}
+use Rattle.snippet_lines.specs.IsSpan.{IsSpan}
 use Rattle.snippet_splice.specs.Edits.{in_order, patched}
 use Rattle.snippet_splice.specs.Patched.{AreFrom, texts_of}
 use Rattle.snippet_splice.specs.FirstOverlap.{AreDisjoint}

@@ -7,7 +7,7 @@ use Rattle.std.proofs.lemmas.Bool.{and_parts, cases_lt, cond_both, leb-true}
 use Rattle.std.proofs.lemmas.List.{get_or-drop, get_or-take, length-drop, length-take-le}
 use Rattle.std.proofs.lemmas.List.Elements.{All-head, All-map, All-tail}
 use Rattle.std.proofs.lemmas.Str.{IsCharBoundary-end, IsCharBoundary-start}
-use Rattle.snippet_lines.specs.Span.{IsSpan, IsSpanBorder}
+use Rattle.snippet_lines.specs.IsSpan.{IsSpan, IsSpanBorder}
 use Rattle.snippet_lines.proofs.OrderLemmas.{All-put_in}
 use Rattle.snippet_parts.proofs.PartLemmas.{All-unmapped}
 use Rattle.snippet_splice.specs.declared.patches.TrimmedPatch.{TrimmedPatch}

@@ -6,7 +6,7 @@ use Rattle.std.specs.Str.{IsUtf8}
 use Rattle.snippet_model.specs.declared.snippet.Snippet.{Snippet}
 use Rattle.snippet_model.specs.declared.snippet.Patch.{Patch}
 use Rattle.snippet_lines.specs.Lines.{source_lines}
-use Rattle.snippet_lines.specs.Span.{IsSpan}
+use Rattle.snippet_lines.specs.IsSpan.{IsSpan}
 use Rattle.snippet_splice.specs.Edits.{in_order}
 use Rattle.snippet_splice.specs.EditStretches.{new_stretches, replaced_stretches}
 use Rattle.snippet_splice.specs.StretchLines.{line_stretches}

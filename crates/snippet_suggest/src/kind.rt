@@ -5,7 +5,7 @@ ghost use Rattle.std.specs.Option.{option_copied, option_map_or};
 ghost use Rattle.std.specs.Str.{bytes_eq, trim};
 ghost use Rattle.std.specs.String.{string_bytes};
 ghost use Rattle.snippet_lines.specs.Lines.{last_byte, lines_of};
-ghost use Rattle.snippet_lines.specs.Span.{IsSpan};
+ghost use Rattle.snippet_lines.specs.IsSpan.{IsSpan};
 ghost use Rattle.snippet_splice.specs.TrimmedEdits.{trimmed_edit_of};
 ghost use Rattle.snippet_splice.specs.Trim.{sandwich};
 ghost use Rattle.snippet_suggest.specs.Kind.{adds_text, is_under_text, kind_of, text_under};

@@ -7,7 +7,7 @@ ghost use Rattle.snippet_suggest.specs.Marks.{text_width, with_mark, with_marks}
 ghost use Rattle.snippet_suggest.specs.Moves.{AreMoves, shift_of, edits_at};
 ghost use Rattle.snippet_suggest.specs.declared.marks.PatchColumns.{PatchColumns};
 ghost use Rattle.snippet_style.specs.Cell.{Cell};
-ghost use Rattle.snippet_lines.specs.Span.{IsSpan};
+ghost use Rattle.snippet_lines.specs.IsSpan.{IsSpan};
 ghost use Rattle.snippet_style.specs.Bounds.{HasNext};
 
 use crate::kind::{is_addition, is_blank};

@@ -3,7 +3,7 @@ ghost use Rattle.std.specs.Prelude.{◌≡◌, ◌↔◌, ◌+◌, ◌<◌, [], 
 ghost use Rattle.std.specs.String.{string_bytes};
 ghost use Rattle.snippet_lines.specs.Lines.{newline_count, source_lines};
 ghost use Rattle.snippet_lines.specs.Place.{line_of};
-ghost use Rattle.snippet_lines.specs.Span.{IsSpan};
+ghost use Rattle.snippet_lines.specs.IsSpan.{IsSpan};
 ghost use Rattle.snippet_splice.specs.TrimmedEdits.{trimmed_edit_of};
 ghost use Rattle.snippet_suggest.specs.Given.{first_end};
 ghost use Rattle.snippet_suggest.specs.declared.kind.DisplaySuggestion.TheVariants.{Diff, Underline};

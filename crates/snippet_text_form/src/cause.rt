@@ -7,7 +7,7 @@ ghost use Rattle.std.specs.Cow.{cow_str_bytes};
 ghost use Rattle.std.specs.Option.{option_copied, option_map};
 ghost use Rattle.std.specs.Ordering.{nat_cmp, ordering_then};
 ghost use Rattle.snippet_lines.specs.Place.{locations_of};
-ghost use Rattle.snippet_lines.specs.Span.{IsSpan};
+ghost use Rattle.snippet_lines.specs.IsSpan.{IsSpan};
 ghost use Rattle.snippet_text_form.specs.Cause.{cause_form, end_in_file, end_on_line, is_labelled, kind_rank};
 ghost use Rattle.snippet_text_form.specs.Cause.{span_form, span_place, spans_form};
 ghost use Rattle.snippet_parts.specs.Numbered.{numbered_source};

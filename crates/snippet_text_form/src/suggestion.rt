@@ -3,7 +3,8 @@ ghost use Rattle.std.specs.Prelude.{◌≡◌, ◌++◌, Some, chars, IfOk, IsTr
 ghost use Rattle.std.specs.Cow.{cow_str_bytes};
 ghost use Rattle.std.specs.Option.{option_copied, option_map};
 ghost use Rattle.std.specs.Str.{IsCharBoundary};
-ghost use Rattle.snippet_lines.specs.Span.{IsSpan, is_character_border};
+ghost use Rattle.snippet_lines.specs.Span.{is_character_border};
+ghost use Rattle.snippet_lines.specs.IsSpan.{IsSpan};
 ghost use Rattle.snippet_splice.specs.TrimmedEdits.{trimmed_edit_of};
 ghost use Rattle.snippet_splice.specs.ShownText.{without_final_line_feeds};
 ghost use Rattle.snippet_suggest.specs.PreparedSuggestion.{IsPrepared};

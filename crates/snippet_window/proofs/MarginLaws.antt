@@ -27,7 +27,7 @@ use Rattle.snippet_parts.specs.Least.{greatest, least}
 use Rattle.snippet_window.specs.declared.extent.Extent.{Extent}
 use Rattle.snippet_window.proofs.MeasureWords.{margin_by, whitespaces_of, widths_of}
 use Rattle.snippet_lines.specs.Place.{start_location}
-use Rattle.snippet_lines.specs.Span.{IsSpan}
+use Rattle.snippet_lines.specs.IsSpan.{IsSpan}
 use Rattle.snippet_window.specs.Window.{chars_at}
 use Rattle.snippet_parts.proofs.AmongLemmas.{Among, all_among, among_left, among_right, append_cases, among_map, among_filter}
 use Rattle.snippet_parts.proofs.AmongLemmas.{among_flat_map, flat_map_cases, among_in_order, among_range, any_among, any_cases, least_same}

@@ -15,7 +15,7 @@ use Rattle.snippet_parts.specs.Mark.{is_marking, is_marked_on, is_single_line, i
 use Rattle.snippet_parts.specs.Marked.{first_line, last_line}
 use Rattle.snippet_parts.specs.Least.{greatest, least}
 use Rattle.snippet_window.specs.Measures.{margin_of}
-use Rattle.snippet_lines.specs.Span.{IsSpan}
+use Rattle.snippet_lines.specs.IsSpan.{IsSpan}
 use Rattle.snippet_lines.specs.Place.{end_location, line_of, location_of, locations_of, place_of, prefix_at, steps_after_text}
 use Rattle.snippet_window.specs.Window.{chars_at, end_mark_column, is_near_left, is_near_span, leading_whitespace, stands_whole}
 use Rattle.snippet_parts.proofs.AmongLemmas.{Among, among_map, map_cases, among_flat_map, any_cases, least_le, greatest_most, all_pass, among_filter_map}

@@ -5,7 +5,7 @@
 //! ```
 ghost use Rattle.std.specs.Prelude.{◌≡◌, Bool, true, All, map};
 ghost use Rattle.std.specs.Str.{IsUtf8};
-ghost use Rattle.snippet_lines.specs.Span.{IsSpan};
+ghost use Rattle.snippet_lines.specs.IsSpan.{IsSpan};
 ghost use Rattle.snippet_parts.specs.Annotated.{annotated_lines};
 ghost use Rattle.snippet_parts.specs.OnLine.{seen_kept};
 ghost use Rattle.annotate_snippets.specs.PreparedReport.{IsCausePrepared};

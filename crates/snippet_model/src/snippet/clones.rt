@@ -1,6 +1,7 @@
 //! Copies of what holds lists: snippets, elements and groups. Every other part of a report is `Clone`.
 ghost use Rattle.std.specs.Prelude.{IfOk};
-ghost use Rattle.snippet_model.specs.Same.{SameAnnotation, SameElement, SameGroup, SamePatch, SameSnippet};
+ghost use Rattle.snippet_model.specs.Same.{SamePatch};
+ghost use Rattle.snippet_model.specs.Copies.{SameAnnotation, SameElement, SameGroup, SameSnippet};
 
 use super::{Annotation, Element, Group, Patch, Snippet};
 use std::alloc::AllocError;

@@ -1,5 +1,5 @@
 use Rattle.std.proofs.Common.{IfSome, subst, ◌∙◌, ap, arith}
-use Rattle.snippet_lines.specs.Span.{IsSpanBorder}
+use Rattle.snippet_lines.specs.IsSpan.{IsSpanBorder}
 use Rattle.std.proofs.Common.{sym}
 use Rattle.snippet_lines.specs.Place.{location_of, line_of}
 use Rattle.snippet_lines.specs.Lines.{source_lines}

@@ -4,7 +4,7 @@ use Rattle.std.proofs.lemmas.Bool.{cases_lt}
 use Rattle.std.proofs.lemmas.List.{drop_all, drop_more}
 use Rattle.std.specs.List.{slice_range}
 use Rattle.snippet_lines.specs.Lines.{is_lf, source_lines}
-use Rattle.snippet_lines.specs.Span.{IsSpanBorder}
+use Rattle.snippet_lines.specs.IsSpan.{IsSpanBorder}
 use Rattle.snippet_splice.specs.declared.patches.TrimmedPatch.{TrimmedPatch}
 use Rattle.snippet_splice.specs.Copied.{in_text}
 use Rattle.snippet_splice.specs.StretchLines.{last_end_of}

@@ -1,5 +1,5 @@
 use Rattle.std.proofs.Common.{◌≡◌, All, drop, map}
-use Rattle.snippet_lines.specs.Span.{IsSpanBorder}
+use Rattle.snippet_lines.specs.IsSpan.{IsSpanBorder}
 use Rattle.snippet_splice.specs.StretchLines.{last_end_of}
 use Rattle.snippet_splice.specs.TrimmedEdits.{original_bounds_of}
 use Rattle.snippet_splice.proofs.splice.source_lines_shown.Given as goal

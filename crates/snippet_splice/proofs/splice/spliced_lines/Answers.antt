@@ -4,7 +4,7 @@ use Rattle.std.specs.Str.{IsCharBoundary}
 use Rattle.std.specs.String.{string_bytes}
 use Rattle.snippet_lines.specs.Lines.{lines_of, source_lines}
 use Rattle.snippet_splice.specs.Edits.{Edit, edit_of, trimmed_edits, in_order, patched}
-use Rattle.snippet_lines.specs.Span.{IsSpanBorder}
+use Rattle.snippet_lines.specs.IsSpan.{IsSpanBorder}
 use Rattle.snippet_splice.specs.declared.patches.TrimmedPatch.{TrimmedPatch}
 use Rattle.snippet_splice.specs.Copied.{end_from, written_ranges}
 use Rattle.snippet_splice.specs.Splice.{IsPlainSplice}

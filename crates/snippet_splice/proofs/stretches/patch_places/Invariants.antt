@@ -1,7 +1,7 @@
 use Rattle.std.proofs.Common.{◌≡◌, ◌≤◌, ◌++◌, drop, map}
 use Rattle.std.specs.List.{slice_range}
 use Rattle.std.specs.Str.{IsUtf8}
-use Rattle.snippet_lines.specs.Span.{IsSpanBorder}
+use Rattle.snippet_lines.specs.IsSpan.{IsSpanBorder}
 use Rattle.snippet_splice.specs.Copied.{in_text}
 use Rattle.snippet_splice.specs.EditStretches.{characters_before, extents_from}
 use Rattle.snippet_splice.specs.StretchLines.{extent_of}

@@ -4,7 +4,7 @@ use Rattle.std.proofs.lemmas.List.Elements.{All-take}
 use Rattle.snippet_style.specs.Cell.{Cell}
 use Rattle.snippet_grid.specs.Layout.{Layout}
 use Rattle.snippet_labels.specs.declared.positions.PlacedEntry.{PlacedEntry}
-use Rattle.snippet_strokes.specs.Drawing.{HasPlaceAmong, HasRows}
+use Rattle.snippet_strokes.specs.Places.{HasPlaceAmong, HasRows}
 use Rattle.snippet_strokes.specs.Writes.{painted}
 use Rattle.snippet_strokes.specs.Strokes.{label_of}
 use Rattle.snippet_strokes.specs.PaintedStrokes.{labels_of}

@@ -4,7 +4,8 @@ use Rattle.std.specs.Cow.{cow_str_bytes}
 use Rattle.snippet_grid.specs.Layout.{Layout}
 use Rattle.snippet_grid.specs.LayoutOf.{layout_of}
 use Rattle.snippet_style.specs.Cell.{Cell}
-use Rattle.snippet_strokes.specs.SourceRows.{begun_cells, ended_cells, source_row}
+use Rattle.snippet_strokes.specs.SourceRows.{source_row}
+use Rattle.snippet_strokes.specs.BegunRow.{begun_cells, ended_cells}
 use Rattle.snippet_strokes.proofs.BarParts.{with_parts}
 use Rattle.snippet_strokes.specs.declared.bars.BarStroke.TheVariants.{Solid, Top}
 use Rattle.snippet_strokes.proofs.source_row.draw_empty_row.Goals as goal

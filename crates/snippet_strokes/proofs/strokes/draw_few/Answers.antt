@@ -3,7 +3,7 @@ use Rattle.std.proofs.lemmas.Result.{on_ok_weaker}
 use Rattle.snippet_grid.proofs.OutcomeLemmas.{on_ok_two}
 use Rattle.std.specs.List.{flat_map}
 use Rattle.snippet_style.specs.Separators.{separator_row}
-use Rattle.snippet_strokes.specs.Drawing.{AreEnough}
+use Rattle.snippet_strokes.specs.Places.{AreEnough}
 use Rattle.snippet_strokes.specs.Painting.{mark_of, painting_order}
 use Rattle.snippet_strokes.specs.SourceRows.{bare_row}
 use Rattle.snippet_strokes.specs.Strokes.{line_strokes}

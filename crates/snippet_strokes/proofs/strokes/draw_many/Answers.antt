@@ -5,7 +5,7 @@ use Rattle.std.proofs.lemmas.List.{append_assoc, length-append, length-drop}
 use Rattle.std.specs.List.{flat_map}
 use Rattle.snippet_grid.specs.Layout.{Layout}
 use Rattle.snippet_strokes.specs.Drawable.{IsReady, HasBarCell}
-use Rattle.snippet_strokes.specs.Drawing.{AreEnough, HasRows}
+use Rattle.snippet_strokes.specs.Places.{AreEnough, HasRows}
 use Rattle.snippet_labels.specs.declared.positions.PlacedEntry.{PlacedEntry}
 use Rattle.snippet_style.specs.Cell.{Cell}
 use Rattle.snippet_style.specs.Separators.{separator_row}

@@ -6,7 +6,8 @@ use Rattle.std.proofs.lemmas.List.Sorted.{All-permutation, length_permutation}
 use Rattle.snippet_parts.specs.declared.entries.LineAnnotation.{LineAnnotation}
 use Rattle.snippet_labels.specs.declared.positions.PlacedEntry.{PlacedEntry}
 use Rattle.snippet_strokes.specs.Painting.{painting_order}
-use Rattle.snippet_strokes.specs.Drawing.{AreEnough, HasRows, row_count}
+use Rattle.snippet_strokes.specs.Drawing.{row_count}
+use Rattle.snippet_strokes.specs.Places.{AreEnough, HasRows}
 use Rattle.snippet_strokes.specs.Drawable.{AreDrawable}
 use Rattle.snippet_style.specs.Cell.{Cell}
 use Rattle.snippet_labels.specs.PlacedEntries.{shifted}

@@ -12,7 +12,7 @@ use Rattle.snippet_suggest.specs.Suggested.{new_on}
 use Rattle.snippet_suggest.proofs.SuggestedRows.{body_shown, rows_of_same_stretches}
 use Rattle.snippet_lines.specs.Lines.{source_lines}
 use Rattle.snippet_lines.specs.Place.{line_of}
-use Rattle.snippet_lines.specs.Span.{IsSpan}
+use Rattle.snippet_lines.specs.IsSpan.{IsSpan}
 use Rattle.snippet_splice.specs.declared.patches.TrimmedPatch.{TrimmedPatch}
 use Rattle.snippet_suggest.specs.contracts.kind.DisplaySuggestion.{the_type}
 use Rattle.snippet_suggest.specs.declared.kind.DisplaySuggestion.TheVariants.{Diff}

@@ -9,7 +9,7 @@ use Rattle.snippet_suggest.proofs.SuggestedRows.{body_emptied, body_emptied_diff
 use Rattle.std.proofs.lemmas.Result.{on_ok_weaker}
 use Rattle.snippet_lines.specs.Lines.{source_lines}
 use Rattle.snippet_lines.specs.Place.{line_of}
-use Rattle.snippet_lines.specs.Span.{IsSpan}
+use Rattle.snippet_lines.specs.IsSpan.{IsSpan}
 use Rattle.snippet_splice.specs.declared.patches.TrimmedPatch.{TrimmedPatch}
 use Rattle.snippet_parts.specs.declared.source_map.LineInfo.{LineInfo}
 use Rattle.snippet_suggest.specs.contracts.kind.DisplaySuggestion.{the_type}

@@ -12,7 +12,7 @@ use Rattle.snippet_suggest.specs.Cells.{end_cells}
 use Rattle.snippet_suggest.specs.RowOrder.{Ends}
 use Rattle.snippet_suggest.specs.Suggested.{suggested_cells}
 use Rattle.snippet_suggest.proofs.SuggestedRows.{ends_marked, ends_plain, suggestion_is}
-use Rattle.snippet_lines.specs.Span.{IsSpan}
+use Rattle.snippet_lines.specs.IsSpan.{IsSpan}
 use Rattle.snippet_style.specs.Cell.{Cell}
 use Rattle.snippet_splice.specs.declared.patches.TrimmedPatch.{TrimmedPatch}
 use Rattle.snippet_suggest.proofs.KnownLemmas.{known_spans}

@@ -1,7 +1,7 @@
 use Rattle.std.proofs.Common.{All, List, sym, ap, subst, ◌∙◌, map}
 use Rattle.std.proofs.lemmas.Result.{on_ok_weaker}
 use Rattle.std.specs.Option.{option_copied}
-use Rattle.snippet_lines.specs.Span.{IsSpan}
+use Rattle.snippet_lines.specs.IsSpan.{IsSpan}
 use Rattle.snippet_model.specs.declared.snippet.Annotation.{Annotation}
 use Rattle.snippet_text_form.specs.Cause.{named_spans}
 use Rattle.snippet_text_form.specs.declared.cause.NamedSpan.{NamedSpan}

@@ -4,7 +4,7 @@ use Rattle.std.proofs.lemmas.List.Elements.{All-tail}
 use Rattle.std.proofs.lemmas.Result.{on_ok_weaker}
 use Rattle.std.specs.Option.{option_copied}
 use Rattle.std.specs.Str.{chars}
-use Rattle.snippet_lines.specs.Span.{IsSpan}
+use Rattle.snippet_lines.specs.IsSpan.{IsSpan}
 use Rattle.snippet_text_form.specs.declared.cause.NamedSpan.{NamedSpan}
 use Rattle.snippet_text_form.proofs.CauseLemmas.{no_span-added, spans-added}
 use Rattle.snippet_text_form.proofs.cause.add_spans.Goals as goal

@@ -1,5 +1,5 @@
 use Rattle.std.proofs.Common.{◌<◌, length, arith}
-use Rattle.snippet_model.specs.Same.{SameElement}
+use Rattle.snippet_model.specs.Copies.{SameElement}
 use Rattle.snippet_model.proofs.ZipLemmas.{all_zip_more}
 use Rattle.snippet_model.proofs.snippet.Group.clone.Goals as goal
 

@@ -1,7 +1,8 @@
 use Rattle.std.proofs.Common.{◌≡◌, ◌<◌, ◌+◌, ◌-◌, ap, sym, subst, ◌∙◌, [], List, ℕ, length, take, drop, get_or, arith}
 use Rattle.std.specs.Str.{IsCharBoundary}
 use Rattle.snippet_lines.specs.declared.lines.EndLine.TheVariants.{Eof}
-use Rattle.snippet_lines.specs.Lines.{Line, Source, IsLineWithEnd, line_bytes, source_lines, start_of}
+use Rattle.snippet_lines.specs.Lines.{Line, Source, line_bytes, source_lines, start_of}
+use Rattle.snippet_lines.specs.CutLines.{IsLineWithEnd}
 use Rattle.snippet_lines.proofs.LinesLemmas.{length-source_lines, newline_count-le, start_of-le}
 use Rattle.snippet_lines.proofs.BoundsLemmas.{IsCharBoundary-start_of, IsLine-at, IsOneLine-line, line_bytes-slice}
 use Rattle.snippet_parts.specs.declared.source_map.LineInfo.{LineInfo}
