@@ -1,13 +1,8 @@
 -- Texts whose bytes are aligned: they have as many lines, the same line feeds, and take the same spans.
-use Rattle.std.proofs.Common.{◌≡◌, ◌∙◌, ℕ, ◌+◌, ◌-◌, ◌==◌, ◌&&◌, ◌||◌, nat_le, nat_lt, zero, suc, Bool, cond, if◌then◌else◌, List, [], ◌∷◌, None, Some}
-use Rattle.std.proofs.Common.{arith, ap, ap₂, count_by, length, refl, slice_index, sym}
-use Rattle.std.proofs.lemmas.Bool.Decides.{nat_tests}
-use Rattle.std.proofs.lemmas.List.Sums.{sum_by-cons}
-use Rattle.snippet_lines.proofs.LinesLemmas.{length-source_lines}
-use Rattle.snippet_lines.specs.Lines.{is_lf, last_byte, newline_count, source_lines}
-use Rattle.snippet_lines.specs.Span.{is_span_border, span_fault}
-use Rattle.snippet_lines.specs.declared.span.SpanFault.TheVariants.{Reversed, PastEnd, OffBoundary}
-use Rattle.snippet_shown.specs.Masked.{IsAligned, byte_class}
+use Rattle.annotate_snippets.proofs.Common.{◌≡◌, ◌∙◌, ℕ, ◌+◌, ◌-◌, ◌==◌, ◌&&◌, ◌||◌, nat_le, nat_lt, zero, suc, Bool, cond}
+use Rattle.annotate_snippets.proofs.Common.{if◌then◌else◌, List, [], ◌∷◌, None, Some, arith, ap, ap₂, count_by, length, refl, slice_index, sym}
+use Rattle.annotate_snippets.proofs.Common.{nat_tests, sum_by-cons, length-source_lines, is_lf, last_byte, newline_count, source_lines, is_span_border}
+use Rattle.annotate_snippets.proofs.Common.{span_fault, Reversed, PastEnd, OffBoundary, IsAligned, byte_class}
 use Rattle.annotate_snippets.proofs.PairedLemmas.{zip-length}
 
 -- ---- bytes

@@ -1,22 +1,8 @@
 -- What the types of Rust give of a report's texts: that they are UTF-8.
-use Rattle.std.proofs.Common.{◌≡◌, All, List, map, subst}
-use Rattle.std.specs.Cow.{cow_str_bytes}
-use Rattle.std.specs.Str.{IsUtf8}
-use Rattle.std.proofs.lemmas.List.Elements.{All-map, All-weaker}
-use Rattle.std.proofs.lemmas.Str.{IsUtf8-string_bytes}
-use Rattle.snippet_model.specs.declared.snippet.Annotation.{Annotation}
-use Rattle.snippet_model.specs.declared.snippet.Element.{Element}
-use Rattle.snippet_model.specs.declared.snippet.Element.TheVariants.{Cause, Message, Origin, Padding, Suggestion}
-use Rattle.snippet_model.specs.declared.snippet.Group.{Group}
-use Rattle.snippet_model.specs.declared.snippet.Patch.{Patch}
-use Rattle.snippet_model.specs.declared.snippet.Snippet.{Snippet}
-use Rattle.snippet_parts.specs.Located.{HasTextLabel}
-use Rattle.snippet_suggest.specs.Given.{given_text}
-use Rattle.annotate_snippets.specs.ElementContext.{drawn_elements}
-use Rattle.annotate_snippets.specs.PreparedReport.{IsElementPrepared, IsGroupPrepared, element_of}
-use Rattle.annotate_snippets.specs.declared.renderer.preprocess.PreparedElement.{PreparedElement}
+use Rattle.annotate_snippets.proofs.Common.{◌≡◌, All, List, map, subst, cow_str_bytes, IsUtf8, All-map, All-weaker, IsUtf8-string_bytes, Annotation}
+use Rattle.annotate_snippets.proofs.Common.{Element, Cause, Message, Origin, Padding, Suggestion, Group, Patch, Snippet, HasTextLabel, given_text}
+use Rattle.annotate_snippets.proofs.Common.{drawn_elements, IsElementPrepared, IsGroupPrepared, element_of, PreparedElement, PreparedGroup}
 use Rattle.annotate_snippets.specs.declared.renderer.preprocess.PreparedElement.TheVariants as prepared
-use Rattle.annotate_snippets.specs.declared.renderer.preprocess.PreparedGroup.{PreparedGroup}
 use Rattle.annotate_snippets.proofs.PreparedLemmas.{group_of}
 
 -- the texts of an annotated snippet that laws speak of: its source and its labels

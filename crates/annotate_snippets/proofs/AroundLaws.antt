@@ -1,17 +1,9 @@
 -- Laws of what stands around the elements of a group.
-use Rattle.std.proofs.Common.{◌≡◌, ℕ, ◌+◌, ◌-◌, nat_eq, ◌&&◌, not, Bool, true, false, if◌then◌else◌, Option, None, Some, List, [], ◌∷◌, drop, length, zero, suc}
-use Rattle.std.proofs.Common.{refl, sym, ap, ◌∙◌, arith, subst}
-use Rattle.std.specs.List.{slice_get}
-use Rattle.std.specs.Option.{is_some}
-use Rattle.std.proofs.lemmas.Bool.Decides.{nat_tests}
-use Rattle.snippet_model.specs.declared.snippet.Element.{Element}
-use Rattle.snippet_model.specs.declared.snippet.Element.TheVariants.{Cause, Message, Origin, Padding, Suggestion}
-use Rattle.snippet_suggest.specs.declared.SuggestionStart.TheVariants.{Next, Opening, Path}
-use Rattle.annotate_snippets.specs.ElementContext.{first_two_share, is_end, next_of}
-use Rattle.annotate_snippets.specs.ElementRoom.{CanStandIn, begins_in_row_above, is_next_start}
-use Rattle.annotate_snippets.specs.TextForm.{is_other_file}
-use Rattle.annotate_snippets.specs.ElementContext.{path_bytes, share_file, context_at}
-use Rattle.annotate_snippets.specs.declared.renderer.element_context.GroupPosition.{GroupPosition}
+use Rattle.annotate_snippets.proofs.Common.{◌≡◌, ℕ, ◌+◌, ◌-◌, nat_eq, ◌&&◌, not, Bool, true, false, if◌then◌else◌, Option, None, Some}
+use Rattle.annotate_snippets.proofs.Common.{List, [], ◌∷◌, drop, length, zero, suc, refl, sym, ap, ◌∙◌, arith, subst, slice_get, is_some, nat_tests}
+use Rattle.annotate_snippets.proofs.Common.{Element, Cause, Message, Origin, Padding, Suggestion, Opening, Path, first_two_share, is_end, next_of, CanStandIn}
+use Rattle.annotate_snippets.proofs.Common.{begins_in_row_above, is_next_start, is_other_file, path_bytes, share_file, context_at, GroupPosition}
+use Rattle.snippet_suggest.specs.declared.SuggestionStart.TheVariants.{Next}
 
 -- whether the element of this number begins in the last row of the one before
 abbrev pub shares_before : List Element → ℕ → Bool

@@ -1,20 +1,12 @@
 -- What stands in an article: what is added piece by piece, and what is read of an escaped text.
-use Rattle.std.proofs.Common.{◌≡◌, ◌∙◌, ℕ, Bool, true, List, [], ◌∷◌, ◌++◌, Option, Some, None, map, refl, sym, ap, append_assoc, encode_utf8_all, codes}
+use Rattle.annotate_snippets.proofs.Common.{◌≡◌, ◌∙◌, ℕ, Bool, true, List, [], ◌∷◌, ◌++◌, Option, Some, None, map, refl, sym, ap}
+use Rattle.annotate_snippets.proofs.Common.{encode_utf8_all, codes, cow_str_bytes, flat_map, list_all, option_map, made-append, adds_both, adds_piece}
+use Rattle.annotate_snippets.proofs.Common.{adds_three, text_html, html_says_pieces, is_made, piece_says, tags_are, AddsHtml, AnchorEnd, AnchorStart, HtmlPiece}
+use Rattle.annotate_snippets.proofs.Common.{html_text, html_says, piece_tag, tags_of, Heading, is_hidden, name_of, Id, norm, closing_bracket_of, colon_of}
+use Rattle.annotate_snippets.proofs.Common.{opening_bracket_of, address_of, bracketed_html, id_html, linked_html, title_html}
+use Rattle.std.proofs.Common.{append_assoc}
 use Rattle.std.proofs.Common.{chars}
-use Rattle.std.specs.Cow.{cow_str_bytes}
-use Rattle.std.specs.List.{flat_map, list_all}
-use Rattle.std.specs.Option.{option_map}
-use Rattle.snippet_grid.proofs.HtmlLaws.{made-append}
-use Rattle.snippet_grid.proofs.HtmlLemmas.{adds_both, adds_piece, adds_three, text_html}
-use Rattle.snippet_grid.proofs.HtmlReads.{html_says_pieces, is_made, piece_says, tags_are}
-use Rattle.snippet_grid.specs.Html.{AddsHtml, AnchorEnd, AnchorStart, HtmlPiece, Text, escaped, html_text}
-use Rattle.snippet_grid.specs.HtmlRead.{html_says, piece_tag, tags_of}
-use Rattle.snippet_model.specs.Heading.{Heading, is_hidden}
-use Rattle.snippet_model.specs.Level.{name_of}
-use Rattle.snippet_model.specs.declared.snippet.Id.{Id}
-use Rattle.snippet_text.specs.Normalized.{norm}
-use Rattle.snippet_titles.specs.HeadingRows.{closing_bracket_of, colon_of, opening_bracket_of}
-use Rattle.annotate_snippets.specs.Article.{address_of, bracketed_html, id_html, linked_html, title_html}
+use Rattle.snippet_grid.specs.Html.{Text, escaped}
 
 -- ---- what is read
 

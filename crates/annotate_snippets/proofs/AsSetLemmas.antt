@@ -1,43 +1,15 @@
 -- What the report that is shown has in common with the one in whose place it is, and that what is shown of it shows the report.
-use Rattle.std.proofs.Common.{◌≡◌, ◌∙◌, ℕ, Bool, true, false, List, [], ◌∷◌, Option, None}
-use Rattle.std.proofs.Common.{◌⊎◌, inl, inr, sym, subst, refl, All, chars, if◌then◌else◌}
-use Rattle.std.proofs.lemmas.Bool.{false≢true}
-use Rattle.std.proofs.lemmas.List.Elements.{All-contains, All-weaker}
-use Rattle.std.specs.List.{AllZip, Contains, flat_map}
-use Rattle.snippet_model.proofs.ZipLemmas.{AllZip-weaker}
-use Rattle.snippet_model.specs.Fits.{ReportFits}
-use Rattle.snippet_model.specs.Trusted.{trusted_texts}
-use Rattle.snippet_model.specs.declared.snippet.Element.{Element}
-use Rattle.snippet_model.specs.declared.snippet.Group.{Group}
-use Rattle.snippet_model.specs.declared.snippet.Title.{Title}
-use Rattle.snippet_shown.specs.AsMasked.{IsElementMasked, IsGroupMasked, IsTitleMasked}
-use Rattle.snippet_shown.specs.AsSet.{IsElementAsSet, IsGroupAsSet, IsTitleAsSet}
-use Rattle.snippet_shown.specs.AsWrapped.{IsElementWrapped, IsGroupWrapped, IsTitleWrapped}
-use Rattle.snippet_shown.specs.Remade.{IsGroupMade, Stays}
-use Rattle.snippet_shown.specs.WithContext.{IsElementWithContext, IsGroupWithContext}
-use Rattle.snippet_style.specs.declared.stylesheet.Stylesheet.{Stylesheet}
-use Rattle.snippet_text.specs.Normalized.{is_listed}
-use Rattle.snippet_text_form.specs.Form.{form_text}
-use Rattle.snippet_text_form.specs.Lines.{lines_of_paragraphs}
-use Rattle.annotate_snippets.specs.AsSet.{IsAsSet, IsMaskedFor, IsRemade, IsShownFor, IsStep, adds_context, shows_as_given, wraps}
-use Rattle.annotate_snippets.specs.Drawable.{IsDrawableAsSet}
-use Rattle.annotate_snippets.specs.Fault.{first_fault, form_of, missing_title, refusal_in}
-use Rattle.annotate_snippets.specs.Forms.{AreFree, ShowsForm, ShowsReport, TextsShown, links_in, plain_in}
-use Rattle.annotate_snippets.specs.GraphicForm.{graphic_form}
-use Rattle.annotate_snippets.specs.Gutter.{gutter_of_report}
-use Rattle.annotate_snippets.specs.Laws.Context.{ShowsLinesAround}
-use Rattle.annotate_snippets.specs.Laws.Feeds.{HasOneLineTexts, page_lines, text_lines}
-use Rattle.annotate_snippets.specs.Laws.Forms.{FormLaws, HasLaws, LawsIn}
-use Rattle.annotate_snippets.specs.Laws.Free.{IsFreeBut}
-use Rattle.annotate_snippets.specs.Laws.Masked.{HasNoControls}
-use Rattle.annotate_snippets.specs.Laws.TextLines.{report_paragraphs}
-use Rattle.annotate_snippets.specs.Laws.Wrapped.{AreRewrapped}
-use Rattle.annotate_snippets.specs.Page.{page_text}
-use Rattle.annotate_snippets.specs.TextForm.{text_form}
-use Rattle.annotate_snippets.specs.Written.{IsTextIn, ShowsIn, WritesPart, WritesText}
-use Rattle.annotate_snippets.specs.declared.renderer.Renderer.{Renderer}
-use Rattle.annotate_snippets.specs.declared.renderer.form.Form.{Form}
-use Rattle.annotate_snippets.specs.declared.renderer.form.Form.TheVariants.{Graphic, Short, Text}
+use Rattle.annotate_snippets.proofs.Common.{◌≡◌, ◌∙◌, ℕ, Bool, true, false, List, [], ◌∷◌, Option, None, ◌⊎◌, inl, inr, sym, subst}
+use Rattle.annotate_snippets.proofs.Common.{refl, All, if◌then◌else◌, false≢true, All-contains, All-weaker, AllZip, Contains, flat_map, AllZip-weaker}
+use Rattle.annotate_snippets.proofs.Common.{ReportFits, trusted_texts, Element, Group, Title, IsElementMasked, IsGroupMasked, IsTitleMasked, IsElementAsSet}
+use Rattle.annotate_snippets.proofs.Common.{IsGroupAsSet, IsTitleAsSet, IsElementWrapped, IsGroupWrapped, IsTitleWrapped, IsGroupMade, Stays}
+use Rattle.annotate_snippets.proofs.Common.{IsElementWithContext, IsGroupWithContext, Stylesheet, is_listed, form_text, lines_of_paragraphs, IsAsSet}
+use Rattle.annotate_snippets.proofs.Common.{IsMaskedFor, IsRemade, IsShownFor, IsStep, adds_context, shows_as_given, wraps, IsDrawableAsSet, first_fault}
+use Rattle.annotate_snippets.proofs.Common.{form_of, missing_title, refusal_in, AreFree, ShowsForm, ShowsReport, TextsShown, links_in, plain_in, graphic_form}
+use Rattle.annotate_snippets.proofs.Common.{gutter_of_report, ShowsLinesAround, HasOneLineTexts, page_lines, text_lines, FormLaws, HasLaws, LawsIn, IsFreeBut}
+use Rattle.annotate_snippets.proofs.Common.{HasNoControls, report_paragraphs, AreRewrapped, page_text, text_form, IsTextIn, ShowsIn, WritesPart, WritesText}
+use Rattle.annotate_snippets.proofs.Common.{Renderer, Form, Graphic, Short, Text}
+use Rattle.std.proofs.Common.{chars}
 use Rattle.annotate_snippets.proofs.AsSetSteps.{context-set, feeds-set, mask-set, remade-set, unset-same, wrap-set}
 use Rattle.annotate_snippets.proofs.ContextShown.{around-set, context-faithful, plain-around}
 use Rattle.annotate_snippets.proofs.FaultLemmas.{groups-drawable, titled, unrefused}

@@ -1,9 +1,6 @@
 -- The steps by which the report that is shown is made, and which are taken.
-use Rattle.std.proofs.Common.{◌≡◌, ◌∙◌, ◌&&◌, Bool, true, false, not, List, refl, sym, ap, subst}
-use Rattle.snippet_model.specs.declared.snippet.Group.{Group}
-use Rattle.annotate_snippets.specs.AsSet.{IsAsSet, IsRemade, IsShownFor, adds_context, shows_as_given, wraps}
-use Rattle.annotate_snippets.specs.declared.renderer.Renderer.{Renderer}
-use Rattle.annotate_snippets.specs.declared.renderer.form.Form.{Form}
+use Rattle.annotate_snippets.proofs.Common.{◌≡◌, ◌∙◌, ◌&&◌, Bool, true, false, not, List, refl, sym, ap, subst, Group, IsAsSet, IsRemade}
+use Rattle.annotate_snippets.proofs.Common.{IsShownFor, adds_context, shows_as_given, wraps, Renderer, Form}
 
 -- ---- nothing is set
 

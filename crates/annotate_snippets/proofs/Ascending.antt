@@ -1,6 +1,5 @@
 -- Numbers that ascend, told by those that stand side by side.
-use Rattle.std.proofs.Common.{ℕ, zero, suc, ◌<◌, List, [], ◌∷◌, get_or, length, arith}
-use Rattle.snippet_parts.specs.Entries.{Ascends}
+use Rattle.annotate_snippets.proofs.Common.{ℕ, zero, suc, ◌<◌, List, [], ◌∷◌, get_or, length, arith, Ascends}
 
 -- each number is greater than the one before it
 abbrev pub IsAscending : List ℕ → Type 0

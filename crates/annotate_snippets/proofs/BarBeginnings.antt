@@ -1,14 +1,6 @@
 -- A bar begins in one of its rows: in the words of the laws and in those of the painters.
-use Rattle.std.proofs.Common.{◌<◌, ◌==◌, List, inl, inr, sym, ap, ◌∙◌, arith}
-use Rattle.std.proofs.lemmas.Bool.{cases_eq, cond-false, cond-true, eq-eqb}
-use Rattle.snippet_style.specs.Cell.{Cell}
-use Rattle.snippet_grid.specs.Grid.{cell_at}
-use Rattle.snippet_grid.specs.Layout.{Layout, bar_cell}
-use Rattle.snippet_style.specs.Glyphs.{strokes_of}
-use Rattle.snippet_strokes.specs.Bars.{Bar}
-use Rattle.snippet_strokes.proofs.BarFacts.{BarBegins, start_corner}
-use Rattle.snippet_strokes.proofs.CellLemmas.{above_zero}
-use Rattle.annotate_snippets.specs.Laws.Bars.{BarStarts, part_of_bar}
+use Rattle.annotate_snippets.proofs.Common.{◌<◌, ◌==◌, List, inl, inr, sym, ap, ◌∙◌, arith, cases_eq, cond-false, cond-true, eq-eqb, Cell}
+use Rattle.annotate_snippets.proofs.Common.{cell_at, Layout, bar_cell, strokes_of, Bar, BarBegins, start_corner, above_zero, BarStarts, part_of_bar}
 
 -- the top of a bar, beside a line that is marked as a whole
 abbrev bar_top : Layout → Bar → Cell

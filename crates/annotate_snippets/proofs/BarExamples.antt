@@ -1,12 +1,6 @@
 -- The words of bars, computed on a few rows and spans.
-use Rattle.std.proofs.Common.{◌≡◌, ◌==◌, ◌&&◌, true, false, List, [], ◌∷◌, refl, ap}
-use Rattle.std.specs.List.{list_any}
-use Rattle.snippet_model.specs.AnnotationKind.{is_primary}
-use Rattle.snippet_model.specs.declared.snippet.Annotation.{Annotation}
-use Rattle.snippet_model.specs.declared.snippet.AnnotationKind.TheVariants.{Context, Primary}
-use Rattle.snippet_model.specs.declared.snippet.Snippet.{Snippet}
-use Rattle.annotate_snippets.specs.Page.{Elision, NamedRow, Other, RowName, SourceRow}
-use Rattle.annotate_snippets.specs.Laws.Bars.{bar_of_span, line_beside}
+use Rattle.annotate_snippets.proofs.Common.{◌≡◌, ◌==◌, ◌&&◌, true, false, List, [], ◌∷◌, refl, ap, list_any, is_primary, Annotation}
+use Rattle.annotate_snippets.proofs.Common.{Context, Primary, Snippet, Elision, NamedRow, Other, RowName, SourceRow, bar_of_span, line_beside}
 use Rattle.annotate_snippets.proofs.NotShown.{span_of}
 
 -- a row of this name, whatever it holds

@@ -1,37 +1,15 @@
 -- When a report is within bounds: laws for those who make one.
-use Rattle.std.proofs.Common.{◌≡◌, ◌⊎◌, ℕ, suc, ◌+◌, ◌^◌, ◌<◌, ◌≤◌, ◌&&◌, ◌||◌, ◌==◌, nat_lt, Bool, true, false, List, [], ◌∷◌, ◌++◌, Some, None, All, length}
-use Rattle.std.proofs.Common.{map, slice_index, refl, ap, ◌∙◌, arith, inl, inr, if◌then◌else◌}
-use Rattle.std.specs.Cow.{cow_str_bytes}
-use Rattle.std.specs.List.{count_by, position_from, sum_by}
-use Rattle.std.specs.Option.{option_map, option_or, option_to_list}
-use Rattle.std.specs.Str.{IsCharBoundary}
-use Rattle.std.specs.declared.ops.Range.{Range}
-use Rattle.std.proofs.lemmas.Bool.{cases_lt, le-leb, le-ltb}
-use Rattle.std.proofs.lemmas.Bool.Decides.{nat_tests}
-use Rattle.std.proofs.lemmas.List.{get_or_past}
-use Rattle.std.proofs.lemmas.List.Elements.{All-head, All-tail, All-weaker}
-use Rattle.std.proofs.lemmas.List.Sums.{count_by-le-length, sum_by-le-sum_by}
-use Rattle.snippet_style.specs.Bounds.{max_usize}
-use Rattle.snippet_lines.specs.declared.lines.EndLine.TheVariants.{Lf}
-use Rattle.snippet_lines.specs.declared.span.SpanFault.TheVariants.{Reversed, PastEnd, OffBoundary}
-use Rattle.snippet_lines.specs.Lines.{Line, lines_of, source_lines, with_first_byte}
-use Rattle.snippet_lines.specs.Span.{is_span_border, is_character_border, span_fault}
-use Rattle.snippet_model.specs.declared.snippet.Annotation.{Annotation}
-use Rattle.snippet_model.specs.declared.snippet.Element.TheVariants.{Cause, Suggestion}
-use Rattle.snippet_model.specs.declared.snippet.Group.{Group}
-use Rattle.snippet_model.specs.declared.snippet.Patch.{Patch}
-use Rattle.snippet_model.specs.declared.snippet.Snippet.{Snippet}
-use Rattle.snippet_model.specs.Fits.{GroupFits}
-use Rattle.snippet_lines.specs.OrderedBy.{put_in}
-use Rattle.snippet_splice.specs.Edits.{Edit, edit_of, in_order, precedes}
-use Rattle.snippet_splice.specs.TrimmedEdits.{AreApart}
-use Rattle.snippet_splice.specs.Overlap.{first_overlap, first_overlap_from, overlap}
-use Rattle.annotate_snippets.specs.Fault.{IsWithinBounds, added_lines, element_faults, faults_from, first_fault, first_of, group_faults}
-use Rattle.annotate_snippets.specs.Drawable.{IsGroupWithinBounds}
-use Rattle.annotate_snippets.specs.Fault.{number_after_lines, number_faults, overlap_faults, refusal_of, span_faults}
-use Rattle.annotate_snippets.specs.Settings.{plain_settings}
-use Rattle.annotate_snippets.specs.declared.renderer.error.RenderError.{RenderError}
-use Rattle.annotate_snippets.specs.declared.renderer.error.RenderError.TheVariants.{LineNumberTooLarge, PatchesOverlap}
+use Rattle.annotate_snippets.proofs.Common.{◌≡◌, ◌⊎◌, ℕ, suc, ◌+◌, ◌^◌, ◌<◌, ◌≤◌, ◌&&◌, ◌||◌, ◌==◌, nat_lt, Bool}
+use Rattle.annotate_snippets.proofs.Common.{true, false, List, [], ◌∷◌, ◌++◌, Some, None, All, length, map, slice_index, refl, ap, ◌∙◌, arith}
+use Rattle.annotate_snippets.proofs.Common.{inl, inr, if◌then◌else◌, cow_str_bytes, position_from, sum_by, option_map, option_or, option_to_list}
+use Rattle.annotate_snippets.proofs.Common.{IsCharBoundary, Range, cases_lt, le-leb, le-ltb, nat_tests, get_or_past, All-head, All-tail, All-weaker}
+use Rattle.annotate_snippets.proofs.Common.{count_by-le-length, sum_by-le-sum_by, max_usize, Lf, Reversed, PastEnd, OffBoundary, Line, lines_of, source_lines}
+use Rattle.annotate_snippets.proofs.Common.{with_first_byte, is_span_border, is_character_border, span_fault, Annotation, Cause, Suggestion, Group, Patch}
+use Rattle.annotate_snippets.proofs.Common.{Snippet, GroupFits, put_in, Edit, edit_of, in_order, precedes, AreApart, first_overlap, first_overlap_from, overlap}
+use Rattle.annotate_snippets.proofs.Common.{IsWithinBounds, added_lines, element_faults, faults_from, first_fault, first_of, group_faults, IsGroupWithinBounds}
+use Rattle.annotate_snippets.proofs.Common.{number_after_lines, number_faults, overlap_faults, refusal_of, span_faults, plain_settings, RenderError}
+use Rattle.annotate_snippets.proofs.Common.{LineNumberTooLarge, PatchesOverlap}
+use Rattle.std.specs.List.{count_by}
 
 -- a place between characters of a source is a border of spans
 border-between : (source : List ℕ) (b : ℕ) → IsCharBoundary source b → is_span_border source b ≡ true

@@ -1,49 +1,16 @@
 -- The rows of an annotated snippet show it.
-use Rattle.std.proofs.Common.{◌≡◌, ℕ, ◌+◌, ◌≤◌, ◌==◌, ◌&&◌, Bool, true, false, cond, Option, None, Some, List, [], ◌∷◌, ◌++◌, drop, map, refl, sym, ap}
-use Rattle.std.proofs.Common.{subst, ◌∙◌, arith}
-use Rattle.std.specs.List.{All, Contains, list_any}
-use Rattle.std.specs.Option.{IsSomeAnd}
-use Rattle.std.specs.Cow.{cow_str_bytes}
-use Rattle.std.proofs.lemmas.List.Elements.{All-append, All-cons, All-head, All-map, All-nil, All-tail}
-use Rattle.snippet_model.specs.declared.snippet.Annotation.{Annotation}
-use Rattle.snippet_model.specs.declared.snippet.Snippet.{Snippet}
-use Rattle.snippet_model.specs.declared.snippet.Element.TheVariants.{Cause}
-use Rattle.snippet_grid.specs.Grid.{row_at}
-use Rattle.snippet_style.specs.Cell.{Cell}
-use Rattle.snippet_grid.specs.Print.{row_text}
-use Rattle.snippet_lines.specs.IsSpan.{IsSpan}
-use Rattle.snippet_parts.specs.Annotated.{KeptLine, annotated_lines, is_long}
-use Rattle.snippet_parts.specs.Kept.{shown_lines}
-use Rattle.snippet_parts.specs.Mark.{is_marking}
-use Rattle.snippet_parts.specs.Marked.{first_line, last_line}
-use Rattle.snippet_parts.specs.Location.{IsLocation, primary_place}
-use Rattle.snippet_model.specs.FreeRows.{IsFree}
-use Rattle.snippet_parts.specs.declared.location.Location.{Location}
-use Rattle.snippet_parts.proofs.LocationLaws.{primary_place-location}
-use Rattle.snippet_strokes.specs.DrawnBars.{HasBarRoom}
-use Rattle.snippet_strokes.specs.declared.snippet.LineView.{LineView}
-use Rattle.snippet_strokes.proofs.LineFacts.{CanBeShown}
-use Rattle.snippet_strokes.proofs.SeenLines.{infos_free}
-use Rattle.snippet_titles.specs.Origin.{origin_row, origin_text, primary_start, snippet_head}
-use Rattle.snippet_titles.specs.declared.origin.OriginLayout.{OriginLayout}
-use Rattle.snippet_titles.specs.declared.origin.OriginLocation.{OriginLocation}
-use Rattle.snippet_titles.proofs.HeadFacts.{origin_row-text, snippet_head-free}
-use Rattle.snippet_titles.proofs.OriginFree.{closing_row-free, separator_row-free}
-use Rattle.annotate_snippets.specs.declared.renderer.Renderer.{Renderer}
-use Rattle.snippet_grid.specs.Layout.{Layout}
-use Rattle.annotate_snippets.specs.declared.renderer.element_context.ElementContext.{ElementContext}
-use Rattle.annotate_snippets.specs.ElementContext.{closes_after, closes_with, is_before_message, path_bytes}
-use Rattle.annotate_snippets.specs.ElementRoom.{HasRoomFor, code_after}
-use Rattle.annotate_snippets.specs.Walk.{is_first_group}
-use Rattle.annotate_snippets.specs.GraphicForm.{margin_in, rows_of_lines}
+use Rattle.annotate_snippets.proofs.Common.{◌≡◌, ℕ, ◌+◌, ◌≤◌, ◌==◌, ◌&&◌, Bool, true, false, cond, Option, None, Some, List, []}
+use Rattle.annotate_snippets.proofs.Common.{◌∷◌, ◌++◌, drop, map, refl, sym, ap, subst, ◌∙◌, arith, Contains, list_any, IsSomeAnd}
+use Rattle.annotate_snippets.proofs.Common.{cow_str_bytes, All-append, All-cons, All-head, All-map, All-nil, All-tail, Annotation, Snippet, Cause, row_at, Cell}
+use Rattle.annotate_snippets.proofs.Common.{row_text, IsSpan, KeptLine, annotated_lines, is_long, shown_lines, is_marking, first_line, last_line, IsLocation}
+use Rattle.annotate_snippets.proofs.Common.{primary_place, IsFree, Location, primary_place-location, HasBarRoom, LineView, CanBeShown, infos_free, origin_row}
+use Rattle.annotate_snippets.proofs.Common.{origin_text, primary_start, snippet_head, OriginLayout, OriginLocation, origin_row-text, snippet_head-free}
+use Rattle.annotate_snippets.proofs.Common.{closing_row-free, separator_row-free, Renderer, Layout, ElementContext, closes_after, closes_with}
+use Rattle.annotate_snippets.proofs.Common.{is_before_message, path_bytes, HasRoomFor, code_after, is_first_group, margin_in, rows_of_lines, depth_of_element}
+use Rattle.annotate_snippets.proofs.Common.{line_numbers, numbered_source, NamedRow, cells_of, lines_named, others, IsDrawable, cause_head, origin_layout}
+use Rattle.annotate_snippets.proofs.Common.{place_found, rows_after_cause, place_named, NamesLocation, HasNoFeed, closing_row, separator_row}
+use Rattle.std.specs.List.{All}
 use Rattle.annotate_snippets.proofs.PageWords.{snippet_rows}
-use Rattle.annotate_snippets.specs.Gutter.{depth_of_element, line_numbers, numbered_source}
-use Rattle.annotate_snippets.specs.Page.{NamedRow, cells_of, lines_named, others}
-use Rattle.annotate_snippets.specs.PreparedReport.{IsDrawable}
-use Rattle.annotate_snippets.specs.RowsWithoutSource.{cause_head, origin_layout, place_found, rows_after_cause}
-use Rattle.annotate_snippets.specs.ShortForm.{place_named}
-use Rattle.annotate_snippets.specs.Laws.Paths.{NamesLocation}
-use Rattle.annotate_snippets.specs.Laws.Feeds.{HasNoFeed}
 use Rattle.annotate_snippets.proofs.AreTexts.{IsTextCause}
 use Rattle.annotate_snippets.proofs.Ascending.{IsAscending, ascends}
 use Rattle.annotate_snippets.proofs.ElementShown.{ElementShown}
@@ -55,7 +22,6 @@ use Rattle.annotate_snippets.proofs.PageLemmas.{named_lines}
 use Rattle.annotate_snippets.proofs.SpanBarRows.{bars_shown}
 use Rattle.annotate_snippets.proofs.PartsFacts.{ends_shown, shown_ascending}
 use Rattle.annotate_snippets.proofs.PathFeedLaws.{after_one_line, head_one_line}
-use Rattle.snippet_style.specs.Separators.{closing_row, separator_row}
 
 -- where a snippet of the group's primary file has a path, its first row is that of the path
 path_first : (layout : OriginLayout) (primary first : Bool) (named : Option (List ℕ)) (place : OriginLocation) (more : List NamedRow) (path : List ℕ)

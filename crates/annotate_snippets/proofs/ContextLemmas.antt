@@ -1,22 +1,11 @@
 -- What stands around the elements of a group is found one by one.
-use Rattle.std.proofs.Common.{◌≡◌, ◌∙◌, ℕ, ◌+◌, ◌-◌, ◌<◌, ◌==◌, ◌&&◌, ◌||◌, nat_eq, not, Bool, true, false, List, [], ◌∷◌, ◌++◌, Option, Some, length, map}
-use Rattle.std.proofs.Common.{take, drop, get_or, refl, sym, ap, arith, inl, inr}
-use Rattle.std.specs.List.{list_any, slice_get}
-use Rattle.std.specs.Option.{is_some, option_map}
-use Rattle.std.proofs.lemmas.Bool.{cases_lt}
-use Rattle.std.proofs.lemmas.Bool.Decides.{nat_tests}
-use Rattle.std.proofs.lemmas.List.{drop-map, get_or_append_left, length-drop, length_push, take_all, take_more}
-use Rattle.std.proofs.lemmas.List.Folds.{list_any-append}
-use Rattle.std.proofs.lemmas.Option.{slice_get_within, slice_get-get_or, slice_get-map, slice_get_read, get_or_from_slice_get}
-use Rattle.std.proofs.Math.Seq.{get_or-append_seam}
-use Rattle.snippet_model.specs.declared.snippet.Element.{Element}
-use Rattle.snippet_suggest.specs.declared.SuggestionStart.{SuggestionStart}
-use Rattle.annotate_snippets.specs.declared.renderer.preprocess.PreparedElement.{PreparedElement}
-use Rattle.annotate_snippets.specs.declared.renderer.element_context.GroupPosition.{GroupPosition}
-use Rattle.annotate_snippets.specs.declared.renderer.element_context.Next.{Next}
-use Rattle.annotate_snippets.specs.declared.renderer.element_context.ElementContext.{ElementContext}
-use Rattle.annotate_snippets.specs.ElementContext.{context_at, file_of_element, first_two_share, next_of, suggestion_start}
-use Rattle.annotate_snippets.specs.PreparedReport.{AreAround, element_of}
+use Rattle.annotate_snippets.proofs.Common.{◌≡◌, ◌∙◌, ℕ, ◌+◌, ◌-◌, ◌<◌, ◌==◌, ◌&&◌, ◌||◌, nat_eq, not, Bool, true, false}
+use Rattle.annotate_snippets.proofs.Common.{List, [], ◌∷◌, ◌++◌, Option, Some, length, map, take, drop, get_or, refl, sym, ap, arith, inl, inr}
+use Rattle.annotate_snippets.proofs.Common.{list_any, slice_get, is_some, option_map, cases_lt, nat_tests, drop-map, get_or_append_left, length-drop}
+use Rattle.annotate_snippets.proofs.Common.{length_push, take_all, take_more, list_any-append, slice_get_within, slice_get-get_or, slice_get-map}
+use Rattle.annotate_snippets.proofs.Common.{slice_get_read, get_or_from_slice_get, get_or-append_seam, Element, SuggestionStart, PreparedElement, GroupPosition}
+use Rattle.annotate_snippets.proofs.Common.{Next, ElementContext, context_at, file_of_element, first_two_share, next_of, suggestion_start, AreAround}
+use Rattle.annotate_snippets.proofs.Common.{element_of}
 
 -- whether an element is of a file
 abbrev pub has_file : Element → Bool

@@ -1,55 +1,20 @@
 -- A report with the lines around those that it keeps: what it has in common with the one in whose place it is shown, and that a page has just
 -- the source rows of the lines near one that is kept, and of each single line between two of these.
-use Rattle.std.proofs.Common.{◌≡◌, ◌∙◌, ℕ, ◌+◌, ◌||◌, Bool, true, false, not, List, [], ◌∷◌, ◌++◌, Option, None, Some, All, IfSome, length, map, arith}
-use Rattle.std.proofs.Common.{refl, sym, ap, ap₂, subst, append-nil, if◌then◌else◌}
-use Rattle.std.proofs.lemmas.List.Elements.{All-cons, All-head, All-nil, All-tail, All-weaker, filter_agree, filter_map-append}
-use Rattle.std.specs.Cow.{cow_str_bytes}
-use Rattle.std.specs.List.{AllZip, list_any, range_with_len, slice_get, slice_index_or}
-use Rattle.std.specs.Option.{option_map, option_to_list}
-use Rattle.std.specs.declared.alloc.Global.{Global}
-use Rattle.std.specs.declared.borrow.CowStr.{CowStr}
-use Rattle.std.specs.declared.ops.Range.{Range}
-use Rattle.snippet_shown.proofs.KeptAround.{keeps-around}
-use Rattle.snippet_shown.specs.Context.{context_spans, lines_around, visible_mark}
-use Rattle.snippet_shown.specs.Remade.{Stays}
-use Rattle.snippet_shown.specs.WithContext.{HoldsSpan, IsElementWithContext, IsGroupWithContext, IsSnippetWithContext}
-use Rattle.snippet_shown.specs.Asked.{IsAnyTitle, IsElementSound, IsGroupSound}
-use Rattle.snippet_grid.specs.Layout.{Layout}
-use Rattle.snippet_lines.proofs.LinesLemmas.{length-source_lines}
-use Rattle.snippet_lines.specs.Lines.{source_lines}
-use Rattle.snippet_lines.specs.declared.span.SpanFault.{SpanFault}
-use Rattle.snippet_model.specs.Fits.{AnnotationFits, ElementFits, ReportFits, TextFits, TitleFits}
-use Rattle.snippet_model.specs.Source.{SourceSeen}
-use Rattle.snippet_model.specs.Trusted.{trusted_of_element, trusted_of_title}
-use Rattle.snippet_model.specs.declared.snippet.Annotation.{Annotation}
-use Rattle.snippet_model.specs.declared.snippet.AnnotationKind.{AnnotationKind}
-use Rattle.snippet_model.specs.declared.snippet.Element.{Element}
-use Rattle.snippet_model.specs.declared.snippet.Element.TheVariants.{Message, Cause, Suggestion, Origin, Padding}
-use Rattle.snippet_model.specs.declared.snippet.Group.{Group}
-use Rattle.snippet_model.specs.declared.snippet.Snippet.{Snippet}
-use Rattle.snippet_model.specs.declared.snippet.Title.{Title}
-use Rattle.snippet_parts.specs.Kept.{kept_lines, keeps, with_between}
-use Rattle.snippet_shown.specs.AsMasked.{IsGroupMasked}
-use Rattle.snippet_shown.specs.AsSet.{IsAnnotationAsSet, IsElementAsSet, IsSnippetAsSet, IsTitleAsSet}
-use Rattle.snippet_shown.specs.AsWrapped.{IsElementWrapped, IsGroupWrapped, IsTitleWrapped}
-use Rattle.snippet_style.specs.Cell.{Cell}
-use Rattle.snippet_titles.specs.Title.{id_links}
-use Rattle.annotate_snippets.specs.AsSet.{IsRemade, IsStep, adds_context, wraps}
-use Rattle.annotate_snippets.specs.ElementContext.{context_at, drawn_elements, file_of_group, path_bytes, position_of_group}
-use Rattle.annotate_snippets.specs.Walk.{is_drawn}
-use Rattle.annotate_snippets.specs.Fault.{element_faults, faults_from, first_fault, number_after_lines, number_faults, refusal_of, span_faults}
-use Rattle.annotate_snippets.specs.Gutter.{gutter_of_report, layout_of_group}
-use Rattle.annotate_snippets.specs.Laws.Context.{ShowsLinesAround, lines_with_context}
-use Rattle.annotate_snippets.specs.Laws.Feeds.{HasOneLineTexts}
-use Rattle.annotate_snippets.specs.Laws.Page.{PageLaws}
-use Rattle.annotate_snippets.specs.Laws.Snippets.{ShowsSnippet}
-use Rattle.annotate_snippets.specs.Page.{GroupPage, NamedRow, line_named, lines_named, others}
-use Rattle.annotate_snippets.specs.PreparedReport.{IsElementDrawable, IsGroupDrawable}
-use Rattle.annotate_snippets.specs.RowsWithoutSource.{cause_head, rows_after_cause}
-use Rattle.annotate_snippets.specs.declared.renderer.Renderer.{Renderer}
-use Rattle.annotate_snippets.specs.declared.renderer.element_context.ElementContext.{ElementContext}
-use Rattle.annotate_snippets.specs.declared.renderer.error.RenderError.{RenderError}
-use Rattle.annotate_snippets.specs.declared.renderer.form.Form.{Form}
+use Rattle.annotate_snippets.proofs.Common.{◌≡◌, ◌∙◌, ℕ, ◌+◌, ◌||◌, Bool, true, false, not, List, [], ◌∷◌, ◌++◌, Option, None}
+use Rattle.annotate_snippets.proofs.Common.{Some, All, IfSome, length, map, arith, refl, sym, ap, ap₂, subst, if◌then◌else◌, All-cons, All-head}
+use Rattle.annotate_snippets.proofs.Common.{All-nil, All-tail, All-weaker, filter_agree, filter_map-append, cow_str_bytes, AllZip, list_any, range_with_len}
+use Rattle.annotate_snippets.proofs.Common.{slice_get, slice_index_or, option_map, option_to_list, Global, CowStr, Range, keeps-around, context_spans}
+use Rattle.annotate_snippets.proofs.Common.{lines_around, visible_mark, Stays, HoldsSpan, IsElementWithContext, IsGroupWithContext, IsSnippetWithContext}
+use Rattle.annotate_snippets.proofs.Common.{IsAnyTitle, IsElementSound, IsGroupSound, Layout, length-source_lines, source_lines, SpanFault, AnnotationFits}
+use Rattle.annotate_snippets.proofs.Common.{ElementFits, ReportFits, TextFits, TitleFits, SourceSeen, trusted_of_element, trusted_of_title, Annotation}
+use Rattle.annotate_snippets.proofs.Common.{AnnotationKind, Element, Message, Cause, Suggestion, Origin, Padding, Group, Snippet, Title, kept_lines, keeps}
+use Rattle.annotate_snippets.proofs.Common.{with_between, IsGroupMasked, IsAnnotationAsSet, IsElementAsSet, IsSnippetAsSet, IsTitleAsSet, IsElementWrapped}
+use Rattle.annotate_snippets.proofs.Common.{IsGroupWrapped, IsTitleWrapped, Cell, id_links, IsRemade, IsStep, adds_context, wraps, context_at, drawn_elements}
+use Rattle.annotate_snippets.proofs.Common.{file_of_group, path_bytes, position_of_group, is_drawn, element_faults, faults_from, first_fault}
+use Rattle.annotate_snippets.proofs.Common.{number_after_lines, number_faults, refusal_of, span_faults, gutter_of_report, layout_of_group, ShowsLinesAround}
+use Rattle.annotate_snippets.proofs.Common.{lines_with_context, HasOneLineTexts, PageLaws, ShowsSnippet, GroupPage, NamedRow, line_named, lines_named, others}
+use Rattle.annotate_snippets.proofs.Common.{IsElementDrawable, IsGroupDrawable, cause_head, rows_after_cause, Renderer, ElementContext, RenderError, Form}
+use Rattle.std.proofs.Common.{append-nil}
 use Rattle.annotate_snippets.proofs.BoundsLaws.{span-faultless}
 use Rattle.annotate_snippets.proofs.FaultLemmas.{groups-drawable}
 use Rattle.annotate_snippets.proofs.FeedsShown.{feeds-faithful}

@@ -1,10 +1,7 @@
 -- Edits of which no pair is named don't overlap.
-use Rattle.std.proofs.Common.{◌≡◌, ℕ, zero, suc, ◌+◌, ◌<◌, Bool, true, false, cond, List, [], ◌∷◌, Option, Some, None, length, get_or, refl, arith}
-use Rattle.std.specs.List.{position_from}
-use Rattle.std.specs.Option.{option_map, option_or}
-use Rattle.snippet_splice.specs.Edits.{Edit}
-use Rattle.snippet_splice.specs.Overlap.{first_overlap, first_overlap_from, overlap}
-use Rattle.snippet_splice.specs.FirstOverlap.{AreDisjoint, no_edit}
+use Rattle.annotate_snippets.proofs.Common.{◌≡◌, ℕ, zero, suc, ◌+◌, ◌<◌, Bool, true, false, cond, List, [], ◌∷◌, Option, Some, None}
+use Rattle.annotate_snippets.proofs.Common.{length, get_or, refl, arith, position_from, option_map, option_or, Edit, first_overlap, first_overlap_from, overlap}
+use Rattle.annotate_snippets.proofs.Common.{AreDisjoint, no_edit}
 
 -- neither of two that give nothing
 neither : {X : Type 0} (a b : Option X) → option_or a b ≡ None → (a ≡ None) × (b ≡ None)

@@ -1,29 +1,11 @@
 -- The rows of a line are what the spans of the snippet make of it.
-use Rattle.std.proofs.Common.{◌≡◌, ℕ, ◌+◌, ◌<◌, Bool, List, Contains, length, chars, sym, ap, subst}
-use Rattle.snippet_model.specs.declared.snippet.Annotation.{Annotation}
-use Rattle.snippet_model.specs.declared.snippet.Snippet.{Snippet}
-use Rattle.snippet_style.specs.Cell.{Cell, unlinked_cell}
-use Rattle.snippet_text.specs.Normalized.{norm}
-use Rattle.snippet_parts.specs.Annotated.{KeptLine, kept_line}
-use Rattle.snippet_parts.specs.OnLine.{seen_kept}
-use Rattle.snippet_parts.specs.declared.entries.AnnotatedLineInfo.{AnnotatedLineInfo}
-use Rattle.snippet_parts.specs.declared.entries.LineAnnotation.{LineAnnotation}
-use Rattle.snippet_window.specs.declared.margin.Margin.{Margin}
-use Rattle.snippet_lines.specs.Number.{shown_number}
-use Rattle.snippet_lines.specs.declared.number.LineNumbers.{LineNumbers}
-use Rattle.snippet_grid.specs.Grid.{cell_at}
-use Rattle.snippet_style.specs.Glyphs.{strokes_of, underline_role}
-use Rattle.snippet_strokes.specs.Bars.{Bar, bars_apart, ends_of_bars}
-use Rattle.snippet_strokes.specs.DrawnBars.{HasOwnDepth}
-use Rattle.snippet_strokes.specs.SourceRows.{window_cells}
-use Rattle.snippet_strokes.proofs.LineFacts.{IsSourceRow, ShowsLine}
-use Rattle.snippet_strokes.proofs.BarLaws.{bar_past}
-use Rattle.annotate_snippets.specs.declared.renderer.Renderer.{Renderer}
-use Rattle.snippet_grid.specs.Layout.{Layout}
-use Rattle.annotate_snippets.specs.Gutter.{line_numbers, number_text, numbered_source}
+use Rattle.annotate_snippets.proofs.Common.{◌≡◌, ℕ, ◌+◌, ◌<◌, Bool, List, length, sym, ap, subst, Annotation, Snippet, Cell, unlinked_cell}
+use Rattle.annotate_snippets.proofs.Common.{norm, KeptLine, kept_line, seen_kept, AnnotatedLineInfo, LineAnnotation, Margin, shown_number, LineNumbers, cell_at}
+use Rattle.annotate_snippets.proofs.Common.{strokes_of, underline_role, Bar, bars_apart, ends_of_bars, HasOwnDepth, window_cells, IsSourceRow, ShowsLine}
+use Rattle.annotate_snippets.proofs.Common.{bar_past, Renderer, Layout, line_numbers, number_text, numbered_source, margin_in}
+use Rattle.std.proofs.Common.{Contains, chars}
 use Rattle.annotate_snippets.proofs.LineWords.{bars_on, entries_on}
 use Rattle.annotate_snippets.proofs.DrawnRows.{IsLineDrawn}
-use Rattle.annotate_snippets.specs.GraphicForm.{margin_in}
 use Rattle.annotate_snippets.proofs.MarginWords.{room_of}
 
 -- the bars of a line's entries are those of its spans

@@ -1,25 +1,10 @@
 -- What laws are proved from: what is known of the rows that the graphic form has for a line, and in place of lines (PageLemmas).
-use Rattle.std.proofs.Common.{◌≡◌, ℕ, ◌+◌, ◌-◌, ◌==◌, ◌&&◌, Bool, not, List, [], ◌∷◌, filter, length}
-use Rattle.snippet_model.specs.declared.snippet.Annotation.{Annotation}
-use Rattle.snippet_model.specs.declared.snippet.Snippet.{Snippet}
-use Rattle.std.specs.Cow.{cow_str_bytes}
-use Rattle.snippet_style.specs.Cell.{Cell}
-use Rattle.snippet_text.specs.Normalized.{norm}
-use Rattle.snippet_text.specs.Width.{width_of}
-use Rattle.snippet_window.specs.Window.{chars_at, dropped_part}
-use Rattle.snippet_parts.specs.declared.entries.LineAnnotation.{LineAnnotation}
-use Rattle.snippet_window.specs.declared.margin.Margin.{Margin}
-use Rattle.snippet_strokes.specs.Bars.{Bar, open_past}
-use Rattle.snippet_labels.specs.PlacedEntries.{is_end_part}
-use Rattle.snippet_strokes.specs.SourceRows.{window_cells}
-use Rattle.snippet_strokes.proofs.LineFacts.{AreLineRows, IsHighlighted, IsSourceRow}
-use Rattle.snippet_strokes.specs.Snippet.{gap_row}
-use Rattle.annotate_snippets.specs.declared.renderer.Renderer.{Renderer}
-use Rattle.snippet_grid.specs.Layout.{Layout}
-use Rattle.annotate_snippets.specs.GraphicForm.{margin_in}
-use Rattle.annotate_snippets.specs.Gutter.{number_text}
+use Rattle.annotate_snippets.proofs.Common.{◌≡◌, ℕ, ◌+◌, ◌-◌, ◌==◌, ◌&&◌, Bool, not, List, [], ◌∷◌, length, Annotation, Snippet}
+use Rattle.annotate_snippets.proofs.Common.{cow_str_bytes, Cell, norm, width_of, chars_at, dropped_part, LineAnnotation, Margin, Bar, open_past, is_end_part}
+use Rattle.annotate_snippets.proofs.Common.{window_cells, AreLineRows, IsHighlighted, IsSourceRow, gap_row, Renderer, Layout, margin_in, number_text, RowName}
+use Rattle.annotate_snippets.proofs.Common.{SourceRow, Elision, OfferedLine, RemovedLine, Other, NamedRow, rows_below}
+use Rattle.std.proofs.Common.{filter}
 use Rattle.annotate_snippets.proofs.LineWords.{bars_on, entries_on}
-use Rattle.annotate_snippets.specs.Page.{RowName, SourceRow, Elision, OfferedLine, RemovedLine, Other, NamedRow, rows_below}
 
 -- the bars that are open below a row of this name, where these are open above it
 abbrev pub open_after : Snippet Annotation → RowName → List Bar → List Bar

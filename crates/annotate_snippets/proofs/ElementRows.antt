@@ -1,31 +1,13 @@
 -- The rows of a group's elements, one below the other.
-use Rattle.std.proofs.Common.{◌≡◌, ℕ, ◌+◌, ◌-◌, ◌<◌, Bool, true, false, not, drop, Option, Some, List, [], ◌∷◌, ◌++◌, length, get_or, map, refl, sym}
-use Rattle.std.proofs.Common.{ap, ◌∙◌, arith, subst, append_assoc, take, zero, suc}
-use Rattle.std.specs.List.{enumerate_from, flat_map, slice_get, slice_index_or}
-use Rattle.std.proofs.Math.Nat.{zero-add}
-use Rattle.std.proofs.lemmas.Grind.{flat_map-append}
-use Rattle.std.proofs.lemmas.List.{append-nil, get_or-map, length-map, take_all, take_more}
-use Rattle.std.proofs.lemmas.List.FromFn.{get_or-enumerate_from, length-enumerate_from}
-use Rattle.std.proofs.lemmas.Option.{get_or_from_slice_get, slice_get-get_or, slice_get_within}
-use Rattle.snippet_style.specs.Cell.{Cell}
-use Rattle.snippet_model.specs.declared.snippet.Element.{Element}
-use Rattle.annotate_snippets.specs.ElementContext.{context_at, drawn_elements, first_two_share, is_end, next_of}
-use Rattle.annotate_snippets.specs.DrawnReport.{last_row}
+use Rattle.annotate_snippets.proofs.Common.{◌≡◌, ℕ, ◌+◌, ◌-◌, ◌<◌, Bool, true, false, not, drop, Option, Some, List, [], ◌∷◌}
+use Rattle.annotate_snippets.proofs.Common.{◌++◌, length, get_or, map, refl, sym, ap, ◌∙◌, arith, subst, take, zero, suc, enumerate_from, flat_map}
+use Rattle.annotate_snippets.proofs.Common.{slice_get, slice_index_or, zero-add, flat_map-append, append-nil, get_or-map, length-map, take_all, take_more}
+use Rattle.annotate_snippets.proofs.Common.{get_or-enumerate_from, length-enumerate_from, get_or_from_slice_get, slice_get-get_or, slice_get_within, Cell}
+use Rattle.annotate_snippets.proofs.Common.{Element, context_at, drawn_elements, first_two_share, is_end, next_of, last_row, element_rows, group_page}
+use Rattle.annotate_snippets.proofs.Common.{CanStandIn, begins_in_row_above, shared_row, drawn_rows, title_part, Group, Title, rows_of_elements, NamedRow}
+use Rattle.annotate_snippets.proofs.Common.{cells_of, group_rows, Renderer, Layout, AreAround, element_of, PreparedElement, GroupPosition, Next, ElementContext}
+use Rattle.std.proofs.Common.{append_assoc}
 use Rattle.annotate_snippets.proofs.PageWords.{found_at}
-use Rattle.annotate_snippets.specs.GraphicForm.{element_rows, group_page}
-use Rattle.annotate_snippets.specs.ElementRoom.{CanStandIn, begins_in_row_above, shared_row, drawn_rows}
-use Rattle.annotate_snippets.specs.RowsWithoutSource.{title_part}
-use Rattle.snippet_model.specs.declared.snippet.Group.{Group}
-use Rattle.snippet_model.specs.declared.snippet.Title.{Title}
-use Rattle.annotate_snippets.specs.Printing.{rows_of_elements}
-use Rattle.annotate_snippets.specs.Page.{NamedRow, cells_of, group_rows}
-use Rattle.annotate_snippets.specs.declared.renderer.Renderer.{Renderer}
-use Rattle.snippet_grid.specs.Layout.{Layout}
-use Rattle.annotate_snippets.specs.PreparedReport.{AreAround, element_of}
-use Rattle.annotate_snippets.specs.declared.renderer.preprocess.PreparedElement.{PreparedElement}
-use Rattle.annotate_snippets.specs.declared.renderer.element_context.GroupPosition.{GroupPosition}
-use Rattle.annotate_snippets.specs.declared.renderer.element_context.Next.{Next}
-use Rattle.annotate_snippets.specs.declared.renderer.element_context.ElementContext.{ElementContext}
 use Rattle.annotate_snippets.proofs.AroundLaws.{begins_is, can_stand, shared_goes_on, shares_after, shares_before, shares_end}
 
 module _ (r : Renderer) (layout : Layout) (place : GroupPosition) (file : Option (List ℕ)) (es : List Element) where

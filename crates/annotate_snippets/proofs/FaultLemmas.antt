@@ -1,40 +1,15 @@
 -- What a report without faults is.
-use Rattle.std.proofs.Common.{◌≡◌, ℕ, ◌+◌, ◌<◌, ◌≤◌, ◌&&◌, count_by, get_or, take, ◌==◌, nat_le, nat_lt, Bool, true, false, List, [], ◌∷◌, ◌++◌, Option, Some}
-use Rattle.std.proofs.Common.{None}
-use Rattle.std.proofs.Common.{All, length, map, refl, sym, ap, ◌∙◌, arith, inl, inr, cond, ◌^◌}
-use Rattle.std.specs.List.{slice_get}
-use Rattle.std.specs.Option.{option_map, option_or, option_to_list}
-use Rattle.std.proofs.lemmas.Bool.Decides.{nat_tests}
-use Rattle.std.proofs.lemmas.List.{take_more}
-use Rattle.std.proofs.lemmas.List.Sums.{count_by-le-length, fold_push}
-use Rattle.std.proofs.lemmas.List.Elements.{All-nil, All-cons, All-head, All-tail}
-use Rattle.std.specs.Str.{IsCharBoundary}
-use Rattle.snippet_model.specs.declared.snippet.Group.{Group}
-use Rattle.std.specs.declared.ops.Range.{Range}
-use Rattle.snippet_model.specs.declared.snippet.Annotation.{Annotation}
-use Rattle.snippet_model.specs.declared.snippet.Patch.{Patch}
-use Rattle.std.specs.Cow.{cow_str_bytes}
-use Rattle.snippet_model.specs.declared.snippet.Snippet.{Snippet}
-use Rattle.snippet_model.specs.declared.snippet.Element.{Element}
-use Rattle.snippet_model.specs.declared.snippet.Element.TheVariants.{Message, Cause, Suggestion, Origin, Padding}
-use Rattle.snippet_style.specs.Bounds.{max_usize}
-use Rattle.snippet_lines.specs.declared.span.SpanFault.{SpanFault}
-use Rattle.snippet_lines.specs.declared.span.SpanFault.TheVariants.{Reversed, PastEnd, OffBoundary}
-use Rattle.snippet_lines.specs.Span.{is_span_border, is_character_border, span_fault}
-use Rattle.snippet_lines.specs.IsSpan.{IsSpan, IsSpanBorder}
-use Rattle.snippet_splice.specs.Edits.{edit_of}
-use Rattle.snippet_splice.specs.Overlap.{first_overlap}
-use Rattle.annotate_snippets.specs.Fault.{added_lines, faults_from, missing_title, number_after_lines, first_of, span_faults, overlap_faults, group_faults}
-use Rattle.annotate_snippets.specs.Fault.{element_faults, first_fault, refusal_of, number_faults}
-use Rattle.snippet_suggest.specs.PreparedSuggestion.{IsSuggestible}
-use Rattle.annotate_snippets.specs.PreparedReport.{IsDrawable, IsElementDrawable, IsGroupDrawable}
+use Rattle.annotate_snippets.proofs.Common.{◌≡◌, ℕ, ◌+◌, ◌<◌, ◌≤◌, ◌&&◌, count_by, get_or, take, ◌==◌, nat_le, nat_lt, Bool, true}
+use Rattle.annotate_snippets.proofs.Common.{false, List, [], ◌∷◌, ◌++◌, Option, Some, None, All, length, map, refl, sym, ap, ◌∙◌, arith, inl}
+use Rattle.annotate_snippets.proofs.Common.{inr, cond, ◌^◌, slice_get, option_map, option_or, option_to_list, nat_tests, take_more, count_by-le-length}
+use Rattle.annotate_snippets.proofs.Common.{fold_push, All-nil, All-cons, All-head, All-tail, IsCharBoundary, Group, Range, Annotation, Patch, cow_str_bytes}
+use Rattle.annotate_snippets.proofs.Common.{Snippet, Element, Message, Cause, Suggestion, Origin, Padding, max_usize, SpanFault, Reversed, PastEnd, OffBoundary}
+use Rattle.annotate_snippets.proofs.Common.{is_span_border, is_character_border, span_fault, IsSpan, IsSpanBorder, edit_of, first_overlap, added_lines}
+use Rattle.annotate_snippets.proofs.Common.{faults_from, missing_title, number_after_lines, first_of, span_faults, overlap_faults, group_faults, element_faults}
+use Rattle.annotate_snippets.proofs.Common.{first_fault, refusal_of, number_faults, IsSuggestible, IsDrawable, IsElementDrawable, IsGroupDrawable}
+use Rattle.annotate_snippets.proofs.Common.{numbers-bound, ReportFits, GroupFits, ElementFits, NoTitle, PatchesOverlap, LineNumberTooLarge, RenderError, Short}
+use Rattle.annotate_snippets.proofs.Common.{some_same}
 use Rattle.annotate_snippets.proofs.DisjointLemmas.{first_overlap-clear}
-use Rattle.snippet_suggest.proofs.NumberLaws.{numbers-bound}
-use Rattle.snippet_model.specs.Fits.{ReportFits, GroupFits, ElementFits}
-use Rattle.annotate_snippets.specs.declared.renderer.error.RenderError.TheVariants.{NoTitle, PatchesOverlap, LineNumberTooLarge}
-use Rattle.annotate_snippets.specs.declared.renderer.error.RenderError.{RenderError}
-use Rattle.annotate_snippets.specs.declared.renderer.form.Form.TheVariants.{Short}
-use Rattle.snippet_grid.proofs.WeaveLemmas.{some_same}
 
 -- one more patch adds no more lines than its replacement has bytes
 pub added_more : (patches : List Patch) (i : ℕ) (p : Patch) → i < length patches → p ≡ get_or patches i p

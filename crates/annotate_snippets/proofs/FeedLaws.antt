@@ -1,26 +1,12 @@
 -- Cells and rows without line feeds: glyphs, the cells left of the code, and the rows in place of lines that are left out.
-use Rattle.std.proofs.Common.{◌≡◌, ℕ, ◌+◌, ◌==◌, All, not, Bool, true, false, List, [], ◌∷◌, ◌++◌, length, get_or, replicate, refl, sym, ap, subst, ◌∙◌, arith}
-use Rattle.std.proofs.Common.{inl, inr}
-use Rattle.std.specs.List.{list_all, list_any}
-use Rattle.std.proofs.lemmas.Bool.{cases_lt, eqb-true}
-use Rattle.std.proofs.lemmas.List.{get_or_past}
-use Rattle.std.proofs.lemmas.List.Elements.{All-append, All-cons, All-contains, All-from_get_or, All-get_or, All-nil, All-replicate}
-use Rattle.std.proofs.lemmas.List.Sums.{AllPass-from_list_all}
-use Rattle.snippet_style.specs.Cell.{Cell, SPACE, text_cells, unlinked_cell}
-use Rattle.snippet_style.specs.Glyphs.{bar_glyphs, closing_of, elision_of, separator_of}
-use Rattle.snippet_style.specs.declared.glyphs.DecorStyle.{DecorStyle}
-use Rattle.snippet_style.specs.declared.glyphs.DecorStyle.TheVariants.{Ascii, Unicode}
-use Rattle.snippet_style.specs.declared.role.ElementStyle.TheVariants.{LineNumber}
-use Rattle.snippet_strokes.specs.EntryMarks.{IsBarCell}
-use Rattle.snippet_strokes.specs.StrokeRows.{IsElisionRow, bare_elision_row}
-use Rattle.snippet_strokes.specs.SourceRows.{bare_row}
-use Rattle.snippet_grid.specs.Layout.{Layout}
-use Rattle.annotate_snippets.specs.Laws.Feeds.{HasNoFeed}
+use Rattle.annotate_snippets.proofs.Common.{◌≡◌, ℕ, ◌+◌, ◌==◌, All, not, Bool, true, false, List, [], ◌∷◌, ◌++◌, length, get_or}
+use Rattle.annotate_snippets.proofs.Common.{replicate, refl, sym, ap, subst, ◌∙◌, arith, inl, inr, list_all, list_any, cases_lt, eqb-true, get_or_past}
+use Rattle.annotate_snippets.proofs.Common.{All-append, All-cons, All-contains, All-from_get_or, All-get_or, All-nil, All-replicate, AllPass-from_list_all}
+use Rattle.annotate_snippets.proofs.Common.{Cell, SPACE, text_cells, unlinked_cell, bar_glyphs, closing_of, elision_of, separator_of, DecorStyle, Ascii}
+use Rattle.annotate_snippets.proofs.Common.{Unicode, LineNumber, IsBarCell, IsElisionRow, bare_elision_row, bare_row, Layout, HasNoFeed, each-fails}
+use Rattle.annotate_snippets.proofs.Common.{All-text_cells, ElementStyle}
 use Rattle.annotate_snippets.proofs.OneLineTexts.{HoldsNoFeed, IsNoFeed}
 use Rattle.annotate_snippets.proofs.ListLemmas.{from_any}
-use Rattle.snippet_titles.proofs.OriginFree.{each-fails}
-use Rattle.snippet_style.proofs.CellLemmas.{All-text_cells}
-use Rattle.snippet_style.specs.declared.role.ElementStyle.{ElementStyle}
 
 -- ---- cells
 

@@ -1,44 +1,18 @@
 -- A report whose texts are as they are set: what it has in common with the one in whose place it is shown, and that where line feeds are
 -- shown no text of it that may be on one line only holds one.
-use Rattle.std.proofs.Common.{◌≡◌, ◌∙◌, ℕ, ◌+◌, ◌==◌, Bool, true, false, List, [], ◌∷◌, ◌++◌, Option, None, Some, All, IfSome, codes, if◌then◌else◌, not}
-use Rattle.std.proofs.Common.{append-nil, count_by, map, refl, sym, ap, ap₂, subst}
-use Rattle.std.proofs.lemmas.Bool.{eqb-true}
-use Rattle.std.proofs.lemmas.List.Elements.{All-cons, All-nil}
-use Rattle.std.proofs.lemmas.List.Sums.{sum_by-cons}
-use Rattle.std.specs.Cow.{cow_str_bytes}
-use Rattle.std.specs.List.{AllZip, flat_map}
-use Rattle.std.specs.Option.{option_map, option_to_list}
+use Rattle.annotate_snippets.proofs.Common.{◌≡◌, ◌∙◌, ℕ, ◌+◌, ◌==◌, Bool, true, false, List, [], ◌∷◌, ◌++◌, Option, None, Some}
+use Rattle.annotate_snippets.proofs.Common.{All, IfSome, codes, if◌then◌else◌, not, count_by, map, refl, sym, ap, ap₂, subst, eqb-true, All-cons}
+use Rattle.annotate_snippets.proofs.Common.{All-nil, sum_by-cons, cow_str_bytes, AllZip, flat_map, option_map, option_to_list, Global, CowStr, shown_name}
+use Rattle.annotate_snippets.proofs.Common.{SameOption, SamePatch, SameText, standard_name_of, trusted_of_element, trusted_of_title, LevelName, Standard, Own}
+use Rattle.annotate_snippets.proofs.Common.{Annotation, Element, Message, Cause, Suggestion, Origin, Padding, Group, Id, Patch, Snippet, Title}
+use Rattle.annotate_snippets.proofs.Common.{IsAnnotationAsSet, IsElementAsSet, IsGroupAsSet, IsIdAsSet, IsNameAsSet, IsSnippetAsSet, IsTitleAsSet}
+use Rattle.annotate_snippets.proofs.Common.{IsOptionAsSet, IsTextAsSet, picture_of, with_line_feeds_shown, Edit, edit_of, first_overlap, LevelInner, Error}
+use Rattle.annotate_snippets.proofs.Common.{Warning, Info, Note, Help, norm, shown, each-fails, id_chars, id_links, text_links, is_drawn, added_lines}
+use Rattle.annotate_snippets.proofs.Common.{element_faults, number_after_lines, number_faults, overlap_faults, span_faults, HasOneLineTexts, RenderError}
+use Rattle.annotate_snippets.proofs.Common.{PatchesOverlap}
+use Rattle.std.proofs.Common.{append-nil}
 use Rattle.std.specs.Str.{chars}
-use Rattle.std.specs.declared.alloc.Global.{Global}
-use Rattle.std.specs.declared.borrow.CowStr.{CowStr}
-use Rattle.snippet_model.specs.Level.{shown_name}
-use Rattle.snippet_model.specs.Same.{SameOption, SamePatch, SameText}
-use Rattle.snippet_model.specs.StandardName.{standard_name_of}
-use Rattle.snippet_model.specs.Trusted.{trusted_of_element, trusted_of_title}
-use Rattle.snippet_model.specs.declared.level.LevelName.{LevelName}
-use Rattle.snippet_model.specs.declared.level.LevelName.TheVariants.{Standard, Hidden, Own}
-use Rattle.snippet_model.specs.declared.snippet.Annotation.{Annotation}
-use Rattle.snippet_model.specs.declared.snippet.Element.{Element}
-use Rattle.snippet_model.specs.declared.snippet.Element.TheVariants.{Message, Cause, Suggestion, Origin, Padding}
-use Rattle.snippet_model.specs.declared.snippet.Group.{Group}
-use Rattle.snippet_model.specs.declared.snippet.Id.{Id}
-use Rattle.snippet_model.specs.declared.snippet.Patch.{Patch}
-use Rattle.snippet_model.specs.declared.snippet.Snippet.{Snippet}
-use Rattle.snippet_model.specs.declared.snippet.Title.{Title}
-use Rattle.snippet_shown.specs.AsSet.{IsAnnotationAsSet, IsElementAsSet, IsGroupAsSet, IsIdAsSet, IsNameAsSet, IsSnippetAsSet, IsTitleAsSet}
-use Rattle.snippet_shown.specs.LineFeeds.{IsOptionAsSet, IsTextAsSet, picture_of, with_line_feeds_shown}
-use Rattle.snippet_splice.specs.Edits.{Edit, edit_of}
-use Rattle.snippet_splice.specs.Overlap.{first_overlap}
-use Rattle.snippet_style.specs.declared.role.LevelInner.{LevelInner}
-use Rattle.snippet_style.specs.declared.role.LevelInner.TheVariants.{Error, Warning, Info, Note, Help}
-use Rattle.snippet_text.specs.Normalized.{norm, shown}
-use Rattle.snippet_titles.proofs.OriginFree.{each-fails}
-use Rattle.snippet_titles.specs.Title.{id_chars, id_links, text_links}
-use Rattle.annotate_snippets.specs.Walk.{is_drawn}
-use Rattle.annotate_snippets.specs.Fault.{added_lines, element_faults, number_after_lines, number_faults, overlap_faults, span_faults}
-use Rattle.annotate_snippets.specs.Laws.Feeds.{HasOneLineTexts}
-use Rattle.annotate_snippets.specs.declared.renderer.error.RenderError.{RenderError}
-use Rattle.annotate_snippets.specs.declared.renderer.error.RenderError.TheVariants.{PatchesOverlap}
+use Rattle.snippet_model.specs.declared.level.LevelName.TheVariants.{Hidden}
 use Rattle.annotate_snippets.proofs.OneLineTexts.{IsNoFeed, IsOneLineElement, IsOneLineGroup, IsOneLineId, IsOneLineLabel, IsOneLineText}
 use Rattle.annotate_snippets.proofs.OneLineTexts.{IsOneLineTitle, one_line_texts}
 use Rattle.annotate_snippets.proofs.PairedLemmas.{all-second, faults-same, zip-length}

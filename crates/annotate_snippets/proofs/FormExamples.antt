@@ -1,26 +1,11 @@
 -- The graphic form, computed on small sources. In these LF is 10.
-use Rattle.std.proofs.Common.{◌≡◌, ℕ, ◌<◌, ◌^◌, true, false, None, Some, Vec, List, [], ◌∷◌, codes, length, map, refl, arith}
-use Rattle.std.specs.declared.alloc.Global.{Global}
+use Rattle.annotate_snippets.proofs.Common.{◌≡◌, ℕ, ◌<◌, ◌^◌, true, false, None, Some, Vec, List, [], ◌∷◌, codes, length, map, refl}
+use Rattle.annotate_snippets.proofs.Common.{arith, Global, Ascii, row_text, unindexed, Annotation, AnnotationKind, Primary, Context, Snippet, norm, char_width}
+use Rattle.annotate_snippets.proofs.Common.{unicode_width, start_of, end_location, line_of, location_of, locations_of, place_of, start_location}
+use Rattle.annotate_snippets.proofs.Common.{steps_after_text, written, text_of, rows_of_lines, begins_with_number, Elision, NamedRow, Other, RowName, SourceRow}
+use Rattle.annotate_snippets.proofs.Common.{plain_settings}
 use Rattle.std.specs.Fmt.{digits}
 use Rattle.std.specs.Str.{chars}
-use Rattle.snippet_style.specs.declared.glyphs.DecorStyle.TheVariants.{Ascii}
-use Rattle.snippet_grid.specs.Print.{row_text}
-use Rattle.snippet_model.specs.Source.{unindexed}
-use Rattle.snippet_model.specs.declared.snippet.Annotation.{Annotation}
-use Rattle.snippet_model.specs.declared.snippet.AnnotationKind.{AnnotationKind}
-use Rattle.snippet_model.specs.declared.snippet.AnnotationKind.TheVariants.{Primary, Context}
-use Rattle.snippet_model.specs.declared.snippet.Snippet.{Snippet}
-use Rattle.snippet_text.specs.Normalized.{norm}
-use Rattle.snippet_text.specs.Width.{char_width}
-use Rattle.snippet_text.proofs.WidthLemmas.{unicode_width}
-use Rattle.snippet_lines.specs.Lines.{start_of}
-use Rattle.snippet_lines.specs.Place.{end_location, line_of, location_of, locations_of, place_of, start_location, steps_after_text}
-use Rattle.snippet_style.specs.Cell.{written}
-use Rattle.snippet_suggest.proofs.Examples.{text_of}
-use Rattle.annotate_snippets.specs.GraphicForm.{rows_of_lines}
-use Rattle.annotate_snippets.specs.Laws.Numbers.{begins_with_number}
-use Rattle.annotate_snippets.specs.Page.{Elision, NamedRow, Other, RowName, SourceRow}
-use Rattle.annotate_snippets.specs.Settings.{plain_settings}
 use Rattle.annotate_snippets.proofs.NotShown.{layout, labelled_span, span_of}
 
 -- a source with these spans, whose first line has number 1

@@ -1,21 +1,11 @@
 -- The rows of a snippet's lines, read one by one: each source row with those below it is all rows of its line.
-use Rattle.std.proofs.Common.{◌≡◌, ℕ, ◌+◌, ◌<◌, ◌==◌, ◌&&◌, cond, nat_lt, Bool, true, false, List, [], ◌∷◌, ◌++◌, filter, length, map, refl}
-use Rattle.std.proofs.Common.{sym, ap, subst, ◌∙◌, arith}
-use Rattle.std.specs.Cow.{cow_str_bytes}
-use Rattle.snippet_model.specs.declared.snippet.Annotation.{Annotation}
-use Rattle.snippet_model.specs.declared.snippet.Snippet.{Snippet}
-use Rattle.snippet_style.specs.Cell.{Cell}
-use Rattle.snippet_text.specs.Normalized.{norm}
-use Rattle.snippet_text.specs.Width.{width_of}
-use Rattle.snippet_window.specs.Window.{chars_at, dropped_part}
-use Rattle.snippet_window.specs.declared.margin.Margin.{Margin}
-use Rattle.snippet_strokes.specs.Bars.{Bar, open_past}
-use Rattle.snippet_strokes.specs.Snippet.{gap_row}
-use Rattle.snippet_grid.specs.Layout.{Layout}
-use Rattle.annotate_snippets.specs.declared.renderer.Renderer.{Renderer}
-use Rattle.annotate_snippets.specs.GraphicForm.{gap_below, margin_in, named_line, rows_of_line, rows_of_lines}
+use Rattle.annotate_snippets.proofs.Common.{◌≡◌, ℕ, ◌+◌, ◌<◌, ◌==◌, ◌&&◌, cond, nat_lt, Bool, true, false, List, [], ◌∷◌}
+use Rattle.annotate_snippets.proofs.Common.{◌++◌, length, map, refl, sym, ap, subst, ◌∙◌, arith, cow_str_bytes, Annotation, Snippet, Cell, norm}
+use Rattle.annotate_snippets.proofs.Common.{width_of, chars_at, dropped_part, Margin, Bar, open_past, gap_row, Layout, Renderer, gap_below, margin_in}
+use Rattle.annotate_snippets.proofs.Common.{named_line, rows_of_line, rows_of_lines, Elision, NamedRow, OfferedLine, Other, RemovedLine, RowName, SourceRow}
+use Rattle.annotate_snippets.proofs.Common.{others, rows_below, shows_lines}
+use Rattle.std.proofs.Common.{filter}
 use Rattle.annotate_snippets.proofs.LineWords.{bars_on, entries_on}
-use Rattle.annotate_snippets.specs.Page.{Elision, NamedRow, OfferedLine, Other, RemovedLine, RowName, SourceRow, others, rows_below, shows_lines}
 use Rattle.annotate_snippets.proofs.LabelLemmas.{head_same, tail_same}
 use Rattle.annotate_snippets.proofs.LineRowValues.{line_rows-some}
 use Rattle.annotate_snippets.proofs.PageLemmas.{below-own}

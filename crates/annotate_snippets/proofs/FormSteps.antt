@@ -1,25 +1,11 @@
 -- The text form of a group's elements, and that of a report's groups, are made one by one.
-use Rattle.std.proofs.Common.{◌≡◌, ◌≢◌, ◌∙◌, ℕ, ◌+◌, ◌^◌, ◌<◌, ◌≤◌, ◌==◌, cond, not, suc, Bool, true, false, List}
-use Rattle.std.proofs.Common.{[], ◌∷◌, ◌++◌, Option, None, Some, IfSome, if◌then◌else◌, length}
-use Rattle.std.proofs.Common.{drop, get_or, refl, sym, ap, subst, arith}
-use Rattle.std.specs.List.{filter, flat_map}
-use Rattle.std.specs.Option.{option_to_list}
-use Rattle.std.proofs.Math.Seq.{drop-cons}
-use Rattle.std.proofs.lemmas.Bool.{both_ways}
-use Rattle.std.proofs.lemmas.List.{append-nil, append_assoc, drop_all}
-use Rattle.snippet_model.specs.declared.snippet.Element.{Element}
-use Rattle.snippet_model.specs.declared.snippet.Element.TheVariants.{Message, Cause, Suggestion, Origin, Padding}
-use Rattle.snippet_model.specs.Heading.{heading_of_title}
-use Rattle.snippet_model.specs.declared.snippet.Patch.{Patch}
-use Rattle.snippet_model.specs.declared.snippet.Group.{Group}
-use Rattle.snippet_model.specs.declared.snippet.Title.{Title}
-use Rattle.snippet_text_form.specs.Form.{FormPiece}
-use Rattle.snippet_text_form.specs.HeadingForm.{heading_form}
+use Rattle.annotate_snippets.proofs.Common.{◌≡◌, ◌≢◌, ◌∙◌, ℕ, ◌+◌, ◌^◌, ◌<◌, ◌≤◌, ◌==◌, cond, not, suc, Bool, true}
+use Rattle.annotate_snippets.proofs.Common.{false, List, [], ◌∷◌, ◌++◌, Option, None, Some, IfSome, if◌then◌else◌, length, drop, get_or, refl}
+use Rattle.annotate_snippets.proofs.Common.{sym, ap, subst, arith, filter, flat_map, option_to_list, drop-cons, both_ways, append-nil, append_assoc, drop_all}
+use Rattle.annotate_snippets.proofs.Common.{Element, Message, Cause, Suggestion, Origin, Padding, heading_of_title, Patch, Group, Title, FormPiece}
+use Rattle.annotate_snippets.proofs.Common.{heading_form, drawn_elements, file_of_group, first_two_share, is_same_file, path_bytes, PreviousSuggestion}
+use Rattle.annotate_snippets.proofs.Common.{before_next, element_form, elements_form, group_form, option_number, is_drawn, before_seen, Renderer}
 use Rattle.snippet_text_form.specs.declared.heading.HeadingKind.TheVariants as kind
-use Rattle.annotate_snippets.specs.ElementContext.{drawn_elements, file_of_group, first_two_share, is_same_file, path_bytes}
-use Rattle.annotate_snippets.specs.TextForm.{PreviousSuggestion, before_next, element_form, elements_form, group_form, option_number}
-use Rattle.annotate_snippets.specs.Walk.{is_drawn, before_seen}
-use Rattle.annotate_snippets.specs.declared.renderer.Renderer.{Renderer}
 use Rattle.annotate_snippets.specs.declared.renderer.text_form.PreviousSuggestion as code
 
 -- the elements before this one were added, as far as they are drawn: with those that are left, the form is what all are after the

@@ -1,32 +1,12 @@
 -- The texts of a report show it in its form, and have the laws of that.
-use Rattle.std.proofs.Common.{◌≡◌, ◌<◌, ◌≤◌, ℕ, arith, get_or, true, Option, None, Some, refl, sym, List, [], ◌∷◌, subst, length}
-use Rattle.std.proofs.lemmas.List.{nil_from_length}
-use Rattle.std.proofs.lemmas.List.Elements.{All-nil}
-use Rattle.std.specs.List.{AllZip, Contains, flat_map}
+use Rattle.annotate_snippets.proofs.Common.{◌≡◌, ◌<◌, ◌≤◌, ℕ, arith, get_or, true, Option, None, Some, refl, sym, List, [], ◌∷◌, subst}
+use Rattle.annotate_snippets.proofs.Common.{length, nil_from_length, All-nil, AllZip, Contains, flat_map, trusted_texts, Group, Title, plain_text, IsWoven}
+use Rattle.annotate_snippets.proofs.Common.{plain_woven, Stylesheet, is_listed, Renderer, Form, Graphic, Short, Text, missing_title, FormLaws, LawsIn}
+use Rattle.annotate_snippets.proofs.Common.{IsTextUnder, AreFree, ShortShown, ShowsForm, links_in, plain_in, graphic_form, PrintsPage, page_text, PageLaws}
+use Rattle.annotate_snippets.proofs.Common.{IsFreeBut, report_links, AllZip-weaker}
 use Rattle.std.specs.Str.{chars}
-use Rattle.snippet_model.specs.Trusted.{trusted_texts}
-use Rattle.snippet_model.specs.declared.snippet.Group.{Group}
-use Rattle.snippet_model.specs.declared.snippet.Title.{Title}
-use Rattle.snippet_grid.specs.Print.{plain_text}
-use Rattle.snippet_grid.specs.Woven.{IsWoven}
-use Rattle.snippet_grid.proofs.WovenLemmas.{plain_woven}
-use Rattle.snippet_style.specs.declared.stylesheet.Stylesheet.{Stylesheet}
-use Rattle.snippet_text.specs.Normalized.{is_listed}
-use Rattle.annotate_snippets.specs.declared.renderer.Renderer.{Renderer}
-use Rattle.annotate_snippets.specs.declared.renderer.form.Form.{Form}
-use Rattle.annotate_snippets.specs.declared.renderer.form.Form.TheVariants.{Graphic, Short, Text}
-use Rattle.annotate_snippets.specs.Fault.{missing_title}
-use Rattle.annotate_snippets.specs.Laws.Forms.{FormLaws, LawsIn}
-use Rattle.annotate_snippets.specs.WithLaws.{IsTextUnder}
-use Rattle.annotate_snippets.specs.Forms.{AreFree, ShortShown, ShowsForm, links_in, plain_in}
-use Rattle.annotate_snippets.specs.GraphicForm.{graphic_form}
-use Rattle.annotate_snippets.specs.Page.{PrintsPage, page_text}
 use Rattle.annotate_snippets.proofs.PageWords.{Page}
-use Rattle.annotate_snippets.specs.Laws.Page.{PageLaws}
-use Rattle.annotate_snippets.specs.Laws.Free.{IsFreeBut}
-use Rattle.annotate_snippets.specs.ShownPage.{report_links}
 use Rattle.annotate_snippets.proofs.FaultLemmas.{first-there, title-there}
-use Rattle.snippet_model.proofs.ZipLemmas.{AllZip-weaker}
 use Rattle.annotate_snippets.proofs.ReportLemmas.{page_woven}
 use Rattle.annotate_snippets.proofs.ShortShown.{page_is}
 

@@ -1,28 +1,13 @@
 -- The groups of a report, in order, as they are drawn.
-use Rattle.std.proofs.Common.{◌≡◌, ℕ, ◌+◌, ◌<◌, ◌==◌, All, Bool, true, false, Option, None, Some, List, [], ◌∷◌, ◌++◌, length, get_or, map, take, drop}
-use Rattle.std.proofs.Common.{Bor, refl, sym, ap, ◌∙◌, arith, subst, if◌then◌else◌}
-use Rattle.std.specs.List.{enumerate_from, slice_get}
-use Rattle.std.specs.Option.{option_copied, option_or}
-use Rattle.std.proofs.Math.Nat.{zero-add}
-use Rattle.std.proofs.lemmas.Bool.Decides.{nat_tests}
-use Rattle.std.proofs.lemmas.List.{append_assoc, get_or-map, length-map, length-take, take-append-drop, take_more}
-use Rattle.std.proofs.lemmas.List.FromFn.{get_or-enumerate_from, length-enumerate_from}
-use Rattle.std.proofs.lemmas.Option.{get_or_from_slice_get, slice_get-get_or, slice_get_within}
-use Rattle.snippet_grid.specs.Layout.{Layout}
-use Rattle.snippet_model.specs.declared.snippet.Group.{Group}
-use Rattle.snippet_parts.proofs.PartLemmas.{All-unmapped}
-use Rattle.snippet_style.specs.declared.glyphs.DecorStyle.{DecorStyle}
-use Rattle.annotate_snippets.specs.ElementContext.{drawn_elements, file_of_group, position_of_group}
-use Rattle.annotate_snippets.specs.ElementRoom.{HasRoomFor, code_after}
-use Rattle.annotate_snippets.specs.Walk.{is_first_group}
-use Rattle.annotate_snippets.specs.GraphicForm.{graphic_form, group_page}
-use Rattle.annotate_snippets.specs.Gutter.{layout_of_group, gutter_of_report}
-use Rattle.annotate_snippets.specs.Page.{GroupPage}
-use Rattle.annotate_snippets.specs.PreparedReport.{IsGroupDrawable, IsGroupPrepared, element_of}
-use Rattle.annotate_snippets.specs.declared.renderer.Renderer.{Renderer}
-use Rattle.annotate_snippets.specs.declared.renderer.element_context.GroupPosition.{GroupPosition}
-use Rattle.annotate_snippets.specs.declared.renderer.element_context.GroupPosition.TheVariants.{First, Later, Only}
-use Rattle.annotate_snippets.specs.declared.renderer.preprocess.PreparedGroup.{PreparedGroup}
+use Rattle.annotate_snippets.proofs.Common.{◌≡◌, ℕ, ◌+◌, ◌<◌, ◌==◌, All, Bool, true, false, Option, None, Some, List, [], ◌∷◌}
+use Rattle.annotate_snippets.proofs.Common.{◌++◌, length, get_or, map, take, drop, Bor, refl, sym, ap, ◌∙◌, arith, subst, if◌then◌else◌}
+use Rattle.annotate_snippets.proofs.Common.{enumerate_from, slice_get, option_copied, option_or, zero-add, nat_tests, append_assoc, get_or-map, length-map}
+use Rattle.annotate_snippets.proofs.Common.{length-take, take-append-drop, take_more, get_or-enumerate_from, length-enumerate_from, get_or_from_slice_get}
+use Rattle.annotate_snippets.proofs.Common.{slice_get-get_or, slice_get_within, Layout, Group, All-unmapped, DecorStyle, drawn_elements, file_of_group}
+use Rattle.annotate_snippets.proofs.Common.{position_of_group, HasRoomFor, code_after, is_first_group, graphic_form, group_page, layout_of_group}
+use Rattle.annotate_snippets.proofs.Common.{gutter_of_report, GroupPage, IsGroupDrawable, IsGroupPrepared, element_of, Renderer, GroupPosition, Only}
+use Rattle.annotate_snippets.proofs.Common.{PreparedGroup}
+use Rattle.annotate_snippets.specs.declared.renderer.element_context.GroupPosition.TheVariants.{First, Later}
 use Rattle.annotate_snippets.proofs.ElementRows.{get-mapped, turn_item}
 use Rattle.annotate_snippets.proofs.PageWords.{depth_of_group, page_at}
 use Rattle.annotate_snippets.proofs.PreparedLemmas.{group_of}

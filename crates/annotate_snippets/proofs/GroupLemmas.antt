@@ -1,46 +1,16 @@
 -- The page that the graphic form has for a group shows it.
-use Rattle.std.proofs.Common.{◌≡◌, ◌≢◌, ◌∙◌, ℕ, suc, ◌<◌, ◌==◌, true, not, Option, None, Some, List, [], ◌∷◌, ◌++◌, length, get_or, refl, sym, ap}
-use Rattle.std.proofs.Common.{subst, arith, inl, inr}
-use Rattle.std.specs.List.{All, flat_map, slice_get}
-use Rattle.std.specs.Option.{option_to_list}
-use Rattle.std.proofs.lemmas.Bool.{cases_lt}
-use Rattle.std.proofs.lemmas.Grind.{flat_map-append}
-use Rattle.std.proofs.lemmas.List.{append-nil, get_or_past}
-use Rattle.std.proofs.lemmas.List.Elements.{All-nil, All-append, All-filter, All-get_or, All-map, All-weaker, filter_passes}
-use Rattle.std.proofs.lemmas.Option.{get_or_from_slice_get, slice_get_cases, slice_get_within}
-use Rattle.snippet_style.specs.Cell.{Cell, SPACE}
-use Rattle.snippet_grid.specs.Print.{plain_text}
-use Rattle.snippet_grid.specs.Woven.{links_after, links_of}
-use Rattle.snippet_grid.proofs.WovenLemmas.{links_of-unlinked}
-use Rattle.snippet_model.specs.Heading.{heading_of_message}
-use Rattle.snippet_model.specs.Trusted.{trusted_of_element, trusted_of_title}
-use Rattle.snippet_model.specs.declared.snippet.Element.{Element}
-use Rattle.snippet_model.specs.declared.snippet.Element.TheVariants.{Message, Cause, Suggestion, Origin, Padding}
-use Rattle.snippet_model.specs.declared.snippet.Group.{Group}
-use Rattle.snippet_model.specs.declared.snippet.Patch.{Patch}
-use Rattle.snippet_model.specs.declared.snippet.Title.{Title}
-use Rattle.snippet_model.specs.FreeRows.{IsFree, IsFreeCell}
-use Rattle.snippet_titles.specs.Title.{id_links}
-use Rattle.snippet_titles.specs.PrintedHeading.{title_rows}
-use Rattle.snippet_titles.proofs.HeadFacts.{message_rows-unlinked}
-use Rattle.snippet_titles.proofs.LinkLemmas.{title_rows-links}
-use Rattle.annotate_snippets.specs.ElementContext.{drawn_elements, is_end, next_of, context_at}
-use Rattle.annotate_snippets.specs.Walk.{is_drawn}
-use Rattle.annotate_snippets.specs.ElementRoom.{begins_in_row_above, HasRoomFor}
+use Rattle.annotate_snippets.proofs.Common.{◌≡◌, ◌≢◌, ◌∙◌, ℕ, suc, ◌<◌, ◌==◌, true, not, Option, None, Some, List, [], ◌∷◌}
+use Rattle.annotate_snippets.proofs.Common.{◌++◌, length, get_or, refl, sym, ap, subst, arith, inl, inr, flat_map, slice_get, option_to_list, cases_lt}
+use Rattle.annotate_snippets.proofs.Common.{flat_map-append, append-nil, get_or_past, All-nil, All-append, All-filter, All-get_or, All-map, All-weaker}
+use Rattle.annotate_snippets.proofs.Common.{filter_passes, get_or_from_slice_get, slice_get_cases, slice_get_within, Cell, SPACE, plain_text, links_after}
+use Rattle.annotate_snippets.proofs.Common.{links_of, links_of-unlinked, heading_of_message, trusted_of_element, trusted_of_title, Element, Message, Cause}
+use Rattle.annotate_snippets.proofs.Common.{Suggestion, Origin, Padding, Group, Patch, Title, IsFree, IsFreeCell, id_links, title_rows, message_rows-unlinked}
+use Rattle.annotate_snippets.proofs.Common.{title_rows-links, drawn_elements, is_end, next_of, context_at, is_drawn, begins_in_row_above, HasRoomFor}
+use Rattle.annotate_snippets.proofs.Common.{element_rows, rows_of_elements, NamedRow, cells_of, IsElementDrawable, IsGroupDrawable, rows_after_title}
+use Rattle.annotate_snippets.proofs.Common.{title_part, IsFreeBut, IsFreeElement, AreElementsShown, ShowsElement, Renderer, Layout, GroupPosition, Next}
+use Rattle.annotate_snippets.proofs.Common.{ElementContext, HasNoFeed}
+use Rattle.std.specs.List.{All}
 use Rattle.annotate_snippets.proofs.PageWords.{found_at}
-use Rattle.annotate_snippets.specs.GraphicForm.{element_rows}
-use Rattle.annotate_snippets.specs.Printing.{rows_of_elements}
-use Rattle.annotate_snippets.specs.Page.{NamedRow, cells_of}
-use Rattle.annotate_snippets.specs.PreparedReport.{IsElementDrawable, IsGroupDrawable}
-use Rattle.annotate_snippets.specs.RowsWithoutSource.{rows_after_title, title_part}
-use Rattle.annotate_snippets.specs.Laws.Free.{IsFreeBut, IsFreeElement}
-use Rattle.annotate_snippets.specs.Laws.Groups.{AreElementsShown, ShowsElement}
-use Rattle.annotate_snippets.specs.declared.renderer.Renderer.{Renderer}
-use Rattle.snippet_grid.specs.Layout.{Layout}
-use Rattle.annotate_snippets.specs.declared.renderer.element_context.GroupPosition.{GroupPosition}
-use Rattle.annotate_snippets.specs.declared.renderer.element_context.Next.{Next}
-use Rattle.annotate_snippets.specs.declared.renderer.element_context.ElementContext.{ElementContext}
-use Rattle.annotate_snippets.specs.Laws.Feeds.{HasNoFeed}
 use Rattle.annotate_snippets.proofs.OneLineTexts.{IsOneLineElement}
 use Rattle.annotate_snippets.proofs.AreTexts.{IsTextElement, IsTextGroup}
 use Rattle.annotate_snippets.proofs.CauseShown.{cause_shown}

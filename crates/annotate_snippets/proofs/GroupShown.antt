@@ -1,20 +1,6 @@
 -- The page that the graphic form has for a group shows it.
-use Rattle.std.proofs.Common.{◌≡◌, ℕ, List, [], ◌∷◌, Option}
-use Rattle.std.specs.List.{flat_map}
-use Rattle.std.specs.Option.{option_to_list}
-use Rattle.snippet_grid.specs.Print.{plain_text}
-use Rattle.snippet_grid.specs.Woven.{links_of}
-use Rattle.snippet_model.specs.declared.snippet.Group.{Group}
-use Rattle.snippet_model.specs.declared.snippet.Title.{Title}
-use Rattle.snippet_model.specs.Trusted.{trusted_texts}
-use Rattle.snippet_titles.specs.Title.{id_links}
-use Rattle.annotate_snippets.specs.GraphicForm.{group_page}
-use Rattle.annotate_snippets.specs.Page.{group_rows}
-use Rattle.annotate_snippets.specs.Laws.Free.{IsFreeBut}
-use Rattle.annotate_snippets.specs.Laws.Groups.{ShowsGroup}
-use Rattle.annotate_snippets.specs.declared.renderer.Renderer.{Renderer}
-use Rattle.snippet_grid.specs.Layout.{Layout}
-use Rattle.annotate_snippets.specs.declared.renderer.element_context.GroupPosition.{GroupPosition}
+use Rattle.annotate_snippets.proofs.Common.{◌≡◌, ℕ, List, [], ◌∷◌, Option, flat_map, option_to_list, plain_text, links_of, Group, Title}
+use Rattle.annotate_snippets.proofs.Common.{trusted_texts, id_links, group_page, group_rows, IsFreeBut, ShowsGroup, Renderer, Layout, GroupPosition}
 use Rattle.annotate_snippets.proofs.OneLineTexts.{HasOneLineRows, IsOneLineGroup}
 
 -- a group's page shows it: it links to what the group's title links to, each listed character of it is one of the group's trusted texts, and it

@@ -1,48 +1,19 @@
 -- Why a line's number takes at most one cell more than the gutter has.
-use Rattle.std.proofs.Common.{◌≡◌, ◌≢◌, ℕ, zero, suc, ◌+◌, ◌-◌, ◌/◌, ◌<◌, ◌≤◌, ◌^◌, max, ◌==◌, ◌&&◌, not, nat_le, nat_lt, Bool, true, false, cond, List, []}
-use Rattle.std.proofs.Common.{◌∷◌, All, length, take, map, fold, count_by, get_or, replicate, refl, sym, ap, subst, ◌∙◌, arith, inl, inr}
-use Rattle.std.specs.Cow.{cow_str_bytes}
-use Rattle.std.specs.Fmt.{decimal}
-use Rattle.std.proofs.lemmas.List.{take-take, length-append, length-replicate}
-use Rattle.std.proofs.Math.Seq.{take-append_seam}
-use Rattle.std.proofs.lemmas.List.Sums.{sum_by-take-le}
-use Rattle.std.specs.List.{filter, list_any, range_with_len}
-use Rattle.std.proofs.lemmas.Bool.{and_parts, cases_Bool, cond-true, cond-false, eqb-true}
-use Rattle.std.proofs.lemmas.List.FromFn.{get_or-range_with_len, length-range_with_len}
-use Rattle.std.proofs.lemmas.List.Elements.{All-nil, All-cons, All-contains, All-filter, All-head, All-same, All-tail, All-weaker, filter_passes}
-use Rattle.std.proofs.lemmas.Bool.Decides.{nat_tests}
-use Rattle.snippet_model.specs.declared.snippet.Snippet.{Snippet}
-use Rattle.snippet_model.specs.declared.snippet.Annotation.{Annotation}
-use Rattle.snippet_lines.specs.declared.lines.EndLine.{EndLine}
-use Rattle.snippet_lines.specs.declared.lines.EndLine.TheVariants.{Eof, Lf, Crlf}
-use Rattle.snippet_parts.specs.declared.entries.AnnotatedLineInfo.{AnnotatedLineInfo}
-use Rattle.snippet_lines.specs.Lines.{Line, joined, line_bytes, is_lf, last_byte, newline_count, source_lines, start_of}
-use Rattle.snippet_lines.specs.CutLines.{AreLines}
-use Rattle.snippet_lines.specs.Place.{line_of}
-use Rattle.snippet_parts.specs.Counted.{counted_number}
-use Rattle.snippet_parts.proofs.CountedWords.{greatest_end, reached_source}
-use Rattle.snippet_parts.specs.Annotated.{KeptLine, kept_line}
-use Rattle.snippet_parts.specs.OnLine.{seen_kept}
-use Rattle.snippet_parts.specs.Kept.{keeps, kept_lines, shown_lines, with_between}
-use Rattle.snippet_parts.specs.Mark.{touches}
-use Rattle.snippet_parts.specs.Marked.{first_line, last_line}
-use Rattle.snippet_lines.proofs.LinesLemmas.{joined-source_lines, AreLines-lines_of, split_at_line, length-source_lines}
-use Rattle.snippet_lines.proofs.CountLemmas.{newline_count-take}
-use Rattle.snippet_lines.proofs.PlaceLemmas.{HoldsByte-source, line_of-within}
-use Rattle.snippet_lines.specs.Number.{number_width, shown_number}
-use Rattle.snippet_lines.specs.declared.number.LineNumbers.{LineNumbers}
-use Rattle.snippet_lines.specs.declared.number.LineNumbers.TheVariants.{Shown, Anonymized, Hidden}
-use Rattle.snippet_lines.proofs.NumberLemmas.{length-decimal_monotone, length-decimal_more, length-decimal_last}
-use Rattle.annotate_snippets.specs.ElementRoom.{HasRoomFor}
-use Rattle.annotate_snippets.specs.PreparedReport.{IsDrawable}
-use Rattle.annotate_snippets.specs.Gutter.{line_numbers, numbered_source}
+use Rattle.annotate_snippets.proofs.Common.{◌≡◌, ◌≢◌, ℕ, zero, suc, ◌+◌, ◌-◌, ◌/◌, ◌<◌, ◌≤◌, ◌^◌, max, ◌==◌}
+use Rattle.annotate_snippets.proofs.Common.{◌&&◌, not, nat_le, nat_lt, Bool, true, false, cond, List, [], ◌∷◌, All, length, take, map, fold, count_by}
+use Rattle.annotate_snippets.proofs.Common.{get_or, replicate, refl, sym, ap, subst, ◌∙◌, arith, inl, inr, cow_str_bytes, decimal, take-take}
+use Rattle.annotate_snippets.proofs.Common.{length-append, length-replicate, take-append_seam, sum_by-take-le, filter, list_any, range_with_len, and_parts}
+use Rattle.annotate_snippets.proofs.Common.{cases_Bool, cond-true, cond-false, eqb-true, get_or-range_with_len, length-range_with_len, All-nil, All-cons}
+use Rattle.annotate_snippets.proofs.Common.{All-contains, All-filter, All-head, All-same, All-tail, All-weaker, filter_passes, nat_tests, Snippet, Annotation}
+use Rattle.annotate_snippets.proofs.Common.{EndLine, Eof, Lf, Crlf, AnnotatedLineInfo, Line, joined, line_bytes, is_lf, last_byte, newline_count, source_lines}
+use Rattle.annotate_snippets.proofs.Common.{start_of, AreLines, line_of, counted_number, greatest_end, reached_source, KeptLine, kept_line, seen_kept, keeps}
+use Rattle.annotate_snippets.proofs.Common.{kept_lines, shown_lines, with_between, touches, first_line, last_line, joined-source_lines, AreLines-lines_of}
+use Rattle.annotate_snippets.proofs.Common.{split_at_line, length-source_lines, newline_count-take, HoldsByte-source, line_of-within, number_width}
+use Rattle.annotate_snippets.proofs.Common.{shown_number, LineNumbers, Shown, Anonymized, Hidden, length-decimal_monotone, length-decimal_more}
+use Rattle.annotate_snippets.proofs.Common.{length-decimal_last, HasRoomFor, IsDrawable, line_numbers, numbered_source, Renderer, Layout, Cause, feeds-append}
 use Rattle.annotate_snippets.proofs.PageWords.{gutter_of}
-use Rattle.annotate_snippets.specs.declared.renderer.Renderer.{Renderer}
-use Rattle.snippet_grid.specs.Layout.{Layout}
-use Rattle.snippet_model.specs.declared.snippet.Element.TheVariants.{Cause}
 use Rattle.annotate_snippets.proofs.ListLemmas.{from_any}
 use Rattle.annotate_snippets.proofs.PartsFacts.{snippet_shown-within}
-use Rattle.snippet_splice.proofs.RangeLemmas.{feeds-append}
 
 -- how many line feeds some bytes hold
 abbrev feeds : List ℕ → ℕ

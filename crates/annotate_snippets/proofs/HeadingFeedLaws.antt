@@ -1,44 +1,22 @@
 -- The rows of a title or message hold a line feed only where its level's name or its id does: its text is cut at each.
-use Rattle.std.proofs.Common.{◌≡◌, ℕ, ◌+◌, ◌==◌, ◌&&◌, not, Bool, true, false, cond, IfSome, Option, None, Some, List, [], ◌∷◌, ◌++◌, All, chars, map}
-use Rattle.std.proofs.Common.{replicate, codes, refl, sym, subst}
-use Rattle.std.specs.Cow.{cow_str_bytes}
-use Rattle.std.specs.List.{onto_first, slice_split}
-use Rattle.std.specs.Option.{option_map}
-use Rattle.std.proofs.lemmas.List.Elements.{All-append, All-cons, All-head, All-map, All-nil, All-replicate, All-tail}
-use Rattle.std.proofs.lemmas.List.Splits.{slice_split-cons_no, slice_split-cons_yes}
-use Rattle.snippet_grid.specs.Grid.{linked}
-use Rattle.snippet_style.specs.Cell.{Cell, SPACE, text_cells}
-use Rattle.snippet_style.specs.declared.glyphs.DecorStyle.{DecorStyle}
-use Rattle.snippet_style.specs.declared.glyphs.DecorStyle.TheVariants.{Ascii, Unicode}
-use Rattle.snippet_style.specs.declared.role.ElementStyle.{ElementStyle}
-use Rattle.snippet_style.specs.declared.role.ElementStyle.TheVariants.{LineNumber}
-use Rattle.snippet_text.specs.Normalized.{norm}
-use Rattle.snippet_model.specs.Heading.{Heading, heading_of_title, is_hidden}
-use Rattle.snippet_model.specs.Level.{name_of}
-use Rattle.snippet_model.specs.declared.snippet.Id.{Id}
+use Rattle.annotate_snippets.proofs.Common.{◌≡◌, ℕ, ◌+◌, ◌==◌, ◌&&◌, not, Bool, true, false, cond, IfSome, Option, None, Some, List, []}
+use Rattle.annotate_snippets.proofs.Common.{◌∷◌, ◌++◌, All, map, replicate, codes, refl, sym, subst, cow_str_bytes, onto_first, slice_split}
+use Rattle.annotate_snippets.proofs.Common.{option_map, All-append, All-cons, All-head, All-map, All-nil, All-replicate, All-tail, slice_split-cons_no}
+use Rattle.annotate_snippets.proofs.Common.{slice_split-cons_yes, linked, Cell, SPACE, text_cells, DecorStyle, Ascii, Unicode, ElementStyle, LineNumber, norm}
+use Rattle.annotate_snippets.proofs.Common.{Heading, heading_of_title, is_hidden, name_of, Id, bracketed_cells, closing_bracket_of, colon_of, heading_lines}
+use Rattle.annotate_snippets.proofs.Common.{heading_rows, id_cells, indent_cells, is_set, label_cells, label_width, linked_to, lines_below, note_bar_of}
+use Rattle.annotate_snippets.proofs.Common.{opening_bracket_of, roles_of, sign_cells, note_sign_of, title_rows, HeadingRoles, TitleStyle, All-trimmed, Renderer}
+use Rattle.annotate_snippets.proofs.Common.{Layout, GroupPosition, is_before_message, HasNoFeed, rows_after_title, title_part, each-fails, closing_row}
+use Rattle.annotate_snippets.proofs.Common.{separator_row}
+use Rattle.std.proofs.Common.{chars}
 use Rattle.snippet_model.specs.declared.snippet.Title.{Title as TitleGiven}
-use Rattle.snippet_titles.specs.HeadingRows.{address_of, bracketed_cells, closing_bracket_of, colon_of, heading_lines, heading_rows, id_cells, indent_cells}
-use Rattle.snippet_titles.specs.HeadingRows.{is_set}
-use Rattle.snippet_titles.specs.HeadingRows.{label_cells, label_width, linked_to, lines_below, note_bar_of, opening_bracket_of, roles_of, shown_text}
-use Rattle.snippet_titles.specs.HeadingRows.{sign_cells}
-use Rattle.snippet_style.specs.Glyphs.{note_sign_of}
-use Rattle.snippet_titles.specs.PrintedHeading.{title_rows}
-use Rattle.snippet_titles.specs.declared.style.HeadingRoles.{HeadingRoles}
-use Rattle.snippet_titles.specs.declared.style.TitleStyle.{TitleStyle}
+use Rattle.snippet_titles.specs.HeadingRows.{address_of}
+use Rattle.snippet_titles.specs.HeadingRows.{shown_text}
 use Rattle.snippet_titles.specs.declared.style.TitleStyle.TheVariants.{Message, Short, Title}
-use Rattle.snippet_titles.proofs.FreeLemmas.{All-trimmed}
-use Rattle.annotate_snippets.specs.declared.renderer.Renderer.{Renderer}
-use Rattle.snippet_grid.specs.Layout.{Layout}
-use Rattle.annotate_snippets.specs.declared.renderer.element_context.GroupPosition.{GroupPosition}
 use Rattle.annotate_snippets.specs.declared.renderer.element_context.Next.{Next as NextElement}
-use Rattle.annotate_snippets.specs.ElementContext.{is_before_message}
-use Rattle.annotate_snippets.specs.Laws.Feeds.{HasNoFeed}
-use Rattle.annotate_snippets.specs.RowsWithoutSource.{rows_after_title, title_part}
 use Rattle.annotate_snippets.proofs.OneLineTexts.{HoldsNoFeed, IsNoFeed, IsOneLineId, IsOneLineName, IsOneLineText, IsOneLineTitle}
-use Rattle.snippet_titles.proofs.OriginFree.{each-fails}
 use Rattle.annotate_snippets.proofs.FeedLaws.{after_spaces, bare-plain}
 use Rattle.annotate_snippets.proofs.PathFeedLaws.{alone, cells_plain, choice, closing_plain as closing_row-plain, norm-plain}
-use Rattle.snippet_style.specs.Separators.{closing_row, separator_row}
 
 -- ---- the label
 

@@ -1,50 +1,21 @@
 -- The rows of messages, origins, paddings and titles show them.
-use Rattle.std.proofs.Common.{◌≡◌, ◌∙◌, ℕ, Bool, true, false, None, Option, Some, List, [], ◌∷◌, if◌then◌else◌, refl, sym, ap, subst}
-use Rattle.std.specs.Cow.{cow_str_bytes}
+use Rattle.annotate_snippets.proofs.Common.{◌≡◌, ◌∙◌, ℕ, Bool, true, false, None, Option, Some, List, [], ◌∷◌, if◌then◌else◌, refl}
+use Rattle.annotate_snippets.proofs.Common.{sym, ap, subst, cow_str_bytes, All-cons, All-nil, slice_index_or, row_at, Cell, row_text, Heading}
+use Rattle.annotate_snippets.proofs.Common.{heading_of_message, heading_of_title, Message, Origin, Padding, Title, IsFree, All-unmapped, heading_rows}
+use Rattle.annotate_snippets.proofs.Common.{origin_row, padding_row, IsFreeButText, heading_texts, title_rows, LinksId, TitleStyle, heading_rows-free}
+use Rattle.annotate_snippets.proofs.Common.{origin_row-text, closing_row-free, origin_row-free, padding_row-free, heading_rows-places, heading_rows-texts}
+use Rattle.annotate_snippets.proofs.Common.{closes_after, is_end, NamedRow, cells_of, others, origin_layout, origin_rows, title_part, ShowsHeading}
+use Rattle.annotate_snippets.proofs.Common.{ShowsTitlePart, Renderer, Layout, GroupPosition, Next, ElementContext, HasNoFeed, closing_row}
 use Rattle.std.specs.List.{All}
-use Rattle.std.proofs.lemmas.List.Elements.{All-cons, All-nil}
-use Rattle.std.specs.List.{slice_index_or}
-use Rattle.snippet_grid.specs.Grid.{row_at}
-use Rattle.snippet_style.specs.Cell.{Cell}
-use Rattle.snippet_grid.specs.Print.{row_text}
-use Rattle.snippet_model.specs.Heading.{Heading, heading_of_message, heading_of_title}
-use Rattle.snippet_model.specs.declared.snippet.Element.TheVariants.{Message, Origin, Padding}
 use Rattle.snippet_model.specs.declared.snippet.Message as the_message
 use Rattle.snippet_model.specs.declared.snippet.Origin as the_origin
 use Rattle.snippet_model.specs.declared.snippet.Padding as the_padding
-use Rattle.snippet_model.specs.declared.snippet.Title.{Title}
-use Rattle.snippet_model.specs.FreeRows.{IsFree}
-use Rattle.snippet_parts.proofs.PartLemmas.{All-unmapped}
-use Rattle.snippet_titles.specs.HeadingRows.{heading_rows}
-use Rattle.snippet_titles.specs.Origin.{origin_row}
-use Rattle.snippet_titles.proofs.PaddingWords.{padding_row}
-use Rattle.snippet_titles.specs.ShownHeading.{IsFreeButText, heading_texts}
-use Rattle.snippet_titles.specs.PrintedHeading.{title_rows}
-use Rattle.snippet_titles.specs.LinkedId.{LinksId}
-use Rattle.snippet_titles.specs.declared.style.TitleStyle.{TitleStyle}
 use Rattle.snippet_titles.specs.declared.style.TitleStyle.TheVariants as style
-use Rattle.snippet_titles.proofs.FreeLemmas.{heading_rows-free}
-use Rattle.snippet_titles.proofs.HeadFacts.{origin_row-text}
-use Rattle.snippet_titles.proofs.OriginFree.{closing_row-free, origin_row-free, padding_row-free}
-use Rattle.snippet_titles.proofs.PlaceLemmas.{heading_rows-places}
-use Rattle.snippet_titles.proofs.TextLemmas.{heading_rows-texts}
-use Rattle.annotate_snippets.specs.ElementContext.{closes_after, is_end}
-use Rattle.annotate_snippets.specs.Page.{NamedRow, cells_of, others}
-use Rattle.annotate_snippets.specs.RowsWithoutSource.{origin_layout, origin_rows}
 use Rattle.annotate_snippets.proofs.PageWords.{message_rows, message_style, origin_start, place_given}
-use Rattle.annotate_snippets.specs.RowsWithoutSource.{title_part}
-use Rattle.annotate_snippets.specs.Laws.Titles.{ShowsHeading, ShowsTitlePart}
-use Rattle.annotate_snippets.specs.declared.renderer.Renderer.{Renderer}
-use Rattle.snippet_grid.specs.Layout.{Layout}
-use Rattle.annotate_snippets.specs.declared.renderer.element_context.GroupPosition.{GroupPosition}
-use Rattle.annotate_snippets.specs.declared.renderer.element_context.Next.{Next}
-use Rattle.annotate_snippets.specs.declared.renderer.element_context.ElementContext.{ElementContext}
-use Rattle.annotate_snippets.specs.Laws.Feeds.{HasNoFeed}
 use Rattle.annotate_snippets.proofs.ElementShown.{ElementShown}
 use Rattle.annotate_snippets.proofs.HeadingFeedLaws.{heading_one_line}
 use Rattle.annotate_snippets.proofs.NamedRows.{cells_of-others}
 use Rattle.annotate_snippets.proofs.PathFeedLaws.{origin_one_line, padding_one_line}
-use Rattle.snippet_style.specs.Separators.{closing_row}
 
 -- what holds of rows holds of them with names
 pub others-each : (P : List Cell → Type 0) (rows : List (List Cell)) → All P rows → All (λ (row : NamedRow). P row.cells) (others rows)

@@ -1,24 +1,12 @@
 -- The groups of a report, printed as HTML, are its page as HTML; and the laws of that.
-use Rattle.std.proofs.Common.{◌≡◌, ℕ, suc, ◌==◌, Bool, true, false, if◌then◌else◌, List, [], ◌∷◌, ◌++◌, refl, sym, ap, string_bytes}
-use Rattle.std.proofs.Common.{◌∙◌, arith, length, map}
-use Rattle.std.specs.List.{flat_map, join_with_byte, list_all}
-use Rattle.std.proofs.lemmas.Bool.Decides.{nat_tests}
-use Rattle.std.proofs.lemmas.List.{append_assoc, append-nil}
-use Rattle.std.proofs.lemmas.Grind.{flat_map-append}
-use Rattle.snippet_grid.proofs.HtmlLaws.{chars_read, made-append, made_rows, rows_chars, says_rows}
-use Rattle.snippet_grid.proofs.HtmlLemmas.{adds_both}
-use Rattle.snippet_grid.proofs.HtmlReads.{html_says_pieces, is_made, piece_says, tags_are}
-use Rattle.snippet_grid.specs.Html.{AddsHtml, HtmlPiece, Text, html_bytes, html_text, plain_look, rows_html}
-use Rattle.snippet_grid.proofs.HtmlStands.{html_reads_pieces}
-use Rattle.snippet_grid.specs.HtmlRead.{ReadChar, as_read, chars_of_rows, feed_read}
-use Rattle.snippet_grid.specs.Print.{plain_text}
-use Rattle.snippet_model.specs.declared.snippet.Group.{Group}
-use Rattle.annotate_snippets.specs.GraphicForm.{graphic_form}
-use Rattle.annotate_snippets.specs.Html.{AddsGroupHtml, HtmlLaws, further_chars, further_groups, page_chars, page_html, report_html}
-use Rattle.annotate_snippets.specs.Page.{GroupPage, group_rows, page_text}
-use Rattle.annotate_snippets.specs.PageSink.{Takes}
-use Rattle.annotate_snippets.specs.declared.renderer.Renderer.{Renderer}
-use Rattle.annotate_snippets.specs.declared.renderer.html.HtmlPage.{HtmlPage}
+use Rattle.annotate_snippets.proofs.Common.{◌≡◌, ℕ, suc, ◌==◌, Bool, true, false, if◌then◌else◌, List, [], ◌∷◌, ◌++◌, refl, sym, ap}
+use Rattle.annotate_snippets.proofs.Common.{string_bytes, ◌∙◌, arith, length, map, flat_map, join_with_byte, list_all, nat_tests, append_assoc}
+use Rattle.annotate_snippets.proofs.Common.{append-nil, flat_map-append, chars_read, made-append, made_rows, rows_chars, says_rows, adds_both, html_says_pieces}
+use Rattle.annotate_snippets.proofs.Common.{is_made, piece_says, tags_are, AddsHtml, HtmlPiece, html_bytes, html_text, plain_look, rows_html, html_reads_pieces}
+use Rattle.annotate_snippets.proofs.Common.{ReadChar, as_read, chars_of_rows, feed_read, plain_text, Group, graphic_form, AddsGroupHtml, HtmlLaws}
+use Rattle.annotate_snippets.proofs.Common.{further_chars, further_groups, page_chars, page_html, report_html, GroupPage, group_rows, page_text, Takes}
+use Rattle.annotate_snippets.proofs.Common.{Renderer, HtmlPage}
+use Rattle.snippet_grid.specs.Html.{Text}
 use Rattle.annotate_snippets.proofs.PageWords.{Page}
 use Rattle.annotate_snippets.proofs.SinkLemmas.{holds_after}
 

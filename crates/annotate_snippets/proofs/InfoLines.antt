@@ -1,39 +1,14 @@
 -- A snippet's line with its entries, as painters are given it, made from the snippet alone; and what holds of those that are shown.
-use Rattle.std.proofs.Common.{◌≡◌, ℕ, ◌+◌, ◌<◌, ◌≤◌, ◌&&◌, not, All, get_or, List, [], ◌∷◌, map, length}
-use Rattle.std.proofs.Common.{refl, sym, ap, ◌∙◌, arith}
-use Rattle.std.specs.Cow.{cow_str_bytes}
-use Rattle.std.specs.List.{list_any}
-use Rattle.snippet_grid.specs.Layout.{Layout}
-use Rattle.snippet_lines.specs.Lines.{Source, source_lines, text_at}
-use Rattle.snippet_lines.specs.Number.{shown_number}
-use Rattle.snippet_lines.specs.IsSpan.{IsSpan}
-use Rattle.snippet_model.specs.declared.snippet.Annotation.{Annotation}
-use Rattle.snippet_model.specs.declared.snippet.Element.TheVariants.{Cause}
-use Rattle.snippet_model.specs.declared.snippet.Snippet.{Snippet}
-use Rattle.snippet_parts.specs.Annotated.{annotated_lines, kept_line}
-use Rattle.snippet_parts.specs.EntryBounds.{AllEntries, HasColumnRoom}
-use Rattle.snippet_parts.specs.OnLine.{seen_kept}
-use Rattle.snippet_parts.specs.Kept.{kept_lines, shown_lines}
+use Rattle.annotate_snippets.proofs.Common.{◌≡◌, ℕ, ◌+◌, ◌<◌, ◌≤◌, ◌&&◌, not, All, get_or, List, [], ◌∷◌, map, length, refl}
+use Rattle.annotate_snippets.proofs.Common.{sym, ap, ◌∙◌, arith, cow_str_bytes, list_any, Layout, Source, source_lines, text_at, shown_number, IsSpan}
+use Rattle.annotate_snippets.proofs.Common.{Annotation, Cause, Snippet, annotated_lines, kept_line, AllEntries, HasColumnRoom, seen_kept, kept_lines}
+use Rattle.annotate_snippets.proofs.Common.{shown_lines, is_marking, touches, AnnotatedLineInfo, LineAnnotation, label-texts, places-fit, parts_on-few}
+use Rattle.annotate_snippets.proofs.Common.{All-unmapped, AreDrawable, CanBeShown, StandsClear, margin_of, Margin, margin_of_lines, margin_seen, lines_clear}
+use Rattle.annotate_snippets.proofs.Common.{lines_sound, HasRoomFor, margin_in, line_numbers, numbered_source, IsDrawable, Renderer}
 use Rattle.snippet_parts.specs.Located as labels
-use Rattle.snippet_parts.specs.Mark.{is_marking, touches}
-use Rattle.snippet_parts.specs.declared.entries.AnnotatedLineInfo.{AnnotatedLineInfo}
-use Rattle.snippet_parts.specs.declared.entries.LineAnnotation.{LineAnnotation}
-use Rattle.snippet_parts.proofs.EntryFacts.{label-texts, places-fit}
-use Rattle.snippet_parts.proofs.LineCounts.{parts_on-few}
-use Rattle.snippet_parts.proofs.PartLemmas.{All-unmapped}
-use Rattle.snippet_strokes.specs.Drawable.{AreDrawable}
-use Rattle.snippet_strokes.proofs.LineFacts.{CanBeShown}
 use Rattle.snippet_strokes.proofs.PlacedOf.{HasTextLabel}
-use Rattle.snippet_window.specs.Measures.{StandsClear, margin_of}
-use Rattle.snippet_window.specs.declared.margin.Margin.{Margin}
-use Rattle.snippet_window.proofs.MarginFacts.{margin_of_lines, margin_seen, lines_clear, lines_sound}
-use Rattle.annotate_snippets.specs.ElementRoom.{HasRoomFor}
-use Rattle.annotate_snippets.specs.GraphicForm.{margin_in}
 use Rattle.annotate_snippets.proofs.MarginWords.{room_of}
 use Rattle.annotate_snippets.proofs.LineWords.{entries_on}
-use Rattle.annotate_snippets.specs.Gutter.{line_numbers, numbered_source}
-use Rattle.annotate_snippets.specs.PreparedReport.{IsDrawable}
-use Rattle.annotate_snippets.specs.declared.renderer.Renderer.{Renderer}
 use Rattle.annotate_snippets.proofs.GutterLemmas.{numbers_fit}
 use Rattle.annotate_snippets.proofs.PartsFacts.{lines_entries, shown_clear, snippet_shown-within}
 

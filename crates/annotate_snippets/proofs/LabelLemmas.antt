@@ -1,42 +1,17 @@
 -- The labels of a line's entries are those of its spans.
-use Rattle.std.proofs.Common.{◌≡◌, ℕ, ◌+◌, ◌-◌, ◌<◌, ◌≤◌, ◌==◌, ◌&&◌, ◌||◌, max, cond, not, Bool, true, false, None, Option, List, [], ◌∷◌, ◌++◌, map, length}
-use Rattle.std.proofs.Common.{get_or, count_by, refl, sym, ap, subst, ◌∙◌, arith, inl, inr}
-use Rattle.std.specs.List.{All, filter}
+use Rattle.annotate_snippets.proofs.Common.{◌≡◌, ℕ, ◌+◌, ◌-◌, ◌<◌, ◌≤◌, ◌==◌, ◌&&◌, ◌||◌, max, cond, not, Bool, true}
+use Rattle.annotate_snippets.proofs.Common.{false, None, Option, List, [], ◌∷◌, ◌++◌, map, length, get_or, count_by, refl, sym, ap, subst, ◌∙◌}
+use Rattle.annotate_snippets.proofs.Common.{arith, inl, inr, filter, and_parts, nat_tests, length-map, map-append, All-cons, All-filter, All-head, All-map}
+use Rattle.annotate_snippets.proofs.Common.{All-nil, All-tail, filter-append, filter_passes, sum_by-cons, Cell, unlinked_cell, Annotation, AnnotationKind}
+use Rattle.annotate_snippets.proofs.Common.{Source, promoted, end_part, long_parts, long_place, long_spans, made_parts, parts_on, single_part, span_parts}
+use Rattle.annotate_snippets.proofs.Common.{start_part, depth_among, LongExtent, Snippet, numbered_source, end_column, is_marked_on, is_marking, is_single_line}
+use Rattle.annotate_snippets.proofs.Common.{start_column, first_line, is_bar, LineAnnotation, Singleline, MultilineEnd, singles-on, filter-none, made-all}
+use Rattle.annotate_snippets.proofs.Common.{bar_part, long_entry, bar_lines, label_role, shifted, label_text, IsLabelledAtEnd, IsLedTo, LabelsStand}
+use Rattle.annotate_snippets.proofs.Common.{PlacedLabel, StandsIn, is_cell_of, is_start_part, Layout, HasStem, ShowsLabel, ShowsLabels, ShownLabel, SpanLabel}
+use Rattle.annotate_snippets.proofs.Common.{promoted_spans, is_in_label, normalized_chars, shown_label, entry_of, is_short, long_places, stands_among}
+use Rattle.std.specs.List.{All}
 use Rattle.std.specs.Prelude.{nat_le, nat_lt}
-use Rattle.std.proofs.lemmas.Bool.{and_parts}
-use Rattle.std.proofs.lemmas.Bool.Decides.{nat_tests}
-use Rattle.std.proofs.lemmas.List.{length-map, map-append}
-use Rattle.std.proofs.lemmas.List.Elements.{All-cons, All-filter, All-head, All-map, All-nil, All-tail, filter-append, filter_passes}
-use Rattle.std.proofs.lemmas.List.Sums.{sum_by-cons}
-use Rattle.snippet_style.specs.Cell.{Cell, unlinked_cell}
-use Rattle.snippet_model.specs.declared.snippet.Annotation.{Annotation}
-use Rattle.snippet_model.specs.declared.snippet.AnnotationKind.{AnnotationKind}
-use Rattle.snippet_lines.specs.Lines.{Source}
-use Rattle.snippet_parts.specs.Annotated.{promoted, end_part, long_parts, long_place, long_spans, made_parts, parts_on}
-use Rattle.snippet_parts.specs.Annotated.{single_part, span_parts, start_part}
-use Rattle.snippet_parts.specs.Depths.{depth_among}
-use Rattle.snippet_parts.specs.declared.depths.LongExtent.{LongExtent}
-use Rattle.snippet_model.specs.declared.snippet.Snippet.{Snippet}
-use Rattle.annotate_snippets.specs.Gutter.{numbered_source}
-use Rattle.snippet_parts.specs.Mark.{end_column, is_marked_on, is_marking, is_single_line, start_column}
-use Rattle.snippet_parts.specs.Marked.{first_line}
-use Rattle.snippet_parts.specs.Entries.{is_bar}
-use Rattle.snippet_parts.specs.declared.entries.LineAnnotation.{LineAnnotation}
-use Rattle.snippet_parts.specs.declared.entries.LineAnnotationType.TheVariants.{Singleline, MultilineEnd}
-use Rattle.snippet_parts.proofs.EntryFacts.{singles-on}
-use Rattle.snippet_parts.proofs.PartLemmas.{filter-none, made-all}
-use Rattle.snippet_parts.specs.Annotated.{bar_part, long_entry}
-use Rattle.snippet_parts.specs.LongSpans.{bar_lines}
-use Rattle.snippet_labels.specs.PlacedEntries.{label_role, shifted}
-use Rattle.snippet_labels.proofs.LabelWords.{label_text}
-use Rattle.snippet_strokes.proofs.SeenLabels.{IsLabelledAtEnd, IsLedTo, LabelsStand, PlacedLabel, StandsIn, is_cell_of}
-use Rattle.snippet_labels.specs.Positions.{is_start_part}
-use Rattle.snippet_grid.specs.Layout.{Layout}
-use Rattle.annotate_snippets.specs.Laws.Labels.{HasStem, ShowsLabel, ShowsLabels, ShownLabel, SpanLabel, promoted_spans, is_in_label}
-use Rattle.snippet_text.specs.Normalized.{normalized_chars}
-use Rattle.annotate_snippets.specs.Laws.Marks.{shown_label}
 use Rattle.annotate_snippets.proofs.MarkLemmas.{end_of_entry, start_of_entry}
-use Rattle.snippet_parts.proofs.PartWords.{entry_of, is_short, long_places, stands_among}
 
 -- lists that are the same begin with the same
 pub head_same : {X : Type 0} (x y : X) (xs ys : List X) → x ∷ xs ≡ y ∷ ys → x ≡ y

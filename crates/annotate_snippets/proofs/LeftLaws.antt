@@ -1,25 +1,11 @@
 -- Laws of what stands left of the code: what follows for its characters, and which rows hold it.
-use Rattle.std.proofs.Common.{◌≡◌, ℕ, zero, suc, ◌+◌, ◌-◌, ◌<◌, ◌≤◌, Bool, false, List, [], ◌∷◌, ◌++◌, codes, length, take, get_or, replicate, refl, sym, ap}
-use Rattle.std.proofs.Common.{◌∙◌, arith, inl, inr}
-use Rattle.std.specs.Char.{is_ascii_alphanumeric}
-use Rattle.std.proofs.lemmas.Bool.{cases_lt, cases_eq, false≢true}
-use Rattle.std.proofs.lemmas.List.{get_or-append_right, get_or-replicate, get_or-take, get_or_append_left, get_or_past, length-append, length-replicate}
-use Rattle.std.proofs.lemmas.List.{length-take, take-append-le, take-take, take_all}
-use Rattle.snippet_style.specs.Cell.{Cell, SPACE, gives_way, text_cells, unlinked_cell}
-use Rattle.snippet_style.specs.Glyphs.{elision_of, separator_of}
-use Rattle.snippet_style.specs.declared.glyphs.DecorStyle.{DecorStyle}
-use Rattle.snippet_style.specs.declared.glyphs.DecorStyle.TheVariants.{Ascii, Unicode}
-use Rattle.snippet_style.specs.declared.role.ElementStyle.TheVariants.{LineNumber}
-use Rattle.snippet_style.proofs.CellLemmas.{length-text_cells}
-use Rattle.snippet_grid.specs.Print.{row_text}
-use Rattle.snippet_model.specs.FreeRows.{HasNoNumber}
-use Rattle.snippet_strokes.proofs.LineFacts.{IsSourceRow}
-use Rattle.snippet_strokes.specs.StrokeRows.{IsElisionRow, bare_elision_row}
-use Rattle.snippet_grid.specs.Layout.{Layout}
-use Rattle.snippet_strokes.proofs.BegunLemmas.{same_front}
-use Rattle.snippet_strokes.proofs.RowLemmas.{bare_row_left}
-use Rattle.annotate_snippets.specs.Laws.Lines.{IsRowBelow, cells_left}
-use Rattle.snippet_grid.proofs.RowLemmas.{row_text-text_cells}
+use Rattle.annotate_snippets.proofs.Common.{◌≡◌, ℕ, zero, suc, ◌+◌, ◌-◌, ◌<◌, ◌≤◌, Bool, false, List, [], ◌∷◌, ◌++◌, codes}
+use Rattle.annotate_snippets.proofs.Common.{length, take, get_or, replicate, refl, sym, ap, ◌∙◌, arith, inl, inr, is_ascii_alphanumeric, cases_lt}
+use Rattle.annotate_snippets.proofs.Common.{cases_eq, false≢true, get_or-append_right, get_or-replicate, get_or-take, get_or_append_left, get_or_past}
+use Rattle.annotate_snippets.proofs.Common.{length-append, length-replicate, length-take, take-append-le, take-take, take_all, Cell, SPACE, gives_way}
+use Rattle.annotate_snippets.proofs.Common.{text_cells, unlinked_cell, elision_of, separator_of, DecorStyle, Ascii, Unicode, LineNumber, length-text_cells}
+use Rattle.annotate_snippets.proofs.Common.{row_text, HasNoNumber, IsSourceRow, IsElisionRow, bare_elision_row, Layout, same_front, bare_row_left, IsRowBelow}
+use Rattle.annotate_snippets.proofs.Common.{cells_left, row_text-text_cells}
 
 module _ (decor : DecorStyle) (gutter : ℕ) (shown : List ℕ) where
   abbrev spaces : List Cell

@@ -1,3 +1,4 @@
+pub mod Common
 pub mod AlignedLemmas
 pub mod AreTexts
 pub mod AroundLaws

@@ -1,76 +1,25 @@
 -- The rows of an annotated snippet's lines hold a line feed only where a label does, whatever is cut of them.
-use Rattle.std.proofs.Common.{◌≡◌, ◌≢◌, ℕ, suc, ◌+◌, ◌-◌, ◌<◌, ◌==◌, ◌&&◌, nat_le, nat_lt, Bool, true, false, cond, Option, None, Some, List, [], ◌∷◌, ◌++◌}
-use Rattle.std.proofs.Common.{All, chars, take, drop, map, length, fold, get_or, replicate, refl, sym, ap, subst, ◌∙◌, arith, inl, inr}
-use Rattle.std.specs.Cow.{cow_str_bytes}
-use Rattle.std.specs.List.{Contains, range_with_len}
-use Rattle.std.specs.Option.{option_map}
-use Rattle.std.specs.Str.{IsUtf8}
-use Rattle.std.proofs.lemmas.Bool.{cases_Bool, cases_lt}
-use Rattle.std.proofs.lemmas.Bool.Decides.{nat_tests}
-use Rattle.std.proofs.lemmas.List.{get_or_past}
-use Rattle.std.proofs.lemmas.List.Elements.{All-append, All-cons, All-contains, All-drop, All-filter, All-from_get_or, All-get_or, All-head, All-map, All-nil}
-use Rattle.std.proofs.lemmas.List.Elements.{All-replicate, All-tail, All-take, All-weaker}
-use Rattle.std.proofs.lemmas.List.Splits.{slice_split_none}
-use Rattle.std.proofs.lemmas.Str.{IsUtf8-nil}
-use Rattle.snippet_grid.specs.Grid.{cell_at, replaced_within, row_at}
-use Rattle.snippet_lines.specs.Lines.{Line, Source, source_lines, text_at}
-use Rattle.snippet_lines.specs.declared.lines.EndLine.TheVariants.{Eof}
-use Rattle.snippet_lines.proofs.BoundsLemmas.{IsLine-at}
-use Rattle.snippet_lines.proofs.LinesLemmas.{IsUtf8-text_at}
-use Rattle.snippet_model.specs.AnnotationKind.{is_primary}
-use Rattle.snippet_model.specs.declared.snippet.Annotation.{Annotation}
-use Rattle.snippet_model.specs.declared.snippet.Snippet.{Snippet}
-use Rattle.snippet_style.specs.Cell.{Cell, SPACE, text_cells, unlinked_cell, written}
-use Rattle.snippet_style.proofs.StrokeLemmas.{EachBar, EachCode, each_bar, each_code}
-use Rattle.snippet_strokes.proofs.MarkStrokeLemmas.{of_first}
-use Rattle.snippet_strokes.proofs.StrokeGlyphs.{of_foot}
-use Rattle.snippet_style.specs.Glyphs.{strokes_of, placeholder_of, underline_role}
-use Rattle.snippet_style.specs.Separators.{closing_row, separator_row}
-use Rattle.snippet_style.specs.declared.glyphs.DecorStyle.{DecorStyle}
-use Rattle.snippet_style.specs.declared.glyphs.DecorStyle.TheVariants.{Ascii, Unicode}
-use Rattle.snippet_style.specs.declared.role.ElementStyle.{ElementStyle}
-use Rattle.snippet_style.specs.declared.role.ElementStyle.TheVariants.{LineNumber}
-use Rattle.snippet_text.specs.OneLine.{IsOneLine}
-use Rattle.snippet_titles.proofs.SplitLemmas.{lines_at, lines_at-chars}
-use Rattle.snippet_parts.specs.Annotated.{made_parts}
-use Rattle.snippet_parts.specs.declared.entries.LineAnnotation.{LineAnnotation}
-use Rattle.snippet_parts.specs.declared.entries.LineAnnotationType.{LineAnnotationType}
-use Rattle.snippet_parts.specs.declared.entries.LineAnnotationType.TheVariants.{Singleline, MultilineStart, MultilineEnd, MultilineLine}
-use Rattle.snippet_parts.proofs.PartLemmas.{made-all}
-use Rattle.snippet_strokes.specs.Bars.{Bar, bars_apart, ends_of_bars}
-use Rattle.snippet_strokes.specs.Cuts.{overlapped}
-use Rattle.snippet_strokes.proofs.CutWords.{Stretch, cuts_of}
-use Rattle.snippet_strokes.proofs.StrokeWords.{cut_row}
-use Rattle.snippet_labels.specs.PlacedEntries.{shifted}
-use Rattle.snippet_labels.proofs.LabelWords.{label_text}
-use Rattle.snippet_strokes.proofs.LineFacts.{AreLineRows, AreOwnRows, StrokesPainted}
-use Rattle.snippet_strokes.specs.Painting.{painting_order, stroke_role}
-use Rattle.snippet_strokes.specs.Drawing.{row_count}
-use Rattle.snippet_labels.specs.Positions.{has_label}
-use Rattle.snippet_strokes.specs.SourceRows.{bare_row}
-use Rattle.snippet_strokes.specs.Strokes.{connector_of, corner_of}
-use Rattle.snippet_strokes.proofs.StrokeWords.{bar_writes, begun_rows, corner_by}
-use Rattle.snippet_strokes.specs.Strokes.{label_of, column_of}
-use Rattle.snippet_strokes.specs.PaintedStrokes.{first_glyph, mark_end, connectors_of, corners_of, labels_of}
-use Rattle.snippet_strokes.specs.DrawnBars.{is_whole_line}
-use Rattle.snippet_strokes.proofs.Drawn.{drawn_mark, drawn_strokes, marks_of}
-use Rattle.snippet_strokes.specs.DrawnStems.{stems_of}
-use Rattle.snippet_strokes.proofs.StrokeWords.{label_write, stem_write}
-use Rattle.snippet_strokes.specs.Writes.{Write, glyph_at, painted, stretch_of}
-use Rattle.snippet_grid.specs.Layout.{Layout, bar_cell as bar_column}
-use Rattle.snippet_strokes.proofs.BarWrites.{All-connector_of, All-stretch_of}
-use Rattle.snippet_strokes.proofs.LabelWrites.{All-label_of}
-use Rattle.snippet_labels.proofs.PlacedLemmas.{entries_all}
-use Rattle.snippet_strokes.proofs.StemWrites.{All-stem_of, All-stems_of}
-use Rattle.snippet_strokes.proofs.WriteLaws.{All-flat_map, painted-cell}
-use Rattle.annotate_snippets.specs.declared.renderer.Renderer.{Renderer}
-use Rattle.annotate_snippets.specs.Laws.Feeds.{HasNoFeed}
-use Rattle.annotate_snippets.specs.Gutter.{numbered_source}
+use Rattle.annotate_snippets.proofs.Common.{◌≡◌, ◌≢◌, ℕ, suc, ◌+◌, ◌-◌, ◌<◌, ◌==◌, ◌&&◌, nat_le, nat_lt, Bool, true, false}
+use Rattle.annotate_snippets.proofs.Common.{cond, Option, None, Some, List, [], ◌∷◌, ◌++◌, All, take, drop, map, length, fold, get_or, replicate}
+use Rattle.annotate_snippets.proofs.Common.{refl, sym, ap, subst, ◌∙◌, arith, inl, inr, cow_str_bytes, Contains, range_with_len, option_map, IsUtf8}
+use Rattle.annotate_snippets.proofs.Common.{cases_Bool, cases_lt, nat_tests, get_or_past, All-append, All-cons, All-contains, All-drop, All-filter}
+use Rattle.annotate_snippets.proofs.Common.{All-from_get_or, All-get_or, All-head, All-map, All-nil, All-replicate, All-tail, All-take, All-weaker}
+use Rattle.annotate_snippets.proofs.Common.{slice_split_none, IsUtf8-nil, cell_at, replaced_within, row_at, Line, Source, source_lines, text_at, Eof, IsLine-at}
+use Rattle.annotate_snippets.proofs.Common.{IsUtf8-text_at, is_primary, Annotation, Snippet, Cell, SPACE, text_cells, unlinked_cell, written, EachBar, EachCode}
+use Rattle.annotate_snippets.proofs.Common.{each_bar, each_code, of_first, of_foot, strokes_of, placeholder_of, underline_role, closing_row, separator_row}
+use Rattle.annotate_snippets.proofs.Common.{DecorStyle, Ascii, Unicode, ElementStyle, LineNumber, IsOneLine, lines_at, lines_at-chars, made_parts}
+use Rattle.annotate_snippets.proofs.Common.{LineAnnotation, LineAnnotationType, Singleline, MultilineStart, MultilineEnd, MultilineLine, made-all, Bar}
+use Rattle.annotate_snippets.proofs.Common.{bars_apart, ends_of_bars, overlapped, Stretch, cuts_of, cut_row, shifted, label_text, AreLineRows, AreOwnRows}
+use Rattle.annotate_snippets.proofs.Common.{StrokesPainted, painting_order, stroke_role, row_count, has_label, bare_row, connector_of, corner_of, bar_writes}
+use Rattle.annotate_snippets.proofs.Common.{begun_rows, corner_by, label_of, column_of, first_glyph, mark_end, connectors_of, corners_of, labels_of}
+use Rattle.annotate_snippets.proofs.Common.{is_whole_line, drawn_mark, drawn_strokes, marks_of, stems_of, label_write, stem_write, Write, glyph_at, painted}
+use Rattle.annotate_snippets.proofs.Common.{stretch_of, Layout, All-connector_of, All-stretch_of, All-label_of, entries_all, All-stem_of, All-stems_of}
+use Rattle.annotate_snippets.proofs.Common.{All-flat_map, painted-cell, Renderer, HasNoFeed, numbered_source, Elision, NamedRow, OfferedLine, Other}
+use Rattle.annotate_snippets.proofs.Common.{RemovedLine, RowName, SourceRow, cells_of, rows_below, AreRowsOf, IsRowOf, normalized_chars}
+use Rattle.std.proofs.Common.{chars}
+use Rattle.snippet_grid.specs.Layout.{bar_cell as bar_column}
 use Rattle.annotate_snippets.proofs.LineWords.{entries_on}
 use Rattle.annotate_snippets.proofs.DrawnRows.{AreRowsDrawn, IsLineDrawn, IsRowDrawn, open_after}
-use Rattle.annotate_snippets.specs.Page.{Elision, NamedRow, OfferedLine, Other, RemovedLine, RowName, SourceRow, cells_of, rows_below}
-use Rattle.annotate_snippets.specs.Laws.Snippets.{AreRowsOf, IsRowOf}
-use Rattle.snippet_text.specs.Normalized.{normalized_chars}
 use Rattle.annotate_snippets.proofs.OneLineTexts.{HoldsNoFeed, IsNoFeed, IsOneLineLabel, IsOneLineText}
 use Rattle.annotate_snippets.proofs.FeedLaws.{at_any, bare-plain, elided}
 use Rattle.annotate_snippets.proofs.HeadingFeedLaws.{parts_plain}

@@ -1,56 +1,20 @@
 -- The rows of a line show it: its source row, the row of its marks, and the others below.
-use Rattle.std.proofs.Common.{◌≡◌, ℕ, ◌+◌, ◌-◌, ◌<◌, ◌≤◌, ◌==◌, ◌&&◌, nat_le, not, Bool, true, false, cond, List, [], ◌∷◌, map, length, drop, chars, count_by}
-use Rattle.std.proofs.Common.{get_or, refl, sym, ap, subst, ◌∙◌, arith, inl, inr}
-use Rattle.std.specs.List.{All, filter, list_all, list_any}
-use Rattle.std.specs.Cow.{cow_str_bytes}
-use Rattle.std.proofs.lemmas.Bool.{and_parts, and_from, cases_lt, eq-eqb, lt-ltb}
-use Rattle.std.proofs.lemmas.Bool.Decides.{nat_tests}
-use Rattle.std.proofs.lemmas.List.{drop-map, get_or-take, length-map}
-use Rattle.std.proofs.lemmas.List.Elements.{All-contains, All-head, All-map, All-tail, Contains-get_or}
-use Rattle.std.proofs.lemmas.List.Sums.{AllPass-from_list_all, list_all-from_AllPass, sum_by-cons}
-use Rattle.snippet_model.specs.declared.snippet.Annotation.{Annotation}
-use Rattle.snippet_model.specs.declared.snippet.Snippet.{Snippet}
-use Rattle.snippet_grid.specs.Grid.{row_at}
-use Rattle.snippet_style.specs.Cell.{Cell, SPACE}
-use Rattle.snippet_grid.specs.Print.{row_text}
-use Rattle.snippet_style.specs.Glyphs.{placeholder_of}
-use Rattle.snippet_style.specs.declared.glyphs.DecorStyle.{DecorStyle}
-use Rattle.snippet_style.specs.declared.role.ElementStyle.TheVariants.{Quotation}
-use Rattle.snippet_text.specs.Normalized.{norm}
-use Rattle.snippet_text.specs.Width.{width_of}
-use Rattle.snippet_text.proofs.NormLemmas.{width_of-norm}
-use Rattle.snippet_parts.specs.declared.entries.AnnotatedLineInfo.{AnnotatedLineInfo}
-use Rattle.snippet_parts.specs.declared.entries.LineAnnotation.{LineAnnotation}
-use Rattle.snippet_parts.specs.declared.entries.LineAnnotationType.{LineAnnotationType}
-use Rattle.snippet_parts.specs.declared.entries.LineAnnotationType.TheVariants.{Singleline, MultilineStart, MultilineEnd, MultilineLine}
-use Rattle.snippet_window.specs.declared.margin.Margin.{Margin}
-use Rattle.snippet_parts.specs.Annotated.{KeptLine, kept_line, parts_on, single_part}
-use Rattle.snippet_parts.specs.OnLine.{seen_kept}
-use Rattle.snippet_lines.specs.Lines.{source_lines}
-use Rattle.snippet_parts.specs.Mark.{end_column, is_marked_on, is_marking, is_single_line, is_wide, qualifies_for_marks, touches}
-use Rattle.snippet_parts.specs.Entries.{is_bar, is_single_part, is_wide_entry}
-use Rattle.snippet_lines.specs.IsSpan.{IsSpan}
-use Rattle.snippet_window.specs.Window.{AreReplaced, chars_at, dropped_part, stands_whole, window}
-use Rattle.snippet_strokes.specs.EntryMarks.{IsMarkCell, is_mark_role}
-use Rattle.snippet_strokes.proofs.PlainEntries.{IsEntryMark, are_plain, has_column, is_single, wide_entries}
-use Rattle.snippet_labels.specs.PlacedEntries.{label_role, shifted}
-use Rattle.snippet_labels.proofs.LabelWords.{label_text}
-use Rattle.snippet_lines.specs.Number.{shown_number}
-use Rattle.snippet_strokes.proofs.SeenRows.{AreSeen, IsStrokeRow, ShowsMarks}
-use Rattle.snippet_strokes.proofs.WholeLemmas.{window_cells-whole}
-use Rattle.snippet_strokes.proofs.WindowTextLemmas.{row_text-window_cells}
-use Rattle.snippet_strokes.specs.SourceRows.{window_cells}
-use Rattle.snippet_strokes.proofs.LineFacts.{ShowsLine}
-use Rattle.snippet_strokes.specs.Bars.{Bar}
-use Rattle.snippet_grid.specs.Layout.{Layout}
-use Rattle.snippet_strokes.proofs.SnippetLemmas.{highlighted_left, highlighted_text}
-use Rattle.annotate_snippets.specs.declared.renderer.Renderer.{Renderer}
-use Rattle.annotate_snippets.specs.Gutter.{line_numbers, number_text, numbered_source}
-use Rattle.annotate_snippets.specs.Laws.Lines.{IsRowBelow, ShowsSourceLine, cells_left, is_uncut_line, wide_spans}
-use Rattle.snippet_strokes.specs.Strokes.{is_uncut}
-use Rattle.annotate_snippets.specs.Laws.Labels.{ShowsLabels}
-use Rattle.annotate_snippets.specs.Laws.Marks.{ShowsMarksOf, shown_label}
-use Rattle.annotate_snippets.specs.GraphicForm.{margin_in}
+use Rattle.annotate_snippets.proofs.Common.{◌≡◌, ℕ, ◌+◌, ◌-◌, ◌<◌, ◌≤◌, ◌==◌, ◌&&◌, nat_le, not, Bool, true, false, cond}
+use Rattle.annotate_snippets.proofs.Common.{List, [], ◌∷◌, map, length, drop, count_by, get_or, refl, sym, ap, subst, ◌∙◌, arith, inl, inr, filter}
+use Rattle.annotate_snippets.proofs.Common.{list_all, list_any, cow_str_bytes, and_parts, and_from, cases_lt, eq-eqb, lt-ltb, nat_tests, drop-map, get_or-take}
+use Rattle.annotate_snippets.proofs.Common.{length-map, All-contains, All-head, All-map, All-tail, Contains-get_or, AllPass-from_list_all}
+use Rattle.annotate_snippets.proofs.Common.{list_all-from_AllPass, sum_by-cons, Annotation, Snippet, row_at, Cell, SPACE, row_text, placeholder_of, DecorStyle}
+use Rattle.annotate_snippets.proofs.Common.{Quotation, norm, width_of, width_of-norm, AnnotatedLineInfo, LineAnnotation, LineAnnotationType, Singleline}
+use Rattle.annotate_snippets.proofs.Common.{MultilineStart, MultilineEnd, MultilineLine, Margin, KeptLine, kept_line, parts_on, single_part, seen_kept}
+use Rattle.annotate_snippets.proofs.Common.{source_lines, end_column, is_marked_on, is_marking, is_single_line, is_wide, qualifies_for_marks, touches, is_bar}
+use Rattle.annotate_snippets.proofs.Common.{is_single_part, is_wide_entry, IsSpan, AreReplaced, chars_at, dropped_part, stands_whole, window, IsMarkCell}
+use Rattle.annotate_snippets.proofs.Common.{is_mark_role, IsEntryMark, are_plain, has_column, is_single, wide_entries, label_role, shifted, label_text}
+use Rattle.annotate_snippets.proofs.Common.{shown_number, AreSeen, IsStrokeRow, ShowsMarks, window_cells-whole, row_text-window_cells, window_cells, ShowsLine}
+use Rattle.annotate_snippets.proofs.Common.{Bar, Layout, highlighted_left, highlighted_text, Renderer, line_numbers, number_text, numbered_source, IsRowBelow}
+use Rattle.annotate_snippets.proofs.Common.{ShowsSourceLine, cells_left, is_uncut_line, wide_spans, is_uncut, ShowsLabels, ShowsMarksOf, shown_label, margin_in}
+use Rattle.annotate_snippets.proofs.Common.{row_text-text_cells}
+use Rattle.std.proofs.Common.{chars}
+use Rattle.std.specs.List.{All}
 use Rattle.annotate_snippets.proofs.MarginWords.{room_of}
 use Rattle.annotate_snippets.proofs.LabelLemmas.{labelled_at_end, labels_shown, head_same, tail_same}
 use Rattle.annotate_snippets.proofs.LeftLaws.{left_of_source, space_of_source}
@@ -58,7 +22,6 @@ use Rattle.annotate_snippets.proofs.MarkLemmas.{span_of_entry, IsEntryOf, mark_o
 use Rattle.annotate_snippets.proofs.MarkLemmas.{some_entry, shifted_mark, shifted_unmarked, shifted_after}
 use Rattle.annotate_snippets.proofs.PartsFacts.{stands_left, untouched, wide_on_line}
 use Rattle.annotate_snippets.proofs.WindowLemmas.{dropped-none}
-use Rattle.snippet_grid.proofs.RowLemmas.{row_text-text_cells}
 
 -- a row that is as a bare one left of the bars is a row below a line
 pub row_below : (decor : DecorStyle) (layout : Layout) (closes plain : Bool) (es : List LineAnnotation) (rows : List (List Cell)) (i : ℕ)

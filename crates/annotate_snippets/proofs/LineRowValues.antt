@@ -1,28 +1,9 @@
 -- The rows that a line has by the rule of the graphic form: how many they are where one entry stands on it, and the bar that runs past.
-use Rattle.std.proofs.Common.{◌≡◌, ℕ, ◌+◌, ◌<◌, ◌≤◌, cond, Bool, true, false, List, [], ◌∷◌, All, length, map, get_or, refl}
-use Rattle.std.proofs.Common.{sym, ap, subst, ◌∙◌, arith}
-use Rattle.std.specs.List.{zip}
-use Rattle.std.proofs.lemmas.List.{get_or-map, length-map}
-use Rattle.std.proofs.lemmas.List.Elements.{All-cons, All-nil}
-use Rattle.snippet_grid.specs.Grid.{cell_at, row_at}
-use Rattle.snippet_grid.specs.Layout.{Layout}
-use Rattle.snippet_style.specs.Cell.{Cell, SPACE}
-use Rattle.snippet_style.proofs.CellLemmas.{slice_index_or-written_inside}
-use Rattle.snippet_parts.specs.declared.entries.LineAnnotation.{LineAnnotation}
-use Rattle.snippet_labels.specs.PlacedEntries.{shifted}
-use Rattle.snippet_labels.specs.Positions.{line_positions, look_counts, placed_of, positions}
-use Rattle.snippet_labels.specs.declared.positions.PlacedEntry.{PlacedEntry}
-use Rattle.snippet_strokes.specs.Bars.{Bar, ends_of_bars}
-use Rattle.snippet_strokes.specs.DrawnBars.{is_whole_line}
-use Rattle.annotate_snippets.specs.Laws.Bars.{bar_beside}
-use Rattle.annotate_snippets.specs.Page.{Other}
-use Rattle.snippet_strokes.specs.Drawing.{row_count}
-use Rattle.snippet_strokes.specs.LineRows.{line_rows, own_rows}
-use Rattle.snippet_strokes.specs.Strokes.{stroke_rows}
-use Rattle.snippet_strokes.proofs.PositionLemmas.{line_positions_low, positions_sole, row_count_one}
-use Rattle.snippet_labels.proofs.LabelWords.{placed_at}
-use Rattle.snippet_labels.proofs.PlacedLemmas.{placed_of-at}
-use Rattle.snippet_strokes.proofs.StrokesInside.{stroke_rows-count}
+use Rattle.annotate_snippets.proofs.Common.{◌≡◌, ℕ, ◌+◌, ◌<◌, ◌≤◌, cond, Bool, true, false, List, [], ◌∷◌, All, length, map, get_or}
+use Rattle.annotate_snippets.proofs.Common.{refl, sym, ap, subst, ◌∙◌, arith, zip, get_or-map, length-map, All-cons, All-nil, cell_at, row_at, Layout}
+use Rattle.annotate_snippets.proofs.Common.{Cell, SPACE, slice_index_or-written_inside, LineAnnotation, shifted, line_positions, look_counts, placed_of}
+use Rattle.annotate_snippets.proofs.Common.{positions, PlacedEntry, Bar, ends_of_bars, is_whole_line, bar_beside, Other, row_count, line_rows, own_rows}
+use Rattle.annotate_snippets.proofs.Common.{stroke_rows, line_positions_low, positions_sole, row_count_one, placed_at, placed_of-at, stroke_rows-count}
 
 -- one entry asks for one
 lone_count : (e : LineAnnotation) → row_count (placed_of (e ∷ [])) ≡ 1

@@ -1,29 +1,11 @@
 -- The rows of a line that painters promise are those that the graphic form has for it.
-use Rattle.std.proofs.Common.{◌≡◌, ℕ, ◌+◌, ◌==◌, ◌&&◌, Bool, true, false, cond, nat_lt, List, [], ◌∷◌, ◌++◌, chars}
-use Rattle.std.proofs.Common.{length, map, refl, sym, ap, ◌∙◌, arith}
-use Rattle.std.proofs.lemmas.Bool.Decides.{nat_tests}
-use Rattle.std.proofs.lemmas.List.{length-map}
-use Rattle.snippet_model.specs.declared.snippet.Annotation.{Annotation}
-use Rattle.snippet_model.specs.declared.snippet.Snippet.{Snippet}
-use Rattle.snippet_text.specs.Normalized.{norm}
-use Rattle.snippet_lines.specs.Number.{shown_number}
-use Rattle.snippet_lines.specs.declared.number.LineNumbers.{LineNumbers}
-use Rattle.snippet_parts.specs.Annotated.{KeptLine, kept_line}
-use Rattle.snippet_parts.specs.OnLine.{seen_kept}
-use Rattle.snippet_parts.specs.declared.entries.AnnotatedLineInfo.{AnnotatedLineInfo}
-use Rattle.snippet_parts.specs.declared.entries.LineAnnotation.{LineAnnotation}
-use Rattle.snippet_window.specs.declared.margin.Margin.{Margin}
-use Rattle.snippet_strokes.specs.Bars.{Bar, open_past}
-use Rattle.snippet_strokes.specs.Snippet.{gap_row, shown_rows}
-use Rattle.snippet_strokes.specs.InfoRows.{gap_rows, info_rows, infos_rows}
-use Rattle.snippet_strokes.specs.DrawnBars.{open_below}
-use Rattle.snippet_strokes.specs.declared.snippet.LineView.{LineView}
-use Rattle.annotate_snippets.specs.declared.renderer.Renderer.{Renderer}
-use Rattle.snippet_grid.specs.Layout.{Layout}
-use Rattle.annotate_snippets.specs.GraphicForm.{gap_below, margin_in, named_line, rows_of_line, rows_of_lines}
+use Rattle.annotate_snippets.proofs.Common.{◌≡◌, ℕ, ◌+◌, ◌==◌, ◌&&◌, Bool, true, false, cond, nat_lt, List, [], ◌∷◌, ◌++◌, length}
+use Rattle.annotate_snippets.proofs.Common.{map, refl, sym, ap, ◌∙◌, arith, nat_tests, length-map, Annotation, Snippet, norm, shown_number, LineNumbers}
+use Rattle.annotate_snippets.proofs.Common.{KeptLine, kept_line, seen_kept, AnnotatedLineInfo, LineAnnotation, Margin, Bar, open_past, gap_row, shown_rows}
+use Rattle.annotate_snippets.proofs.Common.{gap_rows, info_rows, infos_rows, open_below, LineView, Renderer, Layout, gap_below, margin_in, named_line}
+use Rattle.annotate_snippets.proofs.Common.{rows_of_line, rows_of_lines, line_numbers, numbered_source, Elision, NamedRow, cells_of}
+use Rattle.std.proofs.Common.{chars}
 use Rattle.annotate_snippets.proofs.LineWords.{bars_on}
-use Rattle.annotate_snippets.specs.Gutter.{line_numbers, numbered_source}
-use Rattle.annotate_snippets.specs.Page.{Elision, NamedRow, cells_of}
 use Rattle.annotate_snippets.proofs.DrawnLines.{bars_seen}
 use Rattle.annotate_snippets.proofs.LabelLemmas.{head_same, tail_same}
 use Rattle.annotate_snippets.proofs.NamedRows.{cells_of-append, cells_of-line}

@@ -1,10 +1,7 @@
 -- What a list contains after its elements are chosen or mapped, and what holds of the items of two lists.
-use Rattle.std.proofs.Common.{◌≡◌, ◌<◌, ◌+◌, ℕ, zero, suc, Bool, true, false, cond, List, [], ◌∷◌, ◌++◌, get_or, length, map, take, refl, sym, ap, subst, ◌∙◌}
-use Rattle.std.proofs.Common.{arith, inl, inr, ◌⊎◌}
-use Rattle.std.specs.List.{AllZip, Contains, filter, list_any}
-use Rattle.std.proofs.lemmas.Bool.{cases_Bool}
-use Rattle.std.proofs.lemmas.List.{get_or-map, length-map, take_more}
-use Rattle.snippet_model.proofs.ZipLemmas.{AllZip-last}
+use Rattle.annotate_snippets.proofs.Common.{◌≡◌, ◌<◌, ◌+◌, ℕ, zero, suc, Bool, true, false, cond, List, [], ◌∷◌, ◌++◌, get_or, length}
+use Rattle.annotate_snippets.proofs.Common.{map, take, refl, sym, ap, subst, ◌∙◌, arith, inl, inr, ◌⊎◌, AllZip, Contains, filter, list_any}
+use Rattle.annotate_snippets.proofs.Common.{cases_Bool, get_or-map, length-map, take_more, AllZip-last}
 
 module _ {X : Type 0} where
   -- a list contains its first element

@@ -1,13 +1,6 @@
 -- The margin of a snippet has the room that code has.
-use Rattle.std.proofs.Common.{◌≡◌, ◌-◌, ℕ}
-use Rattle.snippet_grid.specs.Layout.{Layout}
-use Rattle.snippet_model.specs.declared.snippet.Annotation.{Annotation}
-use Rattle.snippet_model.specs.declared.snippet.Snippet.{Snippet}
-use Rattle.snippet_parts.specs.Annotated.{annotated_lines}
-use Rattle.snippet_window.proofs.MarginFacts.{margin_of-room}
-use Rattle.annotate_snippets.specs.GraphicForm.{margin_in}
-use Rattle.annotate_snippets.specs.Gutter.{numbered_source}
-use Rattle.annotate_snippets.specs.declared.renderer.Renderer.{Renderer}
+use Rattle.annotate_snippets.proofs.Common.{◌≡◌, ◌-◌, ℕ, Layout, Annotation, Snippet, annotated_lines, margin_of-room, margin_in, numbered_source}
+use Rattle.annotate_snippets.proofs.Common.{Renderer}
 
 -- the columns that code has
 abbrev pub room_of : Renderer → Layout → ℕ

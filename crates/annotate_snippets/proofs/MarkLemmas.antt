@@ -1,28 +1,14 @@
 -- The marks of a line's spans are those of its entries.
-use Rattle.std.proofs.Common.{◌≡◌, ℕ, ◌+◌, ◌-◌, ◌<◌, ◌≤◌, ◌==◌, ◌&&◌, max, true, false, List, [], ◌∷◌, map, length, get_or, refl, sym, ap}
-use Rattle.std.proofs.Common.{subst, ◌∙◌, arith, inl, inr}
-use Rattle.std.specs.List.{All, Contains, filter, list_any}
-use Rattle.std.proofs.lemmas.Bool.{and_parts, eqb-true, eq-eqb, cases_Bool}
-use Rattle.std.proofs.lemmas.List.Elements.{All-contains, All-contains_itself, All-filter, All-map, filter_passes, Contains-get_or}
-use Rattle.snippet_model.specs.declared.snippet.Annotation.{Annotation}
-use Rattle.snippet_model.specs.declared.snippet.AnnotationKind.{AnnotationKind}
-use Rattle.snippet_model.specs.declared.snippet.AnnotationKind.TheVariants.{Primary, Context, Visible}
-use Rattle.snippet_parts.specs.declared.entries.LineAnnotation.{LineAnnotation}
-use Rattle.snippet_lines.specs.Lines.{Source}
-use Rattle.snippet_lines.specs.Place.{place_of, location_of, start_location, end_location, locations_of}
-use Rattle.snippet_parts.specs.Marked.{first_line, last_line}
-use Rattle.snippet_parts.specs.Mark.{is_marking, is_single_line, is_marked_on, start_column, end_column, span_width, IsMarkedAt, IsMarkOf}
+use Rattle.annotate_snippets.proofs.Common.{◌≡◌, ℕ, ◌+◌, ◌-◌, ◌<◌, ◌≤◌, ◌==◌, ◌&&◌, max, true, false, List, [], ◌∷◌}
+use Rattle.annotate_snippets.proofs.Common.{map, length, get_or, refl, sym, ap, subst, ◌∙◌, arith, inl, inr, Contains, filter, list_any, and_parts}
+use Rattle.annotate_snippets.proofs.Common.{eqb-true, eq-eqb, cases_Bool, All-contains, All-contains_itself, All-filter, All-map, filter_passes}
+use Rattle.annotate_snippets.proofs.Common.{Contains-get_or, Annotation, AnnotationKind, Primary, Context, Visible, LineAnnotation, Source, place_of}
+use Rattle.annotate_snippets.proofs.Common.{location_of, start_location, end_location, locations_of, first_line, last_line, is_marking, is_single_line}
+use Rattle.annotate_snippets.proofs.Common.{is_marked_on, start_column, end_column, span_width, IsMarkedAt, IsMarkOf, label_chars, label_text, shown_label}
+use Rattle.annotate_snippets.proofs.Common.{normalized_chars, EntryCovers, IsEntryMark, shifted, is_primary, StandsFrom, from_map, entry_of}
+use Rattle.std.specs.List.{All}
 use Rattle.snippet_labels.specs.PlacedEntries as entry
-use Rattle.snippet_labels.proofs.LabelWords.{label_chars, label_text}
-use Rattle.annotate_snippets.specs.Laws.Marks.{shown_label}
-use Rattle.snippet_text.specs.Normalized.{normalized_chars}
-use Rattle.snippet_strokes.proofs.PlainEntries.{EntryCovers, IsEntryMark}
-use Rattle.snippet_labels.specs.PlacedEntries.{shifted}
-use Rattle.snippet_model.specs.AnnotationKind.{is_primary}
-use Rattle.snippet_strokes.proofs.DrawnCells.{StandsFrom}
-use Rattle.snippet_strokes.proofs.MarkLemmas.{from_map}
 use Rattle.annotate_snippets.proofs.ListLemmas.{Contains-filter, Contains-map, Contains-head, from_any}
-use Rattle.snippet_parts.proofs.PartWords.{entry_of}
 
 -- the start of an entry is its span's
 pub start_of_entry : (s : Source) (a : Annotation) → (entry_of s a).start.display ≡ start_column s.text a

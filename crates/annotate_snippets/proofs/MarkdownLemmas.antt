@@ -1,28 +1,13 @@
 -- A report in Markdown: what is added piece by piece, that no fence stands in a page, and what is read of a line.
-use Rattle.std.proofs.Common.{◌≡◌, ◌∙◌, ℕ, zero, suc, ◌+◌, ◌≤◌, ◌&&◌, Bool, true, false, cond, Option, Some, eqb, inl}
-use Rattle.std.proofs.Common.{inr, max, not, List, [], ◌∷◌, ◌++◌, length, map, replicate, arith}
-use Rattle.std.proofs.Common.{refl, sym, ap, ap₂, append-nil, append_assoc, encode_utf8_all, chars}
-use Rattle.std.proofs.lemmas.Bool.{and_left, and_right, cases_Bool, eqb-true, false≢true}
-use Rattle.std.proofs.lemmas.Grind.{flat_map-append}
-use Rattle.std.proofs.lemmas.Str.{encodes-append}
-use Rattle.std.specs.Char.{is_ascii_punctuation}
-use Rattle.std.specs.Cow.{cow_str_bytes}
-use Rattle.std.specs.Option.{option_map}
-use Rattle.snippet_model.specs.declared.snippet.Id.{Id}
-use Rattle.snippet_model.specs.declared.snippet.Group.{Group}
-use Rattle.snippet_style.specs.Stylesheet.{is_plain_sheet}
-use Rattle.snippet_style.specs.declared.stylesheet.Stylesheet.{Stylesheet}
-use Rattle.snippet_text.specs.Normalized.{norm}
-use Rattle.snippet_titles.specs.HeadingRows.{closing_bracket_of, opening_bracket_of}
-use Rattle.annotate_snippets.specs.Markdown.{as_read, bare_marks, bold_line, bracketed_link, escaped, escaped_text, fence}
-use Rattle.annotate_snippets.specs.Markdown.{id_in_markdown, link_of, linked_text, longest_run, MarkdownLaws}
-use Rattle.annotate_snippets.specs.Markdown.{plain_page, unlinked}
-use Rattle.annotate_snippets.specs.Fault.{form_of}
-use Rattle.annotate_snippets.specs.Forms.{links_in}
-use Rattle.annotate_snippets.specs.WithLaws.{IsTextUnder}
-use Rattle.annotate_snippets.specs.declared.renderer.Renderer.{Renderer}
-use Rattle.annotate_snippets.specs.declared.renderer.form.Form.{Form}
-use Rattle.annotate_snippets.specs.declared.renderer.form.Form.TheVariants.{Graphic, Short, Text}
+use Rattle.annotate_snippets.proofs.Common.{◌≡◌, ◌∙◌, ℕ, zero, suc, ◌+◌, ◌≤◌, ◌&&◌, Bool, true, false, cond, Option, Some, eqb, inl}
+use Rattle.annotate_snippets.proofs.Common.{inr, max, not, List, [], ◌∷◌, ◌++◌, length, map, replicate, arith, refl, sym, ap, ap₂, encode_utf8_all}
+use Rattle.annotate_snippets.proofs.Common.{and_left, and_right, cases_Bool, eqb-true, false≢true, flat_map-append, encodes-append, is_ascii_punctuation}
+use Rattle.annotate_snippets.proofs.Common.{cow_str_bytes, option_map, Id, Group, is_plain_sheet, Stylesheet, norm, closing_bracket_of, opening_bracket_of}
+use Rattle.annotate_snippets.proofs.Common.{bare_marks, bold_line, bracketed_link, escaped, escaped_text, fence, id_in_markdown, link_of, linked_text}
+use Rattle.annotate_snippets.proofs.Common.{longest_run, MarkdownLaws, plain_page, unlinked, form_of, links_in, IsTextUnder, Renderer, Form, Graphic, Short}
+use Rattle.annotate_snippets.proofs.Common.{Text}
+use Rattle.std.proofs.Common.{append-nil, append_assoc, chars}
+use Rattle.annotate_snippets.specs.Markdown.{as_read}
 
 -- ---- pieces
 

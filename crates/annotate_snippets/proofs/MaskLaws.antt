@@ -1,41 +1,16 @@
 -- Where controls are masked, no text of the report that is shown holds one: masking leaves none, and what is made of it then brings none.
-use Rattle.std.proofs.Common.{◌≡◌, ◌⊎◌, inl, inr, ℕ, Bool, true, false, List, [], ◌∷◌, ◌++◌, Option, None, Some, All, IfSome, codes, map, refl}
-use Rattle.std.proofs.Common.{sym, ap, subst, arith}
-use Rattle.std.proofs.lemmas.Bool.Decides.{nat_tests}
-use Rattle.std.proofs.lemmas.List.Elements.{All-append, All-cons, All-contains, All-head, All-nil, All-tail, All-weaker}
-use Rattle.std.specs.Cow.{cow_str_bytes}
-use Rattle.std.specs.List.{AllZip, Contains, flat_map, list_any}
+use Rattle.annotate_snippets.proofs.Common.{◌≡◌, ◌⊎◌, inl, inr, ℕ, Bool, true, false, List, [], ◌∷◌, ◌++◌, Option, None, Some, All}
+use Rattle.annotate_snippets.proofs.Common.{IfSome, codes, map, refl, sym, ap, subst, arith, nat_tests, All-append, All-cons, All-contains, All-head, All-nil}
+use Rattle.annotate_snippets.proofs.Common.{All-tail, All-weaker, cow_str_bytes, AllZip, Contains, flat_map, list_any, Global, CowStr, Range, name_of}
+use Rattle.annotate_snippets.proofs.Common.{shown_name, SameOption, SourceSeen, standard_name_of, Level, LevelName, Standard, Own, Annotation, Element, Message}
+use Rattle.annotate_snippets.proofs.Common.{Cause, Suggestion, Origin, Padding, Group, Id, Snippet, Title, wrapped-chars, IsAnnotationMasked, IsElementMasked}
+use Rattle.annotate_snippets.proofs.Common.{IsGroupMasked, IsIdMasked, IsNameMasked, IsPatchMasked, IsTitleMasked, IsElementWrapped, IsGroupWrapped}
+use Rattle.annotate_snippets.proofs.Common.{IsTextWrapped, IsTitleWrapped, room_of_message, room_of_title, context_spans, visible_mark, is_masked, IsTextMasked}
+use Rattle.annotate_snippets.proofs.Common.{mask_of, masked, masked_in, IsGroupTaken, Stays, IsElementWithContext, IsGroupWithContext, IsSnippetWithContext}
+use Rattle.annotate_snippets.proofs.Common.{LevelInner, Error, Warning, Info, Note, Help, norm, shown, each-fails, HasNoControls, IsClean, IsCleanElement}
+use Rattle.annotate_snippets.proofs.Common.{IsCleanTitle}
 use Rattle.std.specs.Str.{chars}
-use Rattle.std.specs.declared.alloc.Global.{Global}
-use Rattle.std.specs.declared.borrow.CowStr.{CowStr}
-use Rattle.std.specs.declared.ops.Range.{Range}
-use Rattle.snippet_model.specs.Level.{name_of, shown_name}
-use Rattle.snippet_model.specs.Same.{SameOption}
-use Rattle.snippet_model.specs.Source.{SourceSeen}
-use Rattle.snippet_model.specs.StandardName.{standard_name_of}
-use Rattle.snippet_model.specs.declared.level.Level.{Level}
-use Rattle.snippet_model.specs.declared.level.LevelName.{LevelName}
-use Rattle.snippet_model.specs.declared.level.LevelName.TheVariants.{Standard, Hidden, Own}
-use Rattle.snippet_model.specs.declared.snippet.Annotation.{Annotation}
-use Rattle.snippet_model.specs.declared.snippet.Element.{Element}
-use Rattle.snippet_model.specs.declared.snippet.Element.TheVariants.{Message, Cause, Suggestion, Origin, Padding}
-use Rattle.snippet_model.specs.declared.snippet.Group.{Group}
-use Rattle.snippet_model.specs.declared.snippet.Id.{Id}
-use Rattle.snippet_model.specs.declared.snippet.Snippet.{Snippet}
-use Rattle.snippet_model.specs.declared.snippet.Title.{Title}
-use Rattle.snippet_shown.proofs.WrapLemmas.{wrapped-chars}
-use Rattle.snippet_shown.specs.AsMasked.{IsAnnotationMasked, IsElementMasked, IsGroupMasked, IsIdMasked, IsNameMasked, IsPatchMasked, IsTitleMasked}
-use Rattle.snippet_shown.specs.AsWrapped.{IsElementWrapped, IsGroupWrapped, IsTextWrapped, IsTitleWrapped, room_of_message, room_of_title}
-use Rattle.snippet_shown.specs.Context.{context_spans, visible_mark}
-use Rattle.snippet_lines.specs.Controls.{is_masked}
-use Rattle.snippet_shown.specs.Masked.{IsTextMasked, mask_of, masked, masked_in}
-use Rattle.snippet_shown.specs.Remade.{IsGroupTaken, Stays}
-use Rattle.snippet_shown.specs.WithContext.{IsElementWithContext, IsGroupWithContext, IsSnippetWithContext}
-use Rattle.snippet_style.specs.declared.role.LevelInner.{LevelInner}
-use Rattle.snippet_style.specs.declared.role.LevelInner.TheVariants.{Error, Warning, Info, Note, Help}
-use Rattle.snippet_text.specs.Normalized.{norm, shown}
-use Rattle.snippet_titles.proofs.OriginFree.{each-fails}
-use Rattle.annotate_snippets.specs.Laws.Masked.{HasNoControls, IsClean, IsCleanElement, IsCleanTitle}
+use Rattle.snippet_model.specs.declared.level.LevelName.TheVariants.{Hidden}
 use Rattle.annotate_snippets.proofs.PairedLemmas.{all-second}
 use Rattle.annotate_snippets.proofs.RemadeLemmas.{over-made}
 

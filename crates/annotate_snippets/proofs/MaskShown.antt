@@ -1,51 +1,17 @@
 -- A report whose controls are masked: what it has in common with the one in whose place it is shown, and that no trusted text of it holds a
 -- listed character.
-use Rattle.std.proofs.Common.{◌≡◌, ◌∙◌, ℕ, ◌+◌, ◌==◌, Bool, true, false, List, [], ◌∷◌, ◌++◌, Option, None, Some, All, IfSome, if◌then◌else◌, not, nat_lt}
-use Rattle.std.proofs.Common.{append-nil, arith, count_by, map, refl, sym, ap, ap₂, subst, chars}
-use Rattle.std.proofs.lemmas.Bool.{false≢true}
-use Rattle.std.proofs.lemmas.Bool.Decides.{nat_tests}
-use Rattle.std.proofs.lemmas.List.Elements.{All-append, All-cons, All-head, All-nil, All-tail, All-weaker}
-use Rattle.std.proofs.lemmas.List.Sums.{sum_by-cons}
-use Rattle.std.specs.Cow.{cow_str_bytes}
-use Rattle.std.specs.List.{AllZip, flat_map, position_from}
-use Rattle.std.specs.Option.{option_map, option_or, option_to_list}
-use Rattle.std.specs.declared.alloc.Global.{Global}
-use Rattle.std.specs.declared.borrow.CowStr.{CowStr}
-use Rattle.std.specs.declared.ops.Range.{Range}
-use Rattle.snippet_lines.specs.Span.{span_fault}
-use Rattle.snippet_lines.specs.declared.span.SpanFault.{SpanFault}
-use Rattle.snippet_model.specs.Level.{shown_name}
-use Rattle.snippet_model.specs.Same.{SameOption}
-use Rattle.snippet_model.specs.Trusted.{trusted_of_element, trusted_of_title, trusted_texts}
-use Rattle.snippet_model.specs.declared.level.Level.{Level}
-use Rattle.snippet_model.specs.declared.level.LevelName.{LevelName}
-use Rattle.snippet_model.specs.declared.level.LevelName.TheVariants.{Own}
-use Rattle.snippet_model.specs.declared.snippet.Annotation.{Annotation}
-use Rattle.snippet_model.specs.declared.snippet.Element.{Element}
-use Rattle.snippet_model.specs.declared.snippet.Element.TheVariants.{Message, Cause, Suggestion, Origin, Padding}
-use Rattle.snippet_model.specs.declared.snippet.Group.{Group}
-use Rattle.snippet_model.specs.declared.snippet.Id.{Id}
-use Rattle.snippet_model.specs.declared.snippet.Patch.{Patch}
-use Rattle.snippet_model.specs.declared.snippet.Snippet.{Snippet}
-use Rattle.snippet_model.specs.declared.snippet.Title.{Title}
-use Rattle.snippet_shown.specs.AsMasked.{IsAnnotationMasked, IsElementMasked, IsGroupMasked, IsIdMasked, IsLevelMasked, IsTitleMasked}
-use Rattle.snippet_shown.specs.AsMasked.{IsNameMasked, IsPatchMasked, IsSnippetMasked}
-use Rattle.snippet_lines.specs.Controls.{is_masked}
-use Rattle.snippet_shown.specs.Masked.{IsTextMasked, mask_of, masked}
-use Rattle.snippet_shown.specs.Remade.{IsGroupTaken}
-use Rattle.snippet_shown.specs.Asked.{IsAnyTitle}
-use Rattle.snippet_splice.specs.Edits.{Edit, edit_of}
-use Rattle.snippet_splice.specs.Overlap.{first_overlap, first_overlap_from, overlap}
-use Rattle.snippet_style.specs.declared.role.LevelInner.{LevelInner}
-use Rattle.snippet_text.proofs.NormLemmas.{list_any-norm, shown-unlisted}
-use Rattle.snippet_text.specs.Normalized.{is_listed, norm, shown}
-use Rattle.snippet_titles.proofs.OriginFree.{each-fails}
-use Rattle.snippet_titles.specs.Title.{id_chars, id_links, text_links}
-use Rattle.annotate_snippets.specs.Walk.{is_drawn}
-use Rattle.annotate_snippets.specs.Fault.{added_lines, element_faults, number_after_lines, number_faults, overlap_faults, refusal_of, span_faults}
-use Rattle.annotate_snippets.specs.Laws.Feeds.{HasOneLineTexts}
-use Rattle.annotate_snippets.specs.declared.renderer.error.RenderError.{RenderError}
-use Rattle.annotate_snippets.specs.declared.renderer.error.RenderError.TheVariants.{PatchesOverlap}
+use Rattle.annotate_snippets.proofs.Common.{◌≡◌, ◌∙◌, ℕ, ◌+◌, ◌==◌, Bool, true, false, List, [], ◌∷◌, ◌++◌, Option, None, Some}
+use Rattle.annotate_snippets.proofs.Common.{All, IfSome, if◌then◌else◌, not, nat_lt, arith, count_by, map, refl, sym, ap, ap₂, subst, false≢true}
+use Rattle.annotate_snippets.proofs.Common.{nat_tests, All-append, All-cons, All-head, All-nil, All-tail, All-weaker, sum_by-cons, cow_str_bytes, AllZip}
+use Rattle.annotate_snippets.proofs.Common.{flat_map, position_from, option_map, option_or, option_to_list, Global, CowStr, Range, span_fault, SpanFault}
+use Rattle.annotate_snippets.proofs.Common.{shown_name, SameOption, trusted_of_element, trusted_of_title, trusted_texts, Level, LevelName, Own, Annotation}
+use Rattle.annotate_snippets.proofs.Common.{Element, Message, Cause, Suggestion, Origin, Padding, Group, Id, Patch, Snippet, Title, IsAnnotationMasked}
+use Rattle.annotate_snippets.proofs.Common.{IsElementMasked, IsGroupMasked, IsIdMasked, IsLevelMasked, IsTitleMasked, IsNameMasked, IsPatchMasked}
+use Rattle.annotate_snippets.proofs.Common.{IsSnippetMasked, is_masked, IsTextMasked, mask_of, masked, IsGroupTaken, IsAnyTitle, Edit, edit_of, first_overlap}
+use Rattle.annotate_snippets.proofs.Common.{first_overlap_from, overlap, LevelInner, list_any-norm, shown-unlisted, is_listed, norm, shown, each-fails}
+use Rattle.annotate_snippets.proofs.Common.{id_chars, id_links, text_links, is_drawn, added_lines, element_faults, number_after_lines, number_faults}
+use Rattle.annotate_snippets.proofs.Common.{overlap_faults, refusal_of, span_faults, HasOneLineTexts, RenderError, PatchesOverlap}
+use Rattle.std.proofs.Common.{append-nil, chars}
 use Rattle.annotate_snippets.proofs.AlignedLemmas.{aligned-fault, aligned-feeds, aligned-lines}
 use Rattle.annotate_snippets.proofs.OneLineTexts.{IsNoFeed, IsOneLineElement, IsOneLineId, IsOneLineLabel, IsOneLineName, IsOneLineText}
 use Rattle.annotate_snippets.proofs.PairedLemmas.{all-over, faults-same, zip-length}

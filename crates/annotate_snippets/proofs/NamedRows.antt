@@ -1,9 +1,6 @@
 -- Rows with their names, and their cells.
-use Rattle.std.proofs.Common.{◌≡◌, ℕ, List, [], ◌∷◌, ◌++◌, refl, ap}
-use Rattle.std.proofs.lemmas.List.{map-append}
-use Rattle.snippet_style.specs.Cell.{Cell}
-use Rattle.annotate_snippets.specs.GraphicForm.{named_line}
-use Rattle.annotate_snippets.specs.Page.{NamedRow, cells_of, lines_named, others}
+use Rattle.annotate_snippets.proofs.Common.{◌≡◌, ℕ, List, [], ◌∷◌, ◌++◌, refl, ap, map-append, Cell, named_line, NamedRow, cells_of}
+use Rattle.annotate_snippets.proofs.Common.{lines_named, others}
 
 -- rows that aren't named by a line
 pub cells_of-others : (rows : List (List Cell)) → cells_of (others rows) ≡ rows

@@ -1,27 +1,10 @@
 -- Pages that lack a line near one that is kept, or have one that isn't: each contradicts what is said of lines around those that are kept.
-use Rattle.std.proofs.Common.{◌≡◌, ◌∙◌, ℕ, Bool, false, true, Vec, List, [], ◌∷◌, None, Some, ap, ap₂, codes, length, refl, subst, sym, arith}
-use Rattle.std.specs.List.{slice_get, slice_index_or}
+use Rattle.annotate_snippets.proofs.Common.{◌≡◌, ◌∙◌, ℕ, Bool, false, true, Vec, List, [], ◌∷◌, None, Some, ap, ap₂, codes, length, refl}
+use Rattle.annotate_snippets.proofs.Common.{subst, sym, arith, slice_get, slice_index_or, Global, Annotation, Primary, Element, Cause, Group, Snippet}
+use Rattle.annotate_snippets.proofs.Common.{lines_around, source_lines, start_of, line_of, kept_lines, with_between, Stylesheet, IsMaskedFor, adds_context}
+use Rattle.annotate_snippets.proofs.Common.{ShowsLinesAround, lines_with_context, form_of, HasLaws, graphic_form, GroupPage, lines_named, Renderer}
 use Rattle.std.specs.Str.{chars}
-use Rattle.std.specs.declared.alloc.Global.{Global}
-use Rattle.snippet_model.specs.declared.snippet.Annotation.{Annotation}
-use Rattle.snippet_model.specs.declared.snippet.AnnotationKind.TheVariants.{Primary}
-use Rattle.snippet_model.specs.declared.snippet.Element.{Element}
-use Rattle.snippet_model.specs.declared.snippet.Element.TheVariants.{Cause}
-use Rattle.snippet_model.specs.declared.snippet.Group.{Group}
-use Rattle.snippet_model.specs.declared.snippet.Snippet.{Snippet}
-use Rattle.snippet_shown.specs.Context.{lines_around}
-use Rattle.snippet_lines.specs.Lines.{source_lines, start_of}
-use Rattle.snippet_lines.specs.Place.{line_of}
-use Rattle.snippet_parts.specs.Kept.{kept_lines, with_between}
-use Rattle.snippet_style.specs.declared.stylesheet.Stylesheet.{Stylesheet}
-use Rattle.annotate_snippets.specs.AsSet.{IsMaskedFor, adds_context}
-use Rattle.annotate_snippets.specs.Laws.Context.{ShowsLinesAround, lines_with_context}
-use Rattle.annotate_snippets.specs.Fault.{form_of}
-use Rattle.annotate_snippets.specs.Laws.Forms.{HasLaws}
-use Rattle.annotate_snippets.specs.GraphicForm.{graphic_form}
-use Rattle.annotate_snippets.specs.Page.{GroupPage, lines_named}
 use Rattle.annotate_snippets.proofs.PageWords.{Page}
-use Rattle.annotate_snippets.specs.declared.renderer.Renderer.{Renderer}
 use Rattle.annotate_snippets.proofs.SmallReports.{group, snippet}
 
 -- a span of the first of three lines

@@ -1,25 +1,10 @@
 -- Rows without the bars of spans, and with others: each contradicts what is said of bars.
-use Rattle.std.proofs.Common.{◌≡◌, ◌≢◌, ◌⊎◌, ℕ, ◌+◌, ◌<◌, ◌≤◌, Bool, true, false, List, ◌∷◌, ◌++◌, All, Contains, sym, ap, ◌∙◌, arith, inl, inr}
-use Rattle.std.specs.List.{slice_index_or}
-use Rattle.std.specs.Cow.{cow_str_bytes}
-use Rattle.std.proofs.lemmas.Bool.{both_ways, cases_eq}
-use Rattle.std.proofs.lemmas.List.Elements.{All-weaker}
-use Rattle.snippet_model.specs.declared.snippet.Annotation.{Annotation}
-use Rattle.snippet_model.specs.declared.snippet.Snippet.{Snippet}
-use Rattle.snippet_style.specs.Cell.{Cell, SPACE, unlinked_cell}
-use Rattle.snippet_style.specs.Glyphs.{strokes_of, underline_role}
-use Rattle.snippet_style.specs.declared.glyphs.DecorStyle.{DecorStyle}
-use Rattle.snippet_style.specs.declared.glyphs.DecorStyle.TheVariants.{Ascii, Unicode}
-use Rattle.snippet_parts.specs.Annotated.{is_long}
-use Rattle.snippet_parts.specs.Mark.{touches}
-use Rattle.snippet_parts.specs.Marked.{first_line, last_line}
-use Rattle.snippet_grid.specs.Grid.{cell_at}
-use Rattle.snippet_grid.specs.Layout.{Layout}
-use Rattle.snippet_strokes.specs.Bars.{Bar}
-use Rattle.snippet_strokes.specs.EndBars.{IsNoBar}
-use Rattle.snippet_strokes.proofs.BarFacts.{end_corner}
-use Rattle.annotate_snippets.specs.Page.{Elision, NamedRow, OfferedLine, Other, RemovedLine, RowName, SourceRow, rows_below, shows_lines}
-use Rattle.annotate_snippets.specs.Laws.Bars.{ShowsBars, bar_beside, bar_of_span, line_beside}
+use Rattle.annotate_snippets.proofs.Common.{◌≡◌, ◌≢◌, ◌⊎◌, ℕ, ◌+◌, ◌<◌, ◌≤◌, Bool, true, false, List, ◌∷◌, ◌++◌}
+use Rattle.annotate_snippets.proofs.Common.{All, sym, ap, ◌∙◌, arith, inl, inr, slice_index_or, cow_str_bytes, both_ways, cases_eq, All-weaker}
+use Rattle.annotate_snippets.proofs.Common.{Annotation, Snippet, Cell, SPACE, unlinked_cell, strokes_of, underline_role, DecorStyle, Ascii, Unicode, is_long}
+use Rattle.annotate_snippets.proofs.Common.{touches, first_line, last_line, cell_at, Layout, Bar, IsNoBar, end_corner, Elision, NamedRow, OfferedLine, Other}
+use Rattle.annotate_snippets.proofs.Common.{RemovedLine, RowName, SourceRow, rows_below, shows_lines, ShowsBars, bar_beside, bar_of_span, line_beside}
+use Rattle.std.proofs.Common.{Contains}
 use Rattle.annotate_snippets.proofs.SpanPlaces.{bar_cell_of}
 
 -- no bar is a space

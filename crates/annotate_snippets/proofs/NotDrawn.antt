@@ -1,39 +1,13 @@
 -- Rows that are none of a line, and cells that are none of a row: each contradicts what is said of all rows of a snippet's lines.
-use Rattle.std.proofs.Common.{◌≡◌, ℕ, ◌+◌, ◌<◌, ◌≤◌, Bool, true, false, cond, None, List, [], ◌∷◌, ◌++◌, codes, length, refl, sym, ap, subst, ◌∙◌}
-use Rattle.std.proofs.Common.{arith}
-use Rattle.std.specs.Cow.{cow_str_bytes}
+use Rattle.annotate_snippets.proofs.Common.{◌≡◌, ℕ, ◌+◌, ◌<◌, ◌≤◌, Bool, true, false, cond, None, List, [], ◌∷◌, ◌++◌, codes}
+use Rattle.annotate_snippets.proofs.Common.{length, refl, sym, ap, subst, ◌∙◌, arith, cow_str_bytes, append_cancel_left, append_cancel_right, cell_at}
+use Rattle.annotate_snippets.proofs.Common.{HasNoNumber, Annotation, Primary, Snippet, Cell, SPACE, text_cells, underline_role, Ascii, LineNumber, Quotation}
+use Rattle.annotate_snippets.proofs.Common.{start_of, line_of, place_of, norm, width_of, chars_at, dropped_part, Margin, shown_lines, Bar, bare_row_left}
+use Rattle.annotate_snippets.proofs.Common.{Renderer, Layout, ElementContext, closes_with, margin_in, rows_of_line, Elision, NamedRow, OfferedLine, Other}
+use Rattle.annotate_snippets.proofs.Common.{RemovedLine, RowName, SourceRow, line_named, others, rows_below, shows_lines, cause_head, rows_after_cause}
+use Rattle.annotate_snippets.proofs.Common.{plain_settings, AreRowsOf, IsRowOf, ShowsSnippet, IsRowBelow, ShowsSourceLine}
 use Rattle.std.specs.Str.{chars}
-use Rattle.std.proofs.lemmas.List.{append_cancel_left, append_cancel_right}
-use Rattle.snippet_grid.specs.Grid.{cell_at}
-use Rattle.snippet_model.specs.FreeRows.{HasNoNumber}
-use Rattle.snippet_model.specs.declared.snippet.Annotation.{Annotation}
-use Rattle.snippet_model.specs.declared.snippet.AnnotationKind.TheVariants.{Primary}
-use Rattle.snippet_model.specs.declared.snippet.Snippet.{Snippet}
-use Rattle.snippet_style.specs.Cell.{Cell, SPACE, text_cells}
-use Rattle.snippet_style.specs.Glyphs.{underline_role}
-use Rattle.snippet_style.specs.declared.glyphs.DecorStyle.TheVariants.{Ascii}
-use Rattle.snippet_style.specs.declared.role.ElementStyle.TheVariants.{LineNumber, Quotation}
-use Rattle.snippet_lines.specs.Lines.{start_of}
-use Rattle.snippet_lines.specs.Place.{line_of, place_of}
-use Rattle.snippet_text.specs.Normalized.{norm}
-use Rattle.snippet_text.specs.Width.{width_of}
-use Rattle.snippet_window.specs.Window.{chars_at, dropped_part}
-use Rattle.snippet_window.specs.declared.margin.Margin.{Margin}
-use Rattle.snippet_parts.specs.Kept.{shown_lines}
-use Rattle.snippet_strokes.specs.Bars.{Bar}
-use Rattle.snippet_strokes.proofs.RowLemmas.{bare_row_left}
-use Rattle.annotate_snippets.specs.declared.renderer.Renderer.{Renderer}
-use Rattle.snippet_grid.specs.Layout.{Layout}
-use Rattle.annotate_snippets.specs.declared.renderer.element_context.ElementContext.{ElementContext}
-use Rattle.annotate_snippets.specs.ElementContext.{closes_with}
-use Rattle.annotate_snippets.specs.GraphicForm.{margin_in, rows_of_line}
 use Rattle.annotate_snippets.proofs.LineWords.{bars_on, entries_on}
-use Rattle.annotate_snippets.specs.Page.{Elision, NamedRow, OfferedLine, Other, RemovedLine, RowName, SourceRow, line_named, others}
-use Rattle.annotate_snippets.specs.Page.{rows_below, shows_lines}
-use Rattle.annotate_snippets.specs.RowsWithoutSource.{cause_head, rows_after_cause}
-use Rattle.annotate_snippets.specs.Settings.{plain_settings}
-use Rattle.annotate_snippets.specs.Laws.Snippets.{AreRowsOf, IsRowOf, ShowsSnippet}
-use Rattle.annotate_snippets.specs.Laws.Lines.{IsRowBelow, ShowsSourceLine}
 use Rattle.annotate_snippets.proofs.FormLines.{IsWholeLine, line_of_rows, names_in, names_of_lines, names_of_rows, none_above}
 use Rattle.annotate_snippets.proofs.LineRowValues.{bar_beside_line, lone_line_rows}
 use Rattle.annotate_snippets.proofs.NotShown.{layout, span_of}

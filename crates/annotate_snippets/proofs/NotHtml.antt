@@ -1,21 +1,9 @@
 -- What isn't HTML of a report: texts that are wrong, each of a small report, contradict what is said of the text that `render_html` gives.
-use Rattle.std.proofs.Common.{◌≡◌, ℕ, true, nat_eq, map, Some, Vec, List, [], ◌∷◌, codes, length, refl, sym, ap, ◌∙◌, arith}
-use Rattle.std.proofs.lemmas.Bool.{false≢true}
-use Rattle.std.specs.List.{list_all}
+use Rattle.annotate_snippets.proofs.Common.{◌≡◌, ℕ, true, nat_eq, map, Some, Vec, List, [], ◌∷◌, codes, length, refl, sym, ap, ◌∙◌, arith}
+use Rattle.annotate_snippets.proofs.Common.{false≢true, list_all, Global, html_bytes, link_address, CharInTags, as_read, html_reads, Element, Group, norm}
+use Rattle.annotate_snippets.proofs.Common.{heading_rows, label_cells, shows_as_given, IsReportHtml, page_chars, report_html, graphic_form, plain_settings}
+use Rattle.annotate_snippets.proofs.Common.{Renderer, Graphic}
 use Rattle.std.specs.Str.{chars}
-use Rattle.std.specs.declared.alloc.Global.{Global}
-use Rattle.snippet_grid.specs.Html.{html_bytes, link_address}
-use Rattle.snippet_grid.specs.HtmlRead.{CharInTags, as_read, html_reads}
-use Rattle.snippet_model.specs.declared.snippet.Element.{Element}
-use Rattle.snippet_model.specs.declared.snippet.Group.{Group}
-use Rattle.snippet_text.specs.Normalized.{norm}
-use Rattle.snippet_titles.specs.HeadingRows.{heading_rows, label_cells}
-use Rattle.annotate_snippets.specs.AsSet.{shows_as_given}
-use Rattle.annotate_snippets.specs.Html.{IsReportHtml, page_chars, report_html}
-use Rattle.annotate_snippets.specs.GraphicForm.{graphic_form}
-use Rattle.annotate_snippets.specs.Settings.{plain_settings}
-use Rattle.annotate_snippets.specs.declared.renderer.Renderer.{Renderer}
-use Rattle.annotate_snippets.specs.declared.renderer.form.Form.TheVariants.{Graphic}
 use Rattle.annotate_snippets.proofs.AsSetSteps.{unset-same}
 use Rattle.annotate_snippets.proofs.SmallReports.{group, hidden_title}
 

@@ -1,32 +1,12 @@
 -- What is not kept: rows of a line that a report leaves out, on a small report, contradict the definitions of what rows show.
-use Rattle.std.proofs.Common.{◌≡◌, ℕ, zero, suc, ◌<◌, ◌==◌, ◌&&◌, Bool, true, false, List, [], ◌∷◌, ◌++◌, codes}
-use Rattle.std.proofs.Common.{length, drop, refl, sym, ap, subst, ◌∙◌, arith}
-use Rattle.std.specs.Char.{is_ascii_alphanumeric}
-use Rattle.std.specs.Cow.{cow_str_bytes}
-use Rattle.std.specs.List.{slice_index_or}
+use Rattle.annotate_snippets.proofs.Common.{◌≡◌, ℕ, zero, suc, ◌<◌, ◌==◌, ◌&&◌, Bool, true, false, List, [], ◌∷◌, ◌++◌, codes}
+use Rattle.annotate_snippets.proofs.Common.{length, drop, refl, sym, ap, subst, ◌∙◌, arith, is_ascii_alphanumeric, cow_str_bytes, slice_index_or}
+use Rattle.annotate_snippets.proofs.Common.{append_cancel_left, append_cancel_right, length-append, filter_map-append, Cell, SPACE, text_cells, row_text, Ascii}
+use Rattle.annotate_snippets.proofs.Common.{LineNumber, Quotation, norm, char_width, unicode_width, Snippet, Annotation, Primary, source_lines, start_of}
+use Rattle.annotate_snippets.proofs.Common.{line_of, place_of, shown_lines, chars_at, Elision, RowName, OfferedLine, RemovedLine, SourceRow, Other, NamedRow}
+use Rattle.annotate_snippets.proofs.Common.{lines_named, others, closes_with, cause_head, rows_after_cause, plain_settings, ElementContext, IsRowOf, AreRowsOf}
+use Rattle.annotate_snippets.proofs.Common.{ShowsSnippet}
 use Rattle.std.specs.Str.{chars}
-use Rattle.std.proofs.lemmas.List.{append_cancel_left, append_cancel_right, length-append}
-use Rattle.std.proofs.lemmas.List.Elements.{filter_map-append}
-use Rattle.snippet_style.specs.Cell.{Cell, SPACE, text_cells}
-use Rattle.snippet_grid.specs.Print.{row_text}
-use Rattle.snippet_style.specs.declared.glyphs.DecorStyle.TheVariants.{Ascii}
-use Rattle.snippet_style.specs.declared.role.ElementStyle.TheVariants.{LineNumber, Quotation}
-use Rattle.snippet_text.specs.Normalized.{norm}
-use Rattle.snippet_text.specs.Width.{char_width}
-use Rattle.snippet_text.proofs.WidthLemmas.{unicode_width}
-use Rattle.snippet_model.specs.declared.snippet.Snippet.{Snippet}
-use Rattle.snippet_model.specs.declared.snippet.Annotation.{Annotation}
-use Rattle.snippet_model.specs.declared.snippet.AnnotationKind.TheVariants.{Primary}
-use Rattle.snippet_lines.specs.Lines.{source_lines, start_of}
-use Rattle.snippet_lines.specs.Place.{line_of, place_of}
-use Rattle.snippet_parts.specs.Kept.{shown_lines}
-use Rattle.snippet_window.specs.Window.{chars_at}
-use Rattle.annotate_snippets.specs.Page.{Elision, RowName, OfferedLine, RemovedLine, SourceRow, Other, NamedRow, lines_named, others}
-use Rattle.annotate_snippets.specs.ElementContext.{closes_with}
-use Rattle.annotate_snippets.specs.RowsWithoutSource.{cause_head, rows_after_cause}
-use Rattle.annotate_snippets.specs.Settings.{plain_settings}
-use Rattle.annotate_snippets.specs.declared.renderer.element_context.ElementContext.{ElementContext}
-use Rattle.annotate_snippets.specs.Laws.Snippets.{IsRowOf, AreRowsOf, ShowsSnippet}
 use Rattle.annotate_snippets.proofs.LeftLaws.{unnumbered_below, unnumbered_elided}
 use Rattle.annotate_snippets.proofs.NotShown.{layout, span_of, IsSnippetOf, is_whole, rows_after}
 

@@ -1,27 +1,12 @@
 -- Rows in which a label is lost, or a word stands that is none: each contradicts what is shown of labels.
-use Rattle.std.proofs.Common.{◌≡◌, ℕ, ◌+◌, ◌<◌, ◌≤◌, ◌==◌, ◌&&◌, cond, Bool, true, false, List, [], ◌∷◌, map, length, count_by, refl, sym, ap, subst, ◌∙◌}
-use Rattle.std.proofs.Common.{arith, inl, inr}
-use Rattle.std.specs.List.{All, Contains}
+use Rattle.annotate_snippets.proofs.Common.{◌≡◌, ℕ, ◌+◌, ◌<◌, ◌≤◌, ◌==◌, ◌&&◌, cond, Bool, true, false, List, [], ◌∷◌, map}
+use Rattle.annotate_snippets.proofs.Common.{length, count_by, refl, sym, ap, subst, ◌∙◌, arith, inl, inr, Contains, false≢true, nat_tests, All-contains}
+use Rattle.annotate_snippets.proofs.Common.{All-head, All-tail, sum_by-cons, cell_at, Cell, SPACE, DecorStyle, ElementStyle, LabelPrimary, LabelSecondary}
+use Rattle.annotate_snippets.proofs.Common.{UnderlinePrimary, UnderlineSecondary, Annotation, AnnotationKind, Primary, Context, Visible, Snippet, from_map}
+use Rattle.annotate_snippets.proofs.Common.{is_mark_role, IsStemCell, label_role, Layout, HasStem, ShowsLabel, ShowsLabels, ShownLabel, SpanLabel, is_in_label}
+use Rattle.annotate_snippets.proofs.Common.{labels_ending_on}
+use Rattle.std.specs.List.{All}
 use Rattle.std.specs.Prelude.{nat_le, nat_lt}
-use Rattle.std.proofs.lemmas.Bool.{false≢true}
-use Rattle.std.proofs.lemmas.Bool.Decides.{nat_tests}
-use Rattle.std.proofs.lemmas.List.Elements.{All-contains, All-head, All-tail}
-use Rattle.std.proofs.lemmas.List.Sums.{sum_by-cons}
-use Rattle.snippet_grid.specs.Grid.{cell_at}
-use Rattle.snippet_style.specs.Cell.{Cell, SPACE}
-use Rattle.snippet_style.specs.declared.glyphs.DecorStyle.{DecorStyle}
-use Rattle.snippet_style.specs.declared.role.ElementStyle.{ElementStyle}
-use Rattle.snippet_style.specs.declared.role.ElementStyle.TheVariants.{LabelPrimary, LabelSecondary, UnderlinePrimary, UnderlineSecondary}
-use Rattle.snippet_model.specs.declared.snippet.Annotation.{Annotation}
-use Rattle.snippet_model.specs.declared.snippet.AnnotationKind.{AnnotationKind}
-use Rattle.snippet_model.specs.declared.snippet.AnnotationKind.TheVariants.{Primary, Context, Visible}
-use Rattle.snippet_model.specs.declared.snippet.Snippet.{Snippet}
-use Rattle.snippet_strokes.proofs.MarkLemmas.{from_map}
-use Rattle.snippet_strokes.specs.EntryMarks.{is_mark_role}
-use Rattle.snippet_strokes.specs.Labels.{IsStemCell}
-use Rattle.snippet_labels.specs.PlacedEntries.{label_role}
-use Rattle.snippet_grid.specs.Layout.{Layout}
-use Rattle.annotate_snippets.specs.Laws.Labels.{HasStem, ShowsLabel, ShowsLabels, ShownLabel, SpanLabel, is_in_label, labels_ending_on}
 
 -- whether a role is that of labels
 abbrev pub is_label_role : ElementStyle → Bool

@@ -1,41 +1,17 @@
 -- What is not offered: rows of suggestions that are wrong, each on a small report, contradict the definitions of what rows
 -- show.
-use Rattle.std.proofs.Common.{◌≡◌, ◌≢◌, ℕ, ◌-◌, ◌==◌, not, Bool, true, false, List, [], ◌∷◌, ◌++◌, codes, drop, get_or, length}
-use Rattle.snippet_grid.specs.Print.{row_text}
-use Rattle.std.proofs.Common.{refl, sym, ap, subst, ◌∙◌, arith, inl, inr}
-use Rattle.std.specs.Cow.{cow_str_bytes}
-use Rattle.std.specs.List.{All, Contains, list_all}
+use Rattle.annotate_snippets.proofs.Common.{◌≡◌, ◌≢◌, ℕ, ◌-◌, ◌==◌, not, Bool, true, false, List, [], ◌∷◌, ◌++◌, codes, drop}
+use Rattle.annotate_snippets.proofs.Common.{get_or, length, row_text, refl, sym, ap, subst, ◌∙◌, arith, inl, inr, cow_str_bytes, Contains, list_all}
+use Rattle.annotate_snippets.proofs.Common.{eq-eqb, append_cancel_left, All-nil, All-cons, All-head, All-tail, All-weaker, filter_map-append}
+use Rattle.annotate_snippets.proofs.Common.{AllPass-from_list_all, added_mark_of, char_of, removed_sign_of, Cell, SPACE, text_cells, Ascii, Addition}
+use Rattle.annotate_snippets.proofs.Common.{LineNumber, Quotation, norm, char_width, unicode_width, Patch, Snippet, last_byte, lines_of, source_lines, start_of}
+use Rattle.annotate_snippets.proofs.Common.{text_at, line_of, Edit, patched, trimmed_edit, HasNoCr, IsTouched, shown_line, texts_of, kept_before, sandwich}
+use Rattle.annotate_snippets.proofs.Common.{IsOfferable, edits_of, first_given, given_lines, last_reached, is_blank_text, IsBareRow, Ascends, Elision, NamedRow}
+use Rattle.annotate_snippets.proofs.Common.{OfferedLine, RemovedLine, Other, RowName, SourceRow, lines_offered, others, suggestion_head, plain_settings, Layout}
+use Rattle.annotate_snippets.proofs.Common.{ElementContext, IsOfferedRow, IsSuggestionRow, ShowsSuggestion}
+use Rattle.std.specs.List.{All}
 use Rattle.std.specs.Str.{chars}
-use Rattle.std.proofs.lemmas.Bool.{eq-eqb}
-use Rattle.std.proofs.lemmas.List.{append_cancel_left}
-use Rattle.std.proofs.lemmas.List.Elements.{All-nil, All-cons, All-head, All-tail, All-weaker, filter_map-append}
-use Rattle.std.proofs.lemmas.List.Sums.{AllPass-from_list_all}
-use Rattle.snippet_style.specs.Glyphs.{added_mark_of, char_of, removed_sign_of}
-use Rattle.snippet_style.specs.Cell.{Cell, SPACE, text_cells}
-use Rattle.snippet_style.specs.declared.glyphs.DecorStyle.TheVariants.{Ascii}
-use Rattle.snippet_style.specs.declared.role.ElementStyle.TheVariants.{Addition, LineNumber, Quotation}
-use Rattle.snippet_text.specs.Normalized.{norm}
-use Rattle.snippet_text.specs.Width.{char_width}
-use Rattle.snippet_text.proofs.WidthLemmas.{unicode_width}
-use Rattle.snippet_model.specs.declared.snippet.Patch.{Patch}
-use Rattle.snippet_model.specs.declared.snippet.Snippet.{Snippet}
-use Rattle.snippet_lines.specs.Lines.{last_byte, lines_of, source_lines, start_of, text_at}
-use Rattle.snippet_lines.specs.Place.{line_of}
-use Rattle.snippet_splice.specs.Edits.{Edit, patched, trimmed_edit}
 use Rattle.snippet_splice.specs.ShownText.{shown_text}
-use Rattle.snippet_splice.specs.Spliced.{HasNoCr, IsTouched}
-use Rattle.snippet_splice.specs.Patched.{shown_line, texts_of}
-use Rattle.snippet_splice.specs.Trim.{kept_before, sandwich}
-use Rattle.snippet_suggest.specs.Given.{IsOfferable, edits_of, first_given, given_lines, last_reached}
-use Rattle.snippet_suggest.specs.Kind.{is_blank_text}
-use Rattle.snippet_suggest.specs.SuggestionRows.{IsBareRow}
-use Rattle.snippet_parts.specs.Entries.{Ascends}
-use Rattle.annotate_snippets.specs.Page.{Elision, NamedRow, OfferedLine, RemovedLine, Other, RowName, SourceRow, lines_offered, others}
-use Rattle.annotate_snippets.specs.RowsWithoutSource.{suggestion_head}
-use Rattle.annotate_snippets.specs.Settings.{plain_settings}
-use Rattle.snippet_grid.specs.Layout.{Layout}
-use Rattle.annotate_snippets.specs.declared.renderer.element_context.ElementContext.{ElementContext}
-use Rattle.annotate_snippets.specs.Laws.Suggestions.{IsOfferedRow, IsSuggestionRow, ShowsSuggestion}
 use Rattle.annotate_snippets.proofs.Ascending.{IsAscending, ascending}
 use Rattle.annotate_snippets.proofs.NotShown.{two_of_one}
 

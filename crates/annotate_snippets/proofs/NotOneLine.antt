@@ -1,32 +1,15 @@
 -- Pages without the laws of a report: with texts of one line, a page with a row that reads as two lines of the text; and a page with a
 -- number before a row of an element that shows no line.
-use Rattle.std.proofs.Common.{◌≡◌, ◌∙◌, ℕ, true, Global, List, [], ◌∷◌, ◌++◌, Some, ap, codes, refl, subst, sym, arith}
-use Rattle.std.specs.Cow.{cow_str_bytes}
-use Rattle.std.specs.List.{All, Contains, slice_get, slice_index_or}
+use Rattle.annotate_snippets.proofs.Common.{◌≡◌, ◌∙◌, ℕ, true, List, [], ◌∷◌, ◌++◌, Some, ap, codes, refl, subst, sym, arith}
+use Rattle.annotate_snippets.proofs.Common.{cow_str_bytes, Contains, slice_get, slice_index_or, CowStr, false≢true, All-contains, row_text, Group}
+use Rattle.annotate_snippets.proofs.Common.{IsTextAsSet, with_line_feeds_shown, Stylesheet, Cell, SPACE, text_cells, separator_row, Ascii, LabelPrimary}
+use Rattle.annotate_snippets.proofs.Common.{NoStyle, UnderlinePrimary, Renderer, form_of, HasNoFeed, HasOneLineTexts, text_lines, FormLaws, HasLaws}
+use Rattle.annotate_snippets.proofs.Common.{graphic_form, Form, Graphic, layout_of_group, GroupPage, NamedRow, Other, group_rows, PageLaws}
+use Rattle.std.proofs.Common.{Global}
+use Rattle.std.specs.List.{All}
 use Rattle.std.specs.Str.{chars}
-use Rattle.std.specs.declared.borrow.CowStr.{CowStr}
-use Rattle.std.proofs.lemmas.Bool.{false≢true}
-use Rattle.std.proofs.lemmas.List.Elements.{All-contains}
-use Rattle.snippet_grid.specs.Print.{row_text}
-use Rattle.snippet_model.specs.declared.snippet.Group.{Group}
-use Rattle.snippet_shown.specs.LineFeeds.{IsTextAsSet, with_line_feeds_shown}
-use Rattle.snippet_style.specs.declared.stylesheet.Stylesheet.{Stylesheet}
-use Rattle.snippet_style.specs.Cell.{Cell, SPACE, text_cells}
-use Rattle.snippet_style.specs.Separators.{separator_row}
-use Rattle.snippet_style.specs.declared.glyphs.DecorStyle.TheVariants.{Ascii}
-use Rattle.snippet_style.specs.declared.role.ElementStyle.TheVariants.{LabelPrimary, NoStyle, UnderlinePrimary}
-use Rattle.annotate_snippets.specs.declared.renderer.Renderer.{Renderer}
-use Rattle.annotate_snippets.specs.Fault.{form_of}
-use Rattle.annotate_snippets.specs.Laws.Feeds.{HasNoFeed, HasOneLineTexts, text_lines}
-use Rattle.annotate_snippets.specs.Laws.Forms.{FormLaws, HasLaws}
-use Rattle.annotate_snippets.specs.GraphicForm.{graphic_form}
-use Rattle.annotate_snippets.specs.declared.renderer.form.Form.{Form}
-use Rattle.annotate_snippets.specs.declared.renderer.form.Form.TheVariants.{Graphic}
-use Rattle.annotate_snippets.specs.Gutter.{layout_of_group}
 use Rattle.annotate_snippets.proofs.NumberLaws.{IsNumberedAsLine}
-use Rattle.annotate_snippets.specs.Page.{GroupPage, NamedRow, Other, group_rows}
 use Rattle.annotate_snippets.proofs.PageWords.{Page}
-use Rattle.annotate_snippets.specs.Laws.Page.{PageLaws}
 use Rattle.annotate_snippets.proofs.OneLineTexts.{HasOneLineRows}
 
 -- the row of the marks of `let x = 1;` with a label that is `here`, a line feed, and what looks like a second line

@@ -1,39 +1,15 @@
 -- What does not stand there: rows of suggestions in another order, with another number, or of another kind, contradict the definitions.
-use Rattle.std.proofs.Common.{◌≡◌, ℕ, ◌≤◌, ◌==◌, not, true, false, if◌then◌else◌, List, [], ◌∷◌, ◌++◌, Vec, codes, get_or, length, map, take}
-use Rattle.std.proofs.Common.{refl, sym, ap, subst, ◌∙◌, arith}
-use Rattle.std.specs.List.{All, AllZip}
+use Rattle.annotate_snippets.proofs.Common.{◌≡◌, ℕ, ◌≤◌, ◌==◌, not, true, false, if◌then◌else◌, List, [], ◌∷◌, ◌++◌, Vec}
+use Rattle.annotate_snippets.proofs.Common.{codes, get_or, length, map, take, refl, sym, ap, subst, ◌∙◌, arith, AllZip, append_cancel_left, All-head}
+use Rattle.annotate_snippets.proofs.Common.{All-tail, added_mark_of, char_of, placeholder_of, removed_sign_of, separator_of, Cell, SPACE, text_cells, Ascii}
+use Rattle.annotate_snippets.proofs.Common.{Unicode, LineNumber, Quotation, Removal, Patch, Snippet, start_of, line_of, trimmed_edit, kept_before, sandwich}
+use Rattle.annotate_snippets.proofs.Common.{Begins, Ends, Offers, Removes, SuggestionRow, removed_number, rows_of_suggestion, Opening, one_word, one_word_gives}
+use Rattle.annotate_snippets.proofs.Common.{Global, decimal_digit, row_text, set_right, DecorStyle, is_end, suggestion_rows, number_text, Renderer, NamedRow}
+use Rattle.annotate_snippets.proofs.Common.{RemovedLine, Other, RowName, cells_of, others, suggestion_head, plain_settings, Layout, ElementContext, HasStrokes}
+use Rattle.annotate_snippets.proofs.Common.{IsSuggestionRow, ShowsSuggestion, name_of_row}
+use Rattle.std.specs.List.{All}
 use Rattle.std.specs.Str.{chars}
-use Rattle.std.proofs.lemmas.List.{append_cancel_left}
-use Rattle.std.proofs.lemmas.List.Elements.{All-head, All-tail}
-use Rattle.snippet_style.specs.Glyphs.{added_mark_of, char_of, placeholder_of, removed_sign_of, separator_of}
-use Rattle.snippet_style.specs.Cell.{Cell, SPACE, text_cells}
-use Rattle.snippet_style.specs.declared.glyphs.DecorStyle.TheVariants.{Ascii, Unicode}
-use Rattle.snippet_style.specs.declared.role.ElementStyle.TheVariants.{LineNumber, Quotation, Removal}
-use Rattle.snippet_model.specs.declared.snippet.Patch.{Patch}
-use Rattle.snippet_model.specs.declared.snippet.Snippet.{Snippet}
-use Rattle.snippet_lines.specs.Lines.{start_of}
-use Rattle.snippet_lines.specs.Place.{line_of}
-use Rattle.snippet_splice.specs.Edits.{trimmed_edit}
 use Rattle.snippet_splice.specs.ShownText.{shown_text}
-use Rattle.snippet_splice.specs.Trim.{kept_before, sandwich}
-use Rattle.snippet_suggest.specs.RowOrder.{Begins, Ends, Offers, Removes, SuggestionRow, removed_number, rows_of_suggestion}
-use Rattle.snippet_suggest.specs.declared.SuggestionStart.TheVariants.{Opening}
-use Rattle.snippet_suggest.proofs.Examples.{one_word, one_word_gives}
-use Rattle.std.specs.declared.alloc.Global.{Global}
-use Rattle.std.proofs.lemmas.Fmt.{decimal_digit}
-use Rattle.snippet_grid.specs.Print.{row_text}
-use Rattle.snippet_lines.specs.Number.{set_right}
-use Rattle.snippet_style.specs.declared.glyphs.DecorStyle.{DecorStyle}
-use Rattle.annotate_snippets.specs.ElementContext.{is_end, suggestion_rows}
-use Rattle.annotate_snippets.specs.Gutter.{number_text}
-use Rattle.annotate_snippets.specs.declared.renderer.Renderer.{Renderer}
-use Rattle.annotate_snippets.specs.Page.{NamedRow, RemovedLine, Other, RowName, cells_of, others}
-use Rattle.annotate_snippets.specs.RowsWithoutSource.{suggestion_head}
-use Rattle.annotate_snippets.specs.Settings.{plain_settings}
-use Rattle.snippet_grid.specs.Layout.{Layout}
-use Rattle.annotate_snippets.specs.declared.renderer.element_context.ElementContext.{ElementContext}
-use Rattle.annotate_snippets.specs.Laws.Suggestions.{HasStrokes, IsSuggestionRow, ShowsSuggestion}
-use Rattle.annotate_snippets.specs.GraphicForm.{name_of_row}
 use Rattle.annotate_snippets.proofs.NotOffered.{offering_row}
 
 -- ---- rows in another order, with another number, or of another kind

@@ -1,27 +1,14 @@
 -- What isn't printed: texts that are wrong, each of a small report, contradict what is said of the text that shows a report in the graphic
 -- form.
-use Rattle.std.proofs.Common.{◌≡◌, ℕ, Bool, true, false, None, Some, Option, Vec, List, [], ◌∷◌, ◌++◌, codes, encode_utf8_all, refl, ap, subst, ◌∙◌, arith, inl}
+use Rattle.annotate_snippets.proofs.Common.{◌≡◌, ℕ, Bool, true, false, None, Some, Option, Vec, List, [], ◌∷◌, ◌++◌, codes, encode_utf8_all}
+use Rattle.annotate_snippets.proofs.Common.{refl, ap, subst, ◌∙◌, arith, inl, AllZip, join_with_byte, slice_index_or, Global, Char, Piece, Prints, Reset}
+use Rattle.annotate_snippets.proofs.Common.{next_style, Prints-unique, Element, Cell, text_cells, unlinked_cell, emboldened, is_plain_style, plain_style}
+use Rattle.annotate_snippets.proofs.Common.{default_sheet, plain_sheet, MainHeaderMsg, Error, Style, norm, heading_rows, label_cells, ShowsReport, graphic_form}
+use Rattle.annotate_snippets.proofs.Common.{GroupPage, PrintsPage, group_rows, page_text, plain_settings, Renderer}
 use Rattle.std.specs.Fmt.{digits}
-use Rattle.std.specs.List.{AllZip, join_with_byte, slice_index_or}
 use Rattle.std.specs.Str.{chars}
-use Rattle.std.specs.declared.alloc.Global.{Global}
-use Rattle.snippet_grid.specs.Woven.{Char, Opening, Piece, Prints, Reset, next_style}
-use Rattle.snippet_grid.proofs.PrintsOnce.{Prints-unique}
-use Rattle.snippet_model.specs.declared.snippet.Element.{Element}
-use Rattle.snippet_style.specs.Cell.{Cell, text_cells, unlinked_cell}
-use Rattle.snippet_style.specs.Style.{emboldened, is_plain_style, plain_style}
-use Rattle.snippet_style.specs.Stylesheet.{default_sheet, plain_sheet}
-use Rattle.snippet_style.specs.declared.role.ElementStyle.TheVariants.{MainHeaderMsg}
-use Rattle.snippet_style.specs.declared.role.LevelInner.TheVariants.{Error}
-use Rattle.snippet_style.specs.declared.style.Style.{Style}
-use Rattle.snippet_text.specs.Normalized.{norm}
-use Rattle.snippet_titles.specs.HeadingRows.{heading_rows, label_cells}
-use Rattle.annotate_snippets.specs.Forms.{ShowsReport}
-use Rattle.annotate_snippets.specs.GraphicForm.{graphic_form}
-use Rattle.annotate_snippets.specs.Page.{GroupPage, PrintsPage, group_rows, page_text}
+use Rattle.snippet_grid.specs.Woven.{Opening}
 use Rattle.annotate_snippets.proofs.PageWords.{Page}
-use Rattle.annotate_snippets.specs.Settings.{plain_settings}
-use Rattle.annotate_snippets.specs.declared.renderer.Renderer.{Renderer}
 use Rattle.annotate_snippets.proofs.AsSetLemmas.{unset-shows}
 use Rattle.annotate_snippets.proofs.ReportLemmas.{plain_printed}
 use Rattle.annotate_snippets.proofs.SmallReports.{nameless, title_alone}

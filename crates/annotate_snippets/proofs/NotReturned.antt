@@ -1,27 +1,10 @@
 -- What the parts of the library don't return: results that are wrong, each of a small input, contradict the words of a contract.
-use Rattle.std.proofs.Common.{◌≡◌, ℕ, ◌≤◌, true, false, None, Some, Ok, Err, Vec, List, [], ◌∷◌, codes, encode_utf8_all, length, map, refl, ap, subst, arith}
-use Rattle.std.proofs.Common.{alloc_error, OnErr, inl, inr, ◌↔◌, IfSome, IsNone}
-use Rattle.std.specs.List.{slice_index_or}
-use Rattle.std.specs.declared.alloc.Global.{Global}
-use Rattle.snippet_lines.specs.Span.{span_fault}
-use Rattle.snippet_model.specs.declared.snippet.Annotation.{Annotation}
-use Rattle.snippet_model.specs.declared.snippet.AnnotationKind.TheVariants.{Primary}
-use Rattle.snippet_model.specs.declared.snippet.Element.{Element}
+use Rattle.annotate_snippets.proofs.Common.{◌≡◌, ℕ, ◌≤◌, true, false, None, Some, Ok, Err, Vec, List, [], ◌∷◌, codes, encode_utf8_all}
+use Rattle.annotate_snippets.proofs.Common.{length, map, refl, ap, subst, arith, alloc_error, OnErr, inl, inr, ◌↔◌, IfSome, IsNone, slice_index_or}
+use Rattle.annotate_snippets.proofs.Common.{Global, span_fault, Annotation, Primary, Element, Group, Patch, WritesCells, Cell, text_cells, NoStyle, Edit}
+use Rattle.annotate_snippets.proofs.Common.{trimmed_edit, trimmed_edits, kept_before, sandwich, norm, depth_among, places_of, share_line, IsChainOf}
+use Rattle.annotate_snippets.proofs.Common.{IsLongestChain, SharesWithFirst, LongExtent, first_fault, first_refusal, plain_settings, SpanOffBoundary}
 use Rattle.snippet_model.specs.declared.snippet.Element.TheVariants as element
-use Rattle.snippet_model.specs.declared.snippet.Group.{Group}
-use Rattle.snippet_model.specs.declared.snippet.Patch.{Patch}
-use Rattle.snippet_grid.specs.Calls.{WritesCells}
-use Rattle.snippet_style.specs.Cell.{Cell, text_cells}
-use Rattle.snippet_style.specs.declared.role.ElementStyle.TheVariants.{NoStyle}
-use Rattle.snippet_splice.specs.Edits.{Edit, trimmed_edit, trimmed_edits}
-use Rattle.snippet_splice.specs.Trim.{kept_before, sandwich}
-use Rattle.snippet_text.specs.Normalized.{norm}
-use Rattle.snippet_parts.specs.Depths.{depth_among, places_of, share_line}
-use Rattle.snippet_parts.specs.Chains.{IsChainOf, IsLongestChain, SharesWithFirst}
-use Rattle.snippet_parts.specs.declared.depths.LongExtent.{LongExtent}
-use Rattle.annotate_snippets.specs.Fault.{first_fault, first_refusal}
-use Rattle.annotate_snippets.specs.Settings.{plain_settings}
-use Rattle.annotate_snippets.specs.declared.renderer.error.RenderError.TheVariants.{SpanOffBoundary}
 use Rattle.annotate_snippets.proofs.NotShown.{span_of}
 use Rattle.annotate_snippets.proofs.SmallReports.{group, snippet}
 

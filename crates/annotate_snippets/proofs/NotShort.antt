@@ -1,35 +1,13 @@
 -- What isn't written in the short form: rows and texts that are wrong, each of a small report, contradict the definition of that form.
-use Rattle.std.proofs.Common.{◌≡◌, ℕ, true, false, None, Some, Vec, List, [], ◌∷◌, ◌++◌, codes, encode_utf8_all, refl, sym, ap, subst, ◌∙◌, arith}
+use Rattle.annotate_snippets.proofs.Common.{◌≡◌, ℕ, true, false, None, Some, Vec, List, [], ◌∷◌, ◌++◌, codes, encode_utf8_all, refl, sym, ap}
+use Rattle.annotate_snippets.proofs.Common.{subst, ◌∙◌, arith, slice_index_or, Global, All-nil, All-cons, row_at, plain_text, row_text, IsWoven, links_of}
+use Rattle.annotate_snippets.proofs.Common.{IsWoven-from_prints, plain_woven, start_of, line_of, Annotation, Primary, Element, Group, Snippet, Title, Cell}
+use Rattle.annotate_snippets.proofs.Common.{plain_sheet, norm, label_cells, origin_text, short_rows, is_long, ShowsShort, ShowsReport, plain_settings}
+use Rattle.annotate_snippets.proofs.Common.{short_form, Renderer}
 use Rattle.std.specs.Fmt.{digits}
-use Rattle.std.specs.List.{All, slice_index_or}
+use Rattle.std.specs.List.{All}
 use Rattle.std.specs.Str.{chars}
-use Rattle.std.specs.declared.alloc.Global.{Global}
-use Rattle.std.proofs.lemmas.List.Elements.{All-nil, All-cons}
-use Rattle.snippet_grid.specs.Grid.{row_at}
-use Rattle.snippet_grid.specs.Print.{plain_text, row_text}
-use Rattle.snippet_grid.specs.Woven.{IsWoven, links_of}
-use Rattle.snippet_grid.proofs.WovenLemmas.{IsWoven-from_prints, plain_woven}
-use Rattle.snippet_lines.specs.Lines.{start_of}
-use Rattle.snippet_lines.specs.Place.{line_of}
-use Rattle.snippet_model.specs.declared.snippet.Annotation.{Annotation}
-use Rattle.snippet_model.specs.declared.snippet.AnnotationKind.TheVariants.{Primary}
-use Rattle.snippet_model.specs.declared.snippet.Element.{Element}
 use Rattle.snippet_model.specs.declared.snippet.Element.TheVariants as element
-use Rattle.snippet_model.specs.declared.snippet.Group.{Group}
-use Rattle.snippet_model.specs.declared.snippet.Snippet.{Snippet}
-use Rattle.snippet_model.specs.declared.snippet.Title.{Title}
-use Rattle.snippet_style.specs.Cell.{Cell}
-use Rattle.snippet_style.specs.Stylesheet.{plain_sheet}
-use Rattle.snippet_text.specs.Normalized.{norm}
-use Rattle.snippet_titles.specs.HeadingRows.{label_cells}
-use Rattle.snippet_titles.specs.Origin.{origin_text}
-use Rattle.snippet_titles.specs.ShortRows.{short_rows}
-use Rattle.snippet_parts.specs.Annotated.{is_long}
-use Rattle.annotate_snippets.specs.Laws.Forms.{ShowsShort}
-use Rattle.annotate_snippets.specs.Forms.{ShowsReport}
-use Rattle.annotate_snippets.specs.Settings.{plain_settings}
-use Rattle.annotate_snippets.specs.ShortForm.{short_form}
-use Rattle.annotate_snippets.specs.declared.renderer.Renderer.{Renderer}
 use Rattle.annotate_snippets.proofs.AsSetLemmas.{unset-shows}
 use Rattle.annotate_snippets.proofs.NotShown.{span_of}
 use Rattle.annotate_snippets.proofs.NotWhole.{at_first, at_second, both_spans, second_span}

@@ -1,48 +1,18 @@
 -- What is not shown: rows that are wrong, each on a small report, contradict the definitions of what rows show.
-use Rattle.std.proofs.Common.{Option, Some, None, ◌≡◌, ℕ, ◌+◌, ◌<◌, ◌≤◌, ◌==◌, ◌&&◌, ◌⊎◌, Bool, true, false, List, [], ◌∷◌, ◌++◌, codes}
-use Rattle.std.proofs.Common.{encode_utf8_all, length, drop, replicate, refl, sym, ap, subst, ◌∙◌, arith, inl, inr}
-use Rattle.std.specs.Char.{is_ascii_alphanumeric}
-use Rattle.std.specs.Cow.{cow_str_bytes}
-use Rattle.std.specs.List.{All, Contains, filter, slice_index_or}
-use Rattle.std.specs.Option.{option_map}
+use Rattle.annotate_snippets.proofs.Common.{Option, Some, None, ◌≡◌, ℕ, ◌+◌, ◌<◌, ◌≤◌, ◌==◌, ◌&&◌, ◌⊎◌, Bool, true, false}
+use Rattle.annotate_snippets.proofs.Common.{List, [], ◌∷◌, ◌++◌, codes, encode_utf8_all, length, drop, replicate, refl, sym, ap, subst, ◌∙◌}
+use Rattle.annotate_snippets.proofs.Common.{arith, inl, inr, is_ascii_alphanumeric, cow_str_bytes, Contains, filter, slice_index_or, option_map, CowStr, Global}
+use Rattle.annotate_snippets.proofs.Common.{eq-eqb, append_cancel_left, append_cancel_right, All-nil, All-cons, filter_map-append, Cell, SPACE, text_cells}
+use Rattle.annotate_snippets.proofs.Common.{row_text, Ascii, LabelPrimary, LineNumber, Quotation, UnderlinePrimary, UnderlineSecondary, norm, char_width}
+use Rattle.annotate_snippets.proofs.Common.{unicode_width, Snippet, Annotation, AnnotationKind, Primary, Context, source_lines, start_of, line_of, place_of}
+use Rattle.annotate_snippets.proofs.Common.{Ascends, is_marked_on, qualifies_for_marks, start_column, end_column, span_width, IsMarkedAt, IsMarkOf, chars_at}
+use Rattle.annotate_snippets.proofs.Common.{stands_whole, IsMarkCell, is_mark_role, separator_row, Elision, RowName, OfferedLine, RemovedLine, SourceRow, Other}
+use Rattle.annotate_snippets.proofs.Common.{NamedRow, lines_named, others, closes_with, cause_head, rows_after_cause, plain_settings, Layout, ElementContext}
+use Rattle.annotate_snippets.proofs.Common.{IsMarkGlyph, char_of, placeholder_of, cell_of, shown_label, ShowsMarksOf, normalized_chars, ShowsSourceLine}
+use Rattle.annotate_snippets.proofs.Common.{IsRowBelow, ShowsLineAndMarks, IsRowOf, AreRowsOf, ShowsSnippet, number_text}
+use Rattle.std.specs.List.{All}
 use Rattle.std.specs.Str.{chars}
-use Rattle.std.specs.declared.borrow.CowStr.{CowStr}
-use Rattle.std.specs.declared.alloc.Global.{Global}
-use Rattle.std.proofs.lemmas.Bool.{eq-eqb}
-use Rattle.std.proofs.lemmas.List.{append_cancel_left, append_cancel_right}
-use Rattle.std.proofs.lemmas.List.Elements.{All-nil, All-cons, filter_map-append}
-use Rattle.snippet_style.specs.Cell.{Cell, SPACE, text_cells}
-use Rattle.snippet_grid.specs.Print.{row_text}
-use Rattle.snippet_style.specs.declared.glyphs.DecorStyle.TheVariants.{Ascii}
-use Rattle.snippet_style.specs.declared.role.ElementStyle.TheVariants.{LabelPrimary, LineNumber, Quotation, UnderlinePrimary, UnderlineSecondary}
-use Rattle.snippet_text.specs.Normalized.{norm}
-use Rattle.snippet_text.specs.Width.{char_width}
-use Rattle.snippet_text.proofs.WidthLemmas.{unicode_width}
-use Rattle.snippet_model.specs.declared.snippet.Snippet.{Snippet}
-use Rattle.snippet_model.specs.declared.snippet.Annotation.{Annotation}
-use Rattle.snippet_model.specs.declared.snippet.AnnotationKind.{AnnotationKind}
-use Rattle.snippet_model.specs.declared.snippet.AnnotationKind.TheVariants.{Primary, Context}
-use Rattle.snippet_lines.specs.Lines.{source_lines, start_of}
-use Rattle.snippet_lines.specs.Place.{line_of, place_of}
-use Rattle.snippet_parts.specs.Entries.{Ascends}
-use Rattle.snippet_parts.specs.Mark.{is_marked_on, qualifies_for_marks, start_column, end_column, span_width, IsMarkedAt, IsMarkOf}
-use Rattle.snippet_window.specs.Window.{chars_at, stands_whole}
-use Rattle.snippet_strokes.specs.EntryMarks.{IsMarkCell, is_mark_role}
-use Rattle.snippet_style.specs.Separators.{separator_row}
-use Rattle.annotate_snippets.specs.Page.{Elision, RowName, OfferedLine, RemovedLine, SourceRow, Other, NamedRow, lines_named, others}
-use Rattle.annotate_snippets.specs.ElementContext.{closes_with}
-use Rattle.annotate_snippets.specs.RowsWithoutSource.{cause_head, rows_after_cause}
-use Rattle.annotate_snippets.specs.Settings.{plain_settings}
-use Rattle.snippet_grid.specs.Layout.{Layout}
-use Rattle.annotate_snippets.specs.declared.renderer.element_context.ElementContext.{ElementContext}
-use Rattle.snippet_style.specs.Glyphs.{IsMarkGlyph, char_of, placeholder_of}
-use Rattle.annotate_snippets.specs.Laws.Marks.{cell_of, shown_label, ShowsMarksOf}
 use Rattle.annotate_snippets.proofs.MarginWords.{room_of}
-use Rattle.snippet_text.specs.Normalized.{normalized_chars}
-use Rattle.annotate_snippets.specs.Laws.Lines.{ShowsSourceLine, IsRowBelow}
-use Rattle.annotate_snippets.specs.Laws.Snippets.{ShowsLineAndMarks}
-use Rattle.annotate_snippets.specs.Laws.Snippets.{IsRowOf, AreRowsOf, ShowsSnippet}
-use Rattle.annotate_snippets.specs.Gutter.{number_text}
 use Rattle.annotate_snippets.proofs.Ascending.{IsAscending, ascending}
 use Rattle.annotate_snippets.proofs.LeftLaws.{separator_of_left, unnumbered_below, unnumbered_elided}
 use Rattle.annotate_snippets.proofs.ListLemmas.{Contains-head, Contains-tail, Contains-cons_cases, Contains-nil}

@@ -1,32 +1,12 @@
 -- Rows of suggestions with a wrong sign or a mark in a wrong place, on small reports, contradict the definitions of what rows show.
-use Rattle.std.proofs.Common.{◌≡◌, ◌∙◌, ℕ, ◌==◌, not, Bool, false, true, refl, List, [], ◌∷◌, ◌++◌, Vec, codes, get_or, replicate, sym, ap, if◌then◌else◌}
-use Rattle.std.specs.declared.alloc.Global.{Global}
-use Rattle.snippet_grid.specs.Grid.{row_at}
-use Rattle.snippet_style.specs.Cell.{Cell, SPACE, text_cells}
-use Rattle.snippet_style.specs.Glyphs.{added_mark_of, changed_mark_of, separator_of}
-use Rattle.snippet_style.specs.declared.glyphs.DecorStyle.{DecorStyle}
-use Rattle.snippet_style.specs.declared.glyphs.DecorStyle.TheVariants.{Ascii}
-use Rattle.snippet_style.specs.declared.role.ElementStyle.TheVariants.{Addition, LineNumber, NoStyle, Removal}
-use Rattle.snippet_style.specs.declared.role.ElementStyle.{ElementStyle}
-use Rattle.snippet_model.specs.declared.snippet.Patch.{Patch}
-use Rattle.snippet_model.specs.declared.snippet.Snippet.{Snippet}
-use Rattle.snippet_suggest.specs.declared.SuggestionLayout.{SuggestionLayout}
-use Rattle.snippet_suggest.specs.declared.SuggestionStart.{SuggestionStart}
-use Rattle.snippet_suggest.specs.declared.SuggestionStart.TheVariants.{Opening}
-use Rattle.snippet_suggest.specs.RowOrder.{Ends}
-use Rattle.snippet_suggest.specs.Suggested.{body_cells, suggested_cells as row_cells}
-use Rattle.snippet_suggest.specs.ShownRows.{suggestion_cells}
-use Rattle.snippet_suggest.proofs.CellExamples.{ascii, put_in_cells, stroke, unfolded_cells}
-use Rattle.snippet_suggest.proofs.Examples.{text_put_in, third_unfolded}
-use Rattle.annotate_snippets.specs.ElementContext.{is_end}
-use Rattle.annotate_snippets.specs.Gutter.{line_numbers}
-use Rattle.annotate_snippets.specs.DrawnReport.{suggestion_layout, suggestion_lines}
+use Rattle.annotate_snippets.proofs.Common.{◌≡◌, ◌∙◌, ℕ, ◌==◌, not, Bool, false, true, refl, List, [], ◌∷◌, ◌++◌, Vec, codes}
+use Rattle.annotate_snippets.proofs.Common.{get_or, replicate, sym, ap, if◌then◌else◌, Global, row_at, Cell, SPACE, text_cells, added_mark_of}
+use Rattle.annotate_snippets.proofs.Common.{changed_mark_of, separator_of, DecorStyle, Ascii, Addition, LineNumber, NoStyle, Removal, ElementStyle, Patch}
+use Rattle.annotate_snippets.proofs.Common.{Snippet, SuggestionLayout, SuggestionStart, Opening, Ends, body_cells, suggestion_cells, ascii, put_in_cells}
+use Rattle.annotate_snippets.proofs.Common.{stroke, unfolded_cells, text_put_in, third_unfolded, is_end, line_numbers, suggestion_layout, suggestion_lines}
+use Rattle.annotate_snippets.proofs.Common.{NamedRow, cells_of, plain_settings, ShowsSuggestion, Layout, ElementContext}
+use Rattle.snippet_suggest.specs.Suggested.{suggested_cells as row_cells}
 use Rattle.annotate_snippets.proofs.PageWords.{under_of}
-use Rattle.annotate_snippets.specs.Page.{NamedRow, cells_of}
-use Rattle.annotate_snippets.specs.Settings.{plain_settings}
-use Rattle.annotate_snippets.specs.Laws.Suggestions.{ShowsSuggestion}
-use Rattle.snippet_grid.specs.Layout.{Layout}
-use Rattle.annotate_snippets.specs.declared.renderer.element_context.ElementContext.{ElementContext}
 
 -- a suggestion that stands alone: it begins in a row of its own, and its last row is its own
 record StandsAlone (around : ElementContext) : Type 0 where

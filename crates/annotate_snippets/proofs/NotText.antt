@@ -1,35 +1,13 @@
 -- What isn't written in the text form: texts that are wrong, each of a small report, contradict the definition of that form.
-use Rattle.std.proofs.Common.{◌≡◌, ℕ, true, None, Some, Vec, List, [], ◌∷◌, ◌++◌, codes, encode_utf8_all, length, refl, sym, ap, ◌∙◌, arith}
+use Rattle.annotate_snippets.proofs.Common.{◌≡◌, ℕ, true, None, Some, Vec, List, [], ◌∷◌, ◌++◌, codes, encode_utf8_all, length, refl, sym, ap}
+use Rattle.annotate_snippets.proofs.Common.{◌∙◌, arith, slice_index_or, Global, newline_count, start_of, end_location, line_of, location_of, locations_of}
+use Rattle.annotate_snippets.proofs.Common.{place_of, start_location, steps_after_text, Annotation, Primary, Element, Group, Patch, trimmed_edit, kept_before}
+use Rattle.annotate_snippets.proofs.Common.{sandwich, default_sheet, plain_sheet, Stylesheet, text_of, norm, cause_form, form_bytes, form_text, heading_form}
+use Rattle.annotate_snippets.proofs.Common.{lines_of_paragraphs, offer, patch, ShowsReport, text_lines, HasLaws, report_paragraphs, plain_settings, text_form}
+use Rattle.annotate_snippets.proofs.Common.{Renderer}
 use Rattle.std.specs.Fmt.{digits}
-use Rattle.std.specs.List.{slice_index_or}
 use Rattle.std.specs.Str.{chars}
-use Rattle.std.specs.declared.alloc.Global.{Global}
-use Rattle.snippet_lines.specs.Lines.{newline_count, start_of}
-use Rattle.snippet_lines.specs.Place.{end_location, line_of, location_of, locations_of, place_of, start_location, steps_after_text}
-use Rattle.snippet_model.specs.declared.snippet.Annotation.{Annotation}
-use Rattle.snippet_model.specs.declared.snippet.AnnotationKind.TheVariants.{Primary}
-use Rattle.snippet_model.specs.declared.snippet.Element.{Element}
 use Rattle.snippet_model.specs.declared.snippet.Element.TheVariants as element
-use Rattle.snippet_model.specs.declared.snippet.Group.{Group}
-use Rattle.snippet_model.specs.declared.snippet.Patch.{Patch}
-use Rattle.snippet_splice.specs.Edits.{trimmed_edit}
-use Rattle.snippet_splice.specs.Trim.{kept_before, sandwich}
-use Rattle.snippet_style.specs.Stylesheet.{default_sheet, plain_sheet}
-use Rattle.snippet_style.specs.declared.stylesheet.Stylesheet.{Stylesheet}
-use Rattle.snippet_suggest.proofs.Examples.{text_of}
-use Rattle.snippet_text.specs.Normalized.{norm}
-use Rattle.snippet_text_form.specs.Cause.{cause_form}
-use Rattle.snippet_text_form.specs.Form.{form_bytes, form_text}
-use Rattle.snippet_text_form.specs.HeadingForm.{heading_form}
-use Rattle.snippet_text_form.specs.Lines.{lines_of_paragraphs}
-use Rattle.snippet_text_form.proofs.Examples.{offer, patch}
-use Rattle.annotate_snippets.specs.Forms.{ShowsReport}
-use Rattle.annotate_snippets.specs.Laws.Feeds.{text_lines}
-use Rattle.annotate_snippets.specs.Laws.Forms.{HasLaws}
-use Rattle.annotate_snippets.specs.Laws.TextLines.{report_paragraphs}
-use Rattle.annotate_snippets.specs.Settings.{plain_settings}
-use Rattle.annotate_snippets.specs.TextForm.{text_form}
-use Rattle.annotate_snippets.specs.declared.renderer.Renderer.{Renderer}
 use Rattle.annotate_snippets.proofs.AsSetLemmas.{unset-shows}
 use Rattle.annotate_snippets.proofs.NotShown.{labelled_span}
 use Rattle.annotate_snippets.proofs.SmallReports.{error_title, group, hidden_title, nameless, note, snippet, title_alone}

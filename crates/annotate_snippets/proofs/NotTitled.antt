@@ -1,33 +1,12 @@
 -- What stands in no head of a report: rows of titles, messages and paths that are wrong, each on a small report, contradict the definitions
 -- of what rows show.
-use Rattle.std.proofs.Common.{◌≡◌, ℕ, false, None, Some, List, [], ◌∷◌, ◌++◌, codes, drop, length, sym, ap, ◌∙◌, arith}
-use Rattle.std.specs.Cow.{cow_str_bytes}
-use Rattle.std.specs.List.{slice_index_or}
+use Rattle.annotate_snippets.proofs.Common.{◌≡◌, ℕ, false, None, Some, List, [], ◌∷◌, ◌++◌, codes, drop, length, sym, ap, ◌∙◌, arith}
+use Rattle.annotate_snippets.proofs.Common.{cow_str_bytes, slice_index_or, length-append, row_at, Layout, row_text, Standard, Annotation, Snippet, Cell, Note}
+use Rattle.annotate_snippets.proofs.Common.{text_of, norm, sign_cells, line_text, origin_text, NamedRow, cells_of, rows_after_title, plain_settings}
+use Rattle.annotate_snippets.proofs.Common.{NamesLocation, ShowsOrigin, ShowsMessage, ShowsTitle, Renderer, ElementContext, GroupPosition, Next}
 use Rattle.std.specs.Str.{chars}
-use Rattle.std.proofs.lemmas.List.{length-append}
-use Rattle.snippet_grid.specs.Grid.{row_at}
-use Rattle.snippet_grid.specs.Layout.{Layout}
-use Rattle.snippet_grid.specs.Print.{row_text}
-use Rattle.snippet_model.specs.declared.level.LevelName.TheVariants.{Standard}
-use Rattle.snippet_model.specs.declared.snippet.Annotation.{Annotation}
 use Rattle.snippet_model.specs.declared.snippet.Origin as origin
-use Rattle.snippet_model.specs.declared.snippet.Snippet.{Snippet}
-use Rattle.snippet_style.specs.Cell.{Cell}
-use Rattle.snippet_style.specs.declared.role.LevelInner.TheVariants.{Note}
-use Rattle.snippet_suggest.proofs.Examples.{text_of}
-use Rattle.snippet_text.specs.Normalized.{norm}
-use Rattle.snippet_titles.specs.HeadingRows.{sign_cells}
-use Rattle.snippet_titles.specs.Origin.{line_text, origin_text}
-use Rattle.annotate_snippets.specs.Page.{NamedRow, cells_of}
-use Rattle.annotate_snippets.specs.RowsWithoutSource.{rows_after_title}
 use Rattle.annotate_snippets.proofs.PageWords.{message_style}
-use Rattle.annotate_snippets.specs.Settings.{plain_settings}
-use Rattle.annotate_snippets.specs.Laws.Paths.{NamesLocation, ShowsOrigin}
-use Rattle.annotate_snippets.specs.Laws.Titles.{ShowsMessage, ShowsTitle}
-use Rattle.annotate_snippets.specs.declared.renderer.Renderer.{Renderer}
-use Rattle.annotate_snippets.specs.declared.renderer.element_context.ElementContext.{ElementContext}
-use Rattle.annotate_snippets.specs.declared.renderer.element_context.GroupPosition.{GroupPosition}
-use Rattle.annotate_snippets.specs.declared.renderer.element_context.Next.{Next}
 use Rattle.annotate_snippets.proofs.HeadingShown.{texts_of}
 use Rattle.annotate_snippets.proofs.NotShown.{layout}
 use Rattle.annotate_snippets.proofs.SmallReports.{error_title}

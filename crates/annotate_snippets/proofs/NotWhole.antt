@@ -1,58 +1,26 @@
 -- What no whole page shows: pages of small reports, wrong in what stands around their snippets, contradict the definitions of what
 -- pages show.
-use Rattle.std.proofs.Common.{Option, Some, None, ◌≡◌, ℕ, ◌+◌, ◌<◌, ◌≤◌, zero, suc, Bool, true, false, not, ◌&&◌, if◌then◌else◌, List, [], ◌∷◌, ◌++◌, codes}
-use Rattle.std.proofs.Common.{drop, encode_utf8_all, length, replicate, take, refl, sym, ap, subst, ◌∙◌, append_assoc, arith, inl, inr, ◌⊎◌}
-use Rattle.std.specs.Char.{is_ascii_alphanumeric}
-use Rattle.std.specs.Cow.{cow_str_bytes}
+use Rattle.annotate_snippets.proofs.Common.{Option, Some, None, ◌≡◌, ℕ, ◌+◌, ◌<◌, ◌≤◌, zero, suc, Bool, true, false, not, ◌&&◌}
+use Rattle.annotate_snippets.proofs.Common.{if◌then◌else◌, List, [], ◌∷◌, ◌++◌, codes, drop, encode_utf8_all, length, replicate, take, refl}
+use Rattle.annotate_snippets.proofs.Common.{sym, ap, subst, ◌∙◌, arith, inl, inr, ◌⊎◌, is_ascii_alphanumeric, cow_str_bytes, Contains}
+use Rattle.annotate_snippets.proofs.Common.{slice_index_or, Global, CowStr, append_cancel_left, append_cancel_right, length-append, All-nil, All-cons, All-head}
+use Rattle.annotate_snippets.proofs.Common.{All-tail, cell_at, row_at, Cell, SPACE, text_cells, row_text, LineNumber, MainHeaderMsg, NoStyle, UnderlinePrimary}
+use Rattle.annotate_snippets.proofs.Common.{norm, Annotation, Primary, Id, Snippet, Title, Source, source_lines, start_of, line_of, location_of, place_of}
+use Rattle.annotate_snippets.proofs.Common.{start_location, steps_after_text, first_line, last_line, shown_lines, All-unmapped, IsLocation, start_at}
+use Rattle.annotate_snippets.proofs.Common.{HasNoNumber, Location, origin_text, closing_row, separator_row, DecorStyle, Ascii, heading_texts, closes_with}
+use Rattle.annotate_snippets.proofs.Common.{is_before_message, is_end, is_first_of_several, context_at, number_text, error_level, Elision, NamedRow}
+use Rattle.annotate_snippets.proofs.Common.{OfferedLine, Other, RemovedLine, RowName, SourceRow, cells_of, line_named, lines_named, others, cause_head}
+use Rattle.annotate_snippets.proofs.Common.{rows_after_cause, rows_after_title, plain_settings, AreElementsShown, AreRowsOf, IsRowOf, ShowsSnippet}
+use Rattle.annotate_snippets.proofs.Common.{NamesLocation, ShowsTitle, Renderer, GroupPosition, Next, ElementContext}
+use Rattle.std.proofs.Common.{append_assoc}
 use Rattle.std.specs.Fmt.{digits}
-use Rattle.std.specs.List.{All, Contains, slice_index_or}
+use Rattle.std.specs.List.{All}
 use Rattle.std.specs.Str.{chars}
-use Rattle.std.specs.declared.alloc.Global.{Global}
-use Rattle.std.specs.declared.borrow.CowStr.{CowStr}
-use Rattle.std.proofs.lemmas.List.{append_cancel_left, append_cancel_right, length-append}
-use Rattle.std.proofs.lemmas.List.Elements.{All-nil, All-cons, All-head, All-tail}
-use Rattle.snippet_grid.specs.Grid.{cell_at, row_at}
-use Rattle.snippet_style.specs.Cell.{Cell, SPACE, text_cells}
-use Rattle.snippet_grid.specs.Print.{row_text}
-use Rattle.snippet_style.specs.declared.role.ElementStyle.TheVariants.{LineNumber, MainHeaderMsg, NoStyle, UnderlinePrimary}
-use Rattle.snippet_text.specs.Normalized.{norm}
-use Rattle.snippet_model.specs.declared.snippet.Annotation.{Annotation}
-use Rattle.snippet_model.specs.declared.snippet.AnnotationKind.TheVariants.{Primary}
 use Rattle.snippet_model.specs.declared.snippet.Element.TheVariants as element
-use Rattle.snippet_model.specs.declared.snippet.Id.{Id}
 use Rattle.snippet_model.specs.declared.snippet.Message as message
-use Rattle.snippet_model.specs.declared.snippet.Snippet.{Snippet}
-use Rattle.snippet_model.specs.declared.snippet.Title.{Title}
-use Rattle.snippet_lines.specs.Lines.{Source, source_lines, start_of}
-use Rattle.snippet_lines.specs.Place.{line_of, location_of, place_of, start_location, steps_after_text}
-use Rattle.snippet_parts.specs.Marked.{first_line, last_line}
-use Rattle.snippet_parts.specs.Kept.{shown_lines}
-use Rattle.snippet_parts.proofs.PartLemmas.{All-unmapped}
-use Rattle.snippet_parts.specs.Location.{IsLocation, start_at}
-use Rattle.snippet_model.specs.FreeRows.{HasNoNumber}
-use Rattle.snippet_parts.specs.declared.location.Location.{Location}
-use Rattle.snippet_titles.specs.Origin.{origin_text}
-use Rattle.snippet_style.specs.Separators.{closing_row, separator_row}
-use Rattle.snippet_style.specs.declared.glyphs.DecorStyle.{DecorStyle}
-use Rattle.snippet_style.specs.declared.glyphs.DecorStyle.TheVariants.{Ascii}
-use Rattle.snippet_titles.specs.ShownHeading.{heading_texts}
 use Rattle.snippet_titles.specs.declared.style.TitleStyle.TheVariants as style
-use Rattle.annotate_snippets.specs.ElementContext.{closes_with, is_before_message, is_end, is_first_of_several, context_at}
-use Rattle.annotate_snippets.specs.Gutter.{number_text}
-use Rattle.annotate_snippets.specs.Levels.{error_level}
-use Rattle.annotate_snippets.specs.Page.{Elision, NamedRow, OfferedLine, Other, RemovedLine, RowName, SourceRow, cells_of, line_named, lines_named, others}
-use Rattle.annotate_snippets.specs.RowsWithoutSource.{cause_head, rows_after_cause, rows_after_title}
-use Rattle.annotate_snippets.specs.Settings.{plain_settings}
-use Rattle.annotate_snippets.specs.Laws.Groups.{AreElementsShown}
-use Rattle.annotate_snippets.specs.Laws.Snippets.{AreRowsOf, IsRowOf, ShowsSnippet}
-use Rattle.annotate_snippets.specs.Laws.Paths.{NamesLocation}
-use Rattle.annotate_snippets.specs.Laws.Titles.{ShowsTitle}
-use Rattle.annotate_snippets.specs.declared.renderer.Renderer.{Renderer}
-use Rattle.annotate_snippets.specs.declared.renderer.element_context.GroupPosition.{GroupPosition}
 use Rattle.annotate_snippets.specs.declared.renderer.element_context.GroupPosition.TheVariants as place
-use Rattle.annotate_snippets.specs.declared.renderer.element_context.Next.{Next}
 use Rattle.annotate_snippets.specs.declared.renderer.element_context.Next.TheVariants as next
-use Rattle.annotate_snippets.specs.declared.renderer.element_context.ElementContext.{ElementContext}
 use Rattle.annotate_snippets.proofs.HeadingShown.{links_of_heading, texts_of}
 use Rattle.annotate_snippets.proofs.LeftLaws.{number_of_left}
 use Rattle.annotate_snippets.proofs.ListLemmas.{Contains-head, Contains-tail, Contains-cons_cases, Contains-nil}

@@ -1,23 +1,11 @@
 -- Texts that aren't shown in place of others where titles and messages are wrapped: a word is lost, a word that has room is broken, a line has
 -- none, a row is empty, or a code is torn apart.
-use Rattle.std.proofs.Common.{◌≡◌, ◌≤◌, ℕ, Bool, true, false, Global, List, [], ◌∷◌, Option, Some, length, filter, ap, codes, refl, subst, arith}
-use Rattle.std.specs.Cow.{cow_str_bytes}
+use Rattle.annotate_snippets.proofs.Common.{◌≡◌, ◌≤◌, ℕ, Bool, true, false, List, [], ◌∷◌, Option, Some, length, ap, codes, refl, subst}
+use Rattle.annotate_snippets.proofs.Common.{arith, cow_str_bytes, CowStr, All-head, SameOption, Group, Title, Stylesheet, unicode_width, char_width, Letter}
+use Rattle.annotate_snippets.proofs.Common.{letters_of, AreWithin, IsRewrapped, columns_of, lines_in, words_of, IsMaskedFor, wraps, form_of, HasLaws}
+use Rattle.annotate_snippets.proofs.Common.{AreRewrapped, IsTextRewrapped, IsTitleRewrapped, Renderer}
+use Rattle.std.proofs.Common.{Global, filter}
 use Rattle.std.specs.Str.{chars}
-use Rattle.std.specs.declared.borrow.CowStr.{CowStr}
-use Rattle.std.proofs.lemmas.List.Elements.{All-head}
-use Rattle.snippet_model.specs.Same.{SameOption}
-use Rattle.snippet_model.specs.declared.snippet.Group.{Group}
-use Rattle.snippet_model.specs.declared.snippet.Title.{Title}
-use Rattle.snippet_style.specs.declared.stylesheet.Stylesheet.{Stylesheet}
-use Rattle.snippet_text.proofs.WidthLemmas.{unicode_width}
-use Rattle.snippet_text.specs.Width.{char_width}
-use Rattle.snippet_shown.specs.Letters.{Letter, letters_of}
-use Rattle.snippet_shown.specs.WrapLaws.{AreWithin, IsRewrapped, columns_of, lines_in, words_of}
-use Rattle.annotate_snippets.specs.AsSet.{IsMaskedFor, wraps}
-use Rattle.annotate_snippets.specs.Fault.{form_of}
-use Rattle.annotate_snippets.specs.Laws.Forms.{HasLaws}
-use Rattle.annotate_snippets.specs.Laws.Wrapped.{AreRewrapped, IsTextRewrapped, IsTitleRewrapped}
-use Rattle.annotate_snippets.specs.declared.renderer.Renderer.{Renderer}
 
 -- the title that is given
 abbrev pub given : List ℕ

@@ -1,48 +1,20 @@
 -- A row of an element begins with a number only where it shows a line.
-use Rattle.std.proofs.Common.{◌≡◌, ℕ, ◌<◌, ◌==◌, ◌&&◌, ◌||◌, Bool, true, false, not, cond, Option, None, Some, List, [], ◌∷◌, ◌++◌, All, length, get_or, inl}
-use Rattle.std.proofs.Common.{inr, refl, sym, subst, arith}
-use Rattle.std.specs.Cow.{cow_str_bytes}
-use Rattle.std.specs.Char.{is_ascii_alphanumeric}
-use Rattle.std.specs.List.{list_all, list_any}
-use Rattle.std.proofs.lemmas.Bool.{cases_Bool, eqb-true, false≢true}
-use Rattle.std.proofs.lemmas.List.Elements.{All-append, All-cons, All-from_get_or, All-head, All-nil, All-tail, All-weaker}
-use Rattle.std.proofs.lemmas.Option.{slice_get_cases}
-use Rattle.snippet_model.specs.Heading.{heading_of_message}
-use Rattle.snippet_model.specs.FreeRows.{HasNoNumber}
-use Rattle.snippet_model.specs.declared.snippet.Annotation.{Annotation}
-use Rattle.snippet_model.specs.declared.snippet.Element.{Element}
+use Rattle.annotate_snippets.proofs.Common.{◌≡◌, ℕ, ◌<◌, ◌==◌, ◌&&◌, ◌||◌, Bool, true, false, not, cond, Option, None, Some, List, []}
+use Rattle.annotate_snippets.proofs.Common.{◌∷◌, ◌++◌, All, length, get_or, inl, inr, refl, sym, subst, arith, cow_str_bytes, is_ascii_alphanumeric}
+use Rattle.annotate_snippets.proofs.Common.{list_all, list_any, cases_Bool, eqb-true, false≢true, All-append, All-cons, All-from_get_or, All-head, All-nil}
+use Rattle.annotate_snippets.proofs.Common.{All-tail, All-weaker, slice_get_cases, heading_of_message, HasNoNumber, Annotation, Element, Patch, Snippet, Cell}
+use Rattle.annotate_snippets.proofs.Common.{SPACE, DecorStyle, Ascii, Unicode, placeholder_of, suggestion_glyph_of, is_stroke, SuggestionStart, primary_start}
+use Rattle.annotate_snippets.proofs.Common.{padding_row, MessageContext, message_rows-unnumbered, snippet_head-unnumbered, closing_row-unnumbered}
+use Rattle.annotate_snippets.proofs.Common.{origin_row-unnumbered, padding_row-unnumbered, separator_row-unnumbered, Renderer, ElementContext, GroupPosition}
+use Rattle.annotate_snippets.proofs.Common.{Layout, closes_after, closes_with, context_at, is_before_message, is_end, path_bytes, is_first_group, shows_a_line}
+use Rattle.annotate_snippets.proofs.Common.{RowName, SourceRow, Elision, OfferedLine, RemovedLine, Other, NamedRow, GroupPage, cells_of, others, cause_head}
+use Rattle.annotate_snippets.proofs.Common.{origin_layout, origin_rows, path_row, rows_after_cause, suggestion_head, AreElementsShown, ShowsElement, AreRowsOf}
+use Rattle.annotate_snippets.proofs.Common.{IsRowOf, IsSuggestionRow, closing_row, separator_row}
 use Rattle.snippet_model.specs.declared.snippet.Element.TheVariants as element
-use Rattle.snippet_model.specs.declared.snippet.Patch.{Patch}
-use Rattle.snippet_model.specs.declared.snippet.Snippet.{Snippet}
-use Rattle.snippet_style.specs.Cell.{Cell, SPACE}
-use Rattle.snippet_style.specs.declared.glyphs.DecorStyle.{DecorStyle}
-use Rattle.snippet_style.specs.declared.glyphs.DecorStyle.TheVariants.{Ascii, Unicode}
-use Rattle.snippet_style.specs.Glyphs.{placeholder_of}
-use Rattle.snippet_style.specs.Glyphs.{suggestion_glyph_of}
-use Rattle.snippet_suggest.specs.SuggestionRows.{is_stroke}
 use Rattle.snippet_style.specs.declared.glyphs.SuggestionGlyph.TheVariants as sign
-use Rattle.snippet_suggest.specs.declared.SuggestionStart.{SuggestionStart}
 use Rattle.snippet_suggest.specs.declared.SuggestionStart.TheVariants as start
-use Rattle.snippet_titles.specs.Origin.{primary_start}
-use Rattle.snippet_titles.proofs.PaddingWords.{padding_row}
-use Rattle.snippet_titles.specs.declared.style.MessageContext.{MessageContext}
-use Rattle.snippet_titles.proofs.HeadFacts.{message_rows-unnumbered, snippet_head-unnumbered}
-use Rattle.snippet_titles.proofs.OriginNumbers.{closing_row-unnumbered, origin_row-unnumbered, padding_row-unnumbered, separator_row-unnumbered}
-use Rattle.annotate_snippets.specs.declared.renderer.Renderer.{Renderer}
-use Rattle.annotate_snippets.specs.declared.renderer.element_context.ElementContext.{ElementContext}
-use Rattle.annotate_snippets.specs.declared.renderer.element_context.GroupPosition.{GroupPosition}
-use Rattle.snippet_grid.specs.Layout.{Layout}
-use Rattle.annotate_snippets.specs.ElementContext.{closes_after, closes_with, context_at, is_before_message, is_end, path_bytes}
-use Rattle.annotate_snippets.specs.Walk.{is_first_group}
 use Rattle.annotate_snippets.proofs.PageWords.{found_at, origin_start, patch_place, place_given, suggestion_head_at}
-use Rattle.annotate_snippets.specs.Laws.Numbers.{shows_a_line}
-use Rattle.annotate_snippets.specs.Page.{RowName, SourceRow, Elision, OfferedLine, RemovedLine, Other, NamedRow, GroupPage, cells_of, others}
-use Rattle.annotate_snippets.specs.RowsWithoutSource.{cause_head, origin_layout, origin_rows, path_row, rows_after_cause, suggestion_head}
-use Rattle.annotate_snippets.specs.Laws.Groups.{AreElementsShown, ShowsElement}
-use Rattle.annotate_snippets.specs.Laws.Snippets.{AreRowsOf, IsRowOf}
-use Rattle.annotate_snippets.specs.Laws.Suggestions.{IsSuggestionRow}
 use Rattle.annotate_snippets.proofs.LeftLaws.{unnumbered_below, unnumbered_elided}
-use Rattle.snippet_style.specs.Separators.{closing_row, separator_row}
 
 -- ---- characters
 

@@ -1,21 +1,10 @@
 -- Texts on one line, one by one: what HasOneLineTexts says of all texts of a report, by groups, titles and elements.
-use Rattle.std.proofs.Common.{◌≡◌, ℕ, ◌==◌, false, List, [], ◌∷◌, ◌++◌, All, Option, None, Some, IfSome, chars}
-use Rattle.std.specs.Cow.{cow_str_bytes}
-use Rattle.std.specs.List.{cons_option, filter_map, flat_map}
-use Rattle.std.specs.Option.{option_map, option_to_list}
-use Rattle.std.proofs.lemmas.List.Elements.{All-append, All-cons, All-head, All-nil, All-tail}
-use Rattle.snippet_style.specs.Cell.{Cell}
-use Rattle.snippet_model.specs.Level.{name_of}
-use Rattle.snippet_model.specs.declared.level.Level.{Level}
-use Rattle.snippet_model.specs.declared.snippet.Annotation.{Annotation}
-use Rattle.snippet_model.specs.declared.snippet.Element.{Element}
+use Rattle.annotate_snippets.proofs.Common.{◌≡◌, ℕ, ◌==◌, false, List, [], ◌∷◌, ◌++◌, All, Option, None, Some, IfSome, cow_str_bytes}
+use Rattle.annotate_snippets.proofs.Common.{cons_option, filter_map, flat_map, option_map, option_to_list, All-append, All-cons, All-head, All-nil, All-tail}
+use Rattle.annotate_snippets.proofs.Common.{Cell, name_of, Level, Annotation, Element, Group, Id, Title, path_bytes, HasNoFeed, HasOneLineTexts}
+use Rattle.annotate_snippets.proofs.Common.{row_texts_of_element, row_texts_of_title, GroupPage, group_rows}
+use Rattle.std.proofs.Common.{chars}
 use Rattle.snippet_model.specs.declared.snippet.Element.TheVariants as element
-use Rattle.snippet_model.specs.declared.snippet.Group.{Group}
-use Rattle.snippet_model.specs.declared.snippet.Id.{Id}
-use Rattle.snippet_model.specs.declared.snippet.Title.{Title}
-use Rattle.annotate_snippets.specs.ElementContext.{path_bytes}
-use Rattle.annotate_snippets.specs.Laws.Feeds.{HasNoFeed, HasOneLineTexts, row_texts_of_element, row_texts_of_title}
-use Rattle.annotate_snippets.specs.Page.{GroupPage, group_rows}
 
 -- ---- rows
 

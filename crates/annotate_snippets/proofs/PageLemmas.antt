@@ -1,44 +1,14 @@
 -- The rows of an annotated snippet's lines, with their names.
-use Rattle.std.proofs.Common.{◌≡◌, ℕ, suc, ◌+◌, ◌<◌, ◌≤◌, ◌==◌, ◌&&◌, nat_lt, Bool, true, false, cond, List, [], ◌∷◌, ◌++◌, map, length, refl, sym, ap}
-use Rattle.std.proofs.Common.{◌∙◌, arith, subst}
+use Rattle.annotate_snippets.proofs.Common.{◌≡◌, ℕ, suc, ◌+◌, ◌<◌, ◌≤◌, ◌==◌, ◌&&◌, nat_lt, Bool, true, false, cond, List, []}
+use Rattle.annotate_snippets.proofs.Common.{◌∷◌, ◌++◌, map, length, refl, sym, ap, ◌∙◌, arith, subst, cow_str_bytes, nat_tests, length-append}
+use Rattle.annotate_snippets.proofs.Common.{length-map, All-head, All-tail, Annotation, Snippet, row_at, Layout, Cell, AnnotatedLineInfo, Margin, KeptLine}
+use Rattle.annotate_snippets.proofs.Common.{kept_line, seen_kept, source_lines, shown_number, IsSpan, shifted, Bar, open_past, HasBarRoom, open_below, gap_row}
+use Rattle.annotate_snippets.proofs.Common.{IsElisionRow, LineView, gap_drawn, CanBeShown, ShowsLine, info_rows_show, room_below, line_seen, AreSeen, Renderer}
+use Rattle.annotate_snippets.proofs.Common.{gap_below, margin_in, named_line, rows_of_line, rows_of_lines, line_numbers, numbered_source, Elision, NamedRow}
+use Rattle.annotate_snippets.proofs.Common.{Other, SourceRow, cells_of, lines_named, others, rows_below, AreRowsOf, ShowsLineAndMarks, IsRowBelow, ShowsLabels}
+use Rattle.annotate_snippets.proofs.Common.{ShowsMarksOf}
 use Rattle.std.specs.List.{All}
-use Rattle.std.specs.Cow.{cow_str_bytes}
-use Rattle.std.proofs.lemmas.Bool.Decides.{nat_tests}
-use Rattle.std.proofs.lemmas.List.{length-append, length-map}
-use Rattle.std.proofs.lemmas.List.Elements.{All-head, All-tail}
-use Rattle.snippet_model.specs.declared.snippet.Annotation.{Annotation}
-use Rattle.snippet_model.specs.declared.snippet.Snippet.{Snippet}
-use Rattle.snippet_grid.specs.Grid.{row_at}
-use Rattle.snippet_grid.specs.Layout.{Layout}
-use Rattle.snippet_style.specs.Cell.{Cell}
-use Rattle.snippet_parts.specs.declared.entries.AnnotatedLineInfo.{AnnotatedLineInfo}
-use Rattle.snippet_window.specs.declared.margin.Margin.{Margin}
-use Rattle.snippet_parts.specs.Annotated.{KeptLine, kept_line}
-use Rattle.snippet_parts.specs.OnLine.{seen_kept}
-use Rattle.snippet_lines.specs.Lines.{source_lines}
-use Rattle.snippet_lines.specs.Number.{shown_number}
-use Rattle.snippet_lines.specs.IsSpan.{IsSpan}
-use Rattle.snippet_labels.specs.PlacedEntries.{shifted}
-use Rattle.snippet_strokes.specs.Bars.{Bar, open_past}
-use Rattle.snippet_strokes.specs.DrawnBars.{HasBarRoom, open_below}
-use Rattle.snippet_strokes.specs.Snippet.{gap_row}
-use Rattle.snippet_strokes.specs.StrokeRows.{IsElisionRow}
-use Rattle.snippet_strokes.specs.declared.snippet.LineView.{LineView}
-use Rattle.snippet_strokes.proofs.ElisionLemmas.{gap_drawn}
-use Rattle.snippet_strokes.proofs.LineFacts.{CanBeShown, ShowsLine}
-use Rattle.snippet_strokes.proofs.LineFromValue.{info_rows_show}
-use Rattle.snippet_strokes.proofs.OpenLemmas.{room_below}
-use Rattle.snippet_strokes.proofs.SeenLines.{line_seen}
-use Rattle.snippet_strokes.proofs.SeenRows.{AreSeen}
-use Rattle.annotate_snippets.specs.declared.renderer.Renderer.{Renderer}
-use Rattle.annotate_snippets.specs.GraphicForm.{gap_below, margin_in, named_line, rows_of_line, rows_of_lines}
 use Rattle.annotate_snippets.proofs.LineWords.{bars_on}
-use Rattle.annotate_snippets.specs.Gutter.{line_numbers, numbered_source}
-use Rattle.annotate_snippets.specs.Page.{Elision, NamedRow, Other, SourceRow, cells_of, lines_named, others, rows_below}
-use Rattle.annotate_snippets.specs.Laws.Snippets.{AreRowsOf, ShowsLineAndMarks}
-use Rattle.annotate_snippets.specs.Laws.Lines.{IsRowBelow}
-use Rattle.annotate_snippets.specs.Laws.Labels.{ShowsLabels}
-use Rattle.annotate_snippets.specs.Laws.Marks.{ShowsMarksOf}
 use Rattle.annotate_snippets.proofs.DrawnLines.{bars_seen, line_drawn}
 use Rattle.annotate_snippets.proofs.DrawnRows.{AreRowsDrawn, IsLineDrawn}
 use Rattle.annotate_snippets.proofs.InfoLines.{IsReadyLine, info_at, seen_at}

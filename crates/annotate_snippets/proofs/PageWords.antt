@@ -1,45 +1,16 @@
 -- Words of proofs for parts of a report's page.
-use Rattle.std.proofs.Common.{ℕ, ◌-◌, true, not, List, [], length, max, fold, if◌then◌else◌, Bool, ◌+◌, ◌&&◌, Some}
-use Rattle.std.specs.Fmt.{decimal}
-use Rattle.std.specs.List.{slice_get}
-use Rattle.std.specs.Cow.{cow_str_bytes}
-use Rattle.std.specs.Option.{option_map}
-use Rattle.snippet_grid.specs.Layout.{Layout}
-use Rattle.snippet_grid.specs.Woven.{Prints}
-use Rattle.snippet_model.specs.declared.snippet.Annotation.{Annotation}
-use Rattle.snippet_model.specs.declared.snippet.Element.{Element}
+use Rattle.annotate_snippets.proofs.Common.{ℕ, ◌-◌, true, not, List, [], length, max, fold, if◌then◌else◌, Bool, ◌+◌, ◌&&◌, Some, decimal}
+use Rattle.annotate_snippets.proofs.Common.{slice_get, cow_str_bytes, option_map, Layout, Prints, Annotation, Element, Group, heading_of_message, Patch}
+use Rattle.annotate_snippets.proofs.Common.{Snippet, start_location, counted_number, first_start, Cell, separator_row, Stylesheet, SuggestionStart, trimmed_of}
+use Rattle.annotate_snippets.proofs.Common.{heading_rows, primary_start, FileStart, Alone, Secondary, OriginLocation, TitleStyle, file_of_group, is_end}
+use Rattle.annotate_snippets.proofs.Common.{position_of_group, last_row, element_rows, group_page, depth_of_element, layout_of_group, GroupPage, NamedRow}
+use Rattle.annotate_snippets.proofs.Common.{group_rows, path_row, Renderer, ElementContext}
 use Rattle.snippet_model.specs.declared.snippet.Element.TheVariants as element
-use Rattle.snippet_model.specs.declared.snippet.Group.{Group}
-use Rattle.snippet_model.specs.Heading.{heading_of_message}
 use Rattle.snippet_model.specs.declared.snippet.Message.{Message}
 use Rattle.snippet_model.specs.declared.snippet.Origin.{Origin}
-use Rattle.snippet_model.specs.declared.snippet.Patch.{Patch}
-use Rattle.snippet_model.specs.declared.snippet.Snippet.{Snippet}
-use Rattle.snippet_lines.specs.Place.{start_location}
-use Rattle.snippet_parts.specs.Counted.{counted_number}
 use Rattle.snippet_parts.specs.Numbered.{numbered_source}
-use Rattle.snippet_splice.specs.ShownText.{first_start}
-use Rattle.snippet_style.specs.Cell.{Cell}
-use Rattle.snippet_style.specs.Separators.{separator_row}
-use Rattle.snippet_style.specs.declared.stylesheet.Stylesheet.{Stylesheet}
-use Rattle.snippet_suggest.specs.declared.SuggestionStart.{SuggestionStart}
 use Rattle.snippet_suggest.specs.declared.SuggestionStart.TheVariants as start
-use Rattle.snippet_suggest.specs.Given.{trimmed_of}
-use Rattle.snippet_titles.specs.HeadingRows.{heading_rows}
-use Rattle.snippet_titles.specs.Origin.{primary_start}
-use Rattle.snippet_titles.specs.declared.origin.FileStart.{FileStart}
-use Rattle.snippet_titles.specs.declared.origin.FileStart.TheVariants.{Alone, Secondary}
-use Rattle.snippet_titles.specs.declared.origin.OriginLocation.{OriginLocation}
-use Rattle.snippet_titles.specs.declared.style.TitleStyle.{TitleStyle}
 use Rattle.snippet_titles.specs.declared.style.TitleStyle.TheVariants as style
-use Rattle.annotate_snippets.specs.ElementContext.{file_of_group, is_end, position_of_group}
-use Rattle.annotate_snippets.specs.DrawnReport.{last_row}
-use Rattle.annotate_snippets.specs.GraphicForm.{element_rows, group_page}
-use Rattle.annotate_snippets.specs.Gutter.{depth_of_element, layout_of_group}
-use Rattle.annotate_snippets.specs.Page.{GroupPage, NamedRow, group_rows}
-use Rattle.annotate_snippets.specs.RowsWithoutSource.{path_row}
-use Rattle.annotate_snippets.specs.declared.renderer.Renderer.{Renderer}
-use Rattle.annotate_snippets.specs.declared.renderer.element_context.ElementContext.{ElementContext}
 
 -- the width that an annotated snippet wants
 abbrev pub gutter_of : Snippet Annotation → ℕ

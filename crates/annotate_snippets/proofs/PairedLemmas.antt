@@ -1,14 +1,7 @@
 -- Things in the places of others: what goes over from the ones to the others.
-use Rattle.std.proofs.Common.{◌≡◌, ℕ, ◌+◌, zero, suc, Bool, true, false, cond, List, [], ◌∷◌, ◌++◌, Option, None, Some, All, length, refl, sym, ap, ap₂}
-use Rattle.std.proofs.Common.{subst, take}
-use Rattle.std.proofs.lemmas.List.Elements.{All-cons, All-head, All-nil, All-tail}
-use Rattle.std.specs.List.{AllZip, filter, flat_map, slice_get}
-use Rattle.std.specs.Option.{option_to_list}
-use Rattle.snippet_grid.proofs.WeaveLemmas.{some_same}
-use Rattle.snippet_model.specs.Same.{SameOption}
-use Rattle.snippet_suggest.proofs.BodyLaws.{zip_append}
-use Rattle.annotate_snippets.specs.Fault.{faults_from}
-use Rattle.annotate_snippets.specs.declared.renderer.error.RenderError.{RenderError}
+use Rattle.annotate_snippets.proofs.Common.{◌≡◌, ℕ, ◌+◌, zero, suc, Bool, true, false, cond, List, [], ◌∷◌, ◌++◌, Option, None, Some, All}
+use Rattle.annotate_snippets.proofs.Common.{length, refl, sym, ap, ap₂, subst, take, All-cons, All-head, All-nil, All-tail, AllZip, filter, flat_map}
+use Rattle.annotate_snippets.proofs.Common.{slice_get, option_to_list, some_same, SameOption, zip_append, faults_from, RenderError}
 
 -- ---- lists made of them
 

@@ -1,49 +1,19 @@
 -- What is known of the lines of a snippet, in the words of its page.
-use Rattle.std.proofs.Common.{◌≡◌, ℕ, ◌+◌, ◌<◌, ◌≤◌, ◌^◌, ◌&&◌, not, Bool, true, false, List, map, length, count_by}
-use Rattle.std.specs.List.{All, Contains, filter, list_all}
-use Rattle.snippet_model.specs.declared.snippet.Annotation.{Annotation}
-use Rattle.snippet_parts.specs.declared.entries.AnnotatedLineInfo.{AnnotatedLineInfo}
-use Rattle.std.proofs.Common.{cond, ◌==◌, ◌||◌, sym, subst, ◌∙◌, get_or, ap, arith, inl, inr, IfSome, []}
-use Rattle.std.specs.List.{list_any}
-use Rattle.std.proofs.lemmas.Bool.{cases_Bool, or_parts}
-use Rattle.std.proofs.lemmas.Bool.Decides.{nat_tests}
-use Rattle.std.proofs.lemmas.List.Elements.{All-contains, All-nil, All-weaker, Contains-get_or}
-use Rattle.std.proofs.lemmas.List.FromFn.{get_or-range_with_len, length-range_with_len}
-use Rattle.std.specs.List.{range_with_len}
-use Rattle.snippet_parts.specs.Kept.{keeps, kept_lines}
-use Rattle.snippet_parts.proofs.KeptPartLemmas.{none-unkept}
-use Rattle.snippet_parts.proofs.LineCounts.{length-in_order}
-use Rattle.snippet_strokes.proofs.MarkLemmas.{from_map}
+use Rattle.annotate_snippets.proofs.Common.{◌≡◌, ℕ, ◌+◌, ◌<◌, ◌≤◌, ◌^◌, ◌&&◌, not, Bool, true, false, List, map, length, count_by}
+use Rattle.annotate_snippets.proofs.Common.{Contains, filter, list_all, Annotation, AnnotatedLineInfo, cond, ◌==◌, ◌||◌, sym, subst, ◌∙◌, get_or}
+use Rattle.annotate_snippets.proofs.Common.{ap, arith, inl, inr, IfSome, [], list_any, cases_Bool, or_parts, nat_tests, All-contains, All-nil, All-weaker}
+use Rattle.annotate_snippets.proofs.Common.{Contains-get_or, get_or-range_with_len, length-range_with_len, range_with_len, keeps, kept_lines, none-unkept}
+use Rattle.annotate_snippets.proofs.Common.{length-in_order, from_map, length-map, count_by-le-length, length-filter, AnnotationFits, LineAnnotation}
+use Rattle.annotate_snippets.proofs.Common.{LineAnnotationType, Singleline, MultilineStart, MultilineEnd, MultilineLine, Margin, depths-fit, each-line}
+use Rattle.annotate_snippets.proofs.Common.{labels-fit, places-fit, texts-fit, untouched-parts, wide-count, margin_whole, shown_lines-first_line, last-shown}
+use Rattle.annotate_snippets.proofs.Common.{shown-ascends, shown-within, places_of, KeptLine, annotated_lines, deepest, is_long, kept_line, long_entry}
+use Rattle.annotate_snippets.proofs.Common.{long_place, long_spans, parts_on, single_part, seen_kept, HasDepthWithin, HasColumnRoom, shown_lines, Source}
+use Rattle.annotate_snippets.proofs.Common.{source_lines, is_marked_on, is_marking, is_single_line, is_wide, touches, first_line, last_line, StandsClear}
+use Rattle.annotate_snippets.proofs.Common.{margin_of, is_wide_entry, AreDrawable, HasBarCell, HasBarCellAt, HasPlace, Layout, code_after, IsSpan, stands_whole}
+use Rattle.annotate_snippets.proofs.Common.{greatest-bound, places-bound, long_places, stands_before}
+use Rattle.std.specs.List.{All}
 use Rattle.annotate_snippets.proofs.ListLemmas.{Contains-filter, Contains-map}
-use Rattle.std.proofs.lemmas.List.{length-map}
-use Rattle.std.proofs.lemmas.List.Sums.{count_by-le-length, length-filter}
-use Rattle.snippet_model.specs.Fits.{AnnotationFits}
-use Rattle.snippet_parts.specs.declared.entries.LineAnnotation.{LineAnnotation}
-use Rattle.snippet_parts.specs.declared.entries.LineAnnotationType.{LineAnnotationType}
-use Rattle.snippet_parts.specs.declared.entries.LineAnnotationType.TheVariants.{Singleline, MultilineStart, MultilineEnd, MultilineLine}
-use Rattle.snippet_window.specs.declared.margin.Margin.{Margin}
-use Rattle.snippet_parts.proofs.EntryFacts.{depths-fit, each-line, labels-fit, places-fit, texts-fit, untouched-parts, wide-count}
-use Rattle.snippet_window.proofs.UncutLaws.{margin_whole}
-use Rattle.snippet_parts.proofs.ShownFacts.{shown_lines-first_line, last-shown, shown-ascends, shown-within}
-use Rattle.snippet_parts.specs.Depths.{places_of}
-use Rattle.snippet_parts.specs.Annotated.{KeptLine, annotated_lines, deepest, is_long, kept_line, long_entry, long_place, long_spans, parts_on, single_part}
-use Rattle.snippet_parts.specs.OnLine.{seen_kept}
-use Rattle.snippet_parts.specs.EntryBounds.{HasDepthWithin, HasColumnRoom}
-use Rattle.snippet_parts.specs.Kept.{shown_lines}
-use Rattle.snippet_lines.specs.Lines.{Source, source_lines}
-use Rattle.snippet_parts.specs.Mark.{is_marked_on, is_marking, is_single_line, is_wide, touches}
-use Rattle.snippet_parts.specs.Marked.{first_line, last_line}
-use Rattle.snippet_window.specs.Measures.{StandsClear, margin_of}
-use Rattle.snippet_parts.specs.Entries.{is_wide_entry}
-use Rattle.snippet_strokes.specs.Drawable.{AreDrawable, HasBarCell, HasBarCellAt}
-use Rattle.snippet_labels.specs.Placing.{HasPlace}
-use Rattle.snippet_grid.specs.Layout.{Layout}
-use Rattle.annotate_snippets.specs.ElementRoom.{code_after}
 use Rattle.annotate_snippets.proofs.Ascending.{IsAscending, ascending}
-use Rattle.snippet_lines.specs.IsSpan.{IsSpan}
-use Rattle.snippet_window.specs.Window.{stands_whole}
-use Rattle.snippet_parts.proofs.RawDepthLemmas.{greatest-bound, places-bound}
-use Rattle.snippet_parts.proofs.PartWords.{long_places, stands_before}
 
 module _ (s : Source) (marks : List Annotation) (spans : All (λ a. IsSpan s.text a.span.start a.span.end) marks) where
   -- a line that no span of several lines touches has the parts of the spans that are marked on it

@@ -1,35 +1,16 @@
 -- What a suggestion's rows stand below, and the element that they are.
-use Rattle.std.proofs.Common.{◌≡◌, ℕ, not, Bool, true, false, if◌then◌else◌, Option, None, Some, List, [], ◌∷◌, ◌++◌, length, refl}
-use Rattle.std.proofs.Common.{sym, ap, ◌∙◌, subst, append_assoc}
+use Rattle.annotate_snippets.proofs.Common.{◌≡◌, ℕ, not, Bool, true, false, if◌then◌else◌, Option, None, Some, List, [], ◌∷◌, ◌++◌}
+use Rattle.annotate_snippets.proofs.Common.{length, refl, sym, ap, ◌∙◌, subst, AllocError, flat_map, is_some, option_to_list, append-nil, on_ok_weaker}
+use Rattle.annotate_snippets.proofs.Common.{row_at, Cell, LineNumbers, Suggestion, Patch, Snippet, SuggestionLayout, SuggestionStart, Opening, Path, Ends}
+use Rattle.annotate_snippets.proofs.Common.{body_cells, rows_shared, suggestion_cells, is_end, path_bytes, suggestion_layout, line_numbers, path_row}
+use Rattle.annotate_snippets.proofs.Common.{suggestion_head, HasPathFor, begins_in_row_above, is_next_start, shared_row, drawn_rows, path_head, Renderer}
+use Rattle.annotate_snippets.proofs.Common.{Layout, ElementContext, separator_row}
+use Rattle.std.proofs.Common.{append_assoc}
 use Rattle.std.specs.Prelude.{OnOk}
-use Rattle.std.specs.declared.alloc.AllocError.{AllocError}
 use Rattle.std.specs.declared.result.Result.{Result}
-use Rattle.std.specs.List.{flat_map}
-use Rattle.std.specs.Option.{is_some, option_to_list}
-use Rattle.std.proofs.lemmas.List.{append-nil}
-use Rattle.std.proofs.lemmas.Result.{on_ok_weaker}
-use Rattle.snippet_grid.specs.Grid.{row_at}
-use Rattle.snippet_style.specs.Cell.{Cell}
-use Rattle.snippet_lines.specs.declared.number.LineNumbers.{LineNumbers}
-use Rattle.snippet_model.specs.declared.snippet.Element.TheVariants.{Suggestion}
-use Rattle.snippet_model.specs.declared.snippet.Patch.{Patch}
-use Rattle.snippet_model.specs.declared.snippet.Snippet.{Snippet}
-use Rattle.snippet_suggest.specs.declared.SuggestionLayout.{SuggestionLayout}
-use Rattle.snippet_suggest.specs.declared.SuggestionStart.{SuggestionStart}
-use Rattle.snippet_suggest.specs.declared.SuggestionStart.TheVariants.{Opening, Next, Path}
-use Rattle.snippet_suggest.specs.RowOrder.{Ends}
-use Rattle.snippet_suggest.specs.Suggested.{body_cells, suggested_cells as row_cells}
-use Rattle.snippet_suggest.specs.ShownRows.{rows_shared, suggestion_cells}
-use Rattle.annotate_snippets.specs.ElementContext.{is_end, path_bytes}
-use Rattle.annotate_snippets.specs.DrawnReport.{suggestion_layout}
+use Rattle.snippet_suggest.specs.declared.SuggestionStart.TheVariants.{Next}
+use Rattle.snippet_suggest.specs.Suggested.{suggested_cells as row_cells}
 use Rattle.annotate_snippets.proofs.PageWords.{suggestion_head_at, under_of}
-use Rattle.annotate_snippets.specs.Gutter.{line_numbers}
-use Rattle.annotate_snippets.specs.RowsWithoutSource.{path_row, suggestion_head}
-use Rattle.annotate_snippets.specs.ElementRoom.{HasPathFor, begins_in_row_above, is_next_start, shared_row, drawn_rows, path_head}
-use Rattle.annotate_snippets.specs.declared.renderer.Renderer.{Renderer}
-use Rattle.snippet_grid.specs.Layout.{Layout}
-use Rattle.annotate_snippets.specs.declared.renderer.element_context.ElementContext.{ElementContext}
-use Rattle.snippet_style.specs.Separators.{separator_row}
 use Rattle.annotate_snippets.proofs.SuggestionShown.{patch_cells}
 
 -- the row of a path with the separator row below it

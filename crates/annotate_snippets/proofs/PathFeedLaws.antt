@@ -1,45 +1,19 @@
 -- The rows around the lines of a snippet, and those of an origin, hold a line feed only where a path does.
-use Rattle.std.proofs.Common.{◌≡◌, ℕ, ◌+◌, ◌==◌, ◌&&◌, Bool, true, false, cond, Option, None, Some, List, [], ◌∷◌, All, chars, refl, sym, subst, arith}
-use Rattle.std.specs.Cow.{cow_str_bytes}
-use Rattle.std.specs.List.{flat_map, list_any}
-use Rattle.std.proofs.lemmas.Bool.Decides.{nat_tests}
-use Rattle.std.proofs.lemmas.List.Concat.{flat_map-cons}
-use Rattle.std.proofs.lemmas.List.Elements.{All-append, All-cons, All-head, All-nil, All-tail}
-use Rattle.snippet_style.specs.Cell.{Cell, text_cells}
-use Rattle.snippet_style.specs.declared.glyphs.DecorStyle.{DecorStyle}
-use Rattle.snippet_style.specs.declared.glyphs.DecorStyle.TheVariants.{Ascii, Unicode}
-use Rattle.snippet_style.specs.declared.role.ElementStyle.TheVariants.{LineAndColumn, LineNumber}
-use Rattle.snippet_text.specs.Normalized.{has_control_picture, is_bidirectional_control, norm, shown}
-use Rattle.snippet_model.specs.declared.snippet.Annotation.{Annotation}
+use Rattle.annotate_snippets.proofs.Common.{◌≡◌, ℕ, ◌+◌, ◌==◌, ◌&&◌, Bool, true, false, cond, Option, None, Some, List, [], ◌∷◌, All}
+use Rattle.annotate_snippets.proofs.Common.{refl, sym, subst, arith, cow_str_bytes, flat_map, list_any, nat_tests, flat_map-cons, All-append, All-cons}
+use Rattle.annotate_snippets.proofs.Common.{All-head, All-nil, All-tail, Cell, text_cells, DecorStyle, Ascii, Unicode, LineAndColumn, LineNumber}
+use Rattle.annotate_snippets.proofs.Common.{has_control_picture, is_bidirectional_control, norm, shown, Annotation, Snippet, file_glyph, file_row, line_text}
+use Rattle.annotate_snippets.proofs.Common.{origin_row, origin_text, snippet_head, padding_row, FileStart, Alone, First, Later, Secondary, OriginLayout}
+use Rattle.annotate_snippets.proofs.Common.{OriginLocation, IsDigit, opening_rows-each, nameless_head-each, primary_head-each, secondary_head-each, each-fails}
+use Rattle.annotate_snippets.proofs.Common.{place-each, Renderer, ElementContext, Layout, closes_after, is_before_message, path_bytes, is_first_group}
+use Rattle.annotate_snippets.proofs.Common.{numbered_source, cause_head, origin_layout, origin_rows, place_named, rows_after_cause, HasNoFeed, annotated_lines}
+use Rattle.annotate_snippets.proofs.Common.{closing_row, separator_row}
+use Rattle.std.proofs.Common.{chars}
 use Rattle.snippet_model.specs.declared.snippet.Origin as origin
-use Rattle.snippet_model.specs.declared.snippet.Snippet.{Snippet}
-use Rattle.snippet_titles.specs.Origin.{file_glyph, file_row, line_text, origin_row, origin_text, snippet_head}
-use Rattle.snippet_titles.proofs.PaddingWords.{padding_row}
-use Rattle.snippet_titles.specs.declared.origin.FileStart.{FileStart}
-use Rattle.snippet_titles.specs.declared.origin.FileStart.TheVariants.{Alone, First, Later, Secondary}
-use Rattle.snippet_titles.specs.declared.origin.OriginLayout.{OriginLayout}
-use Rattle.snippet_titles.specs.declared.origin.OriginLocation.{OriginLocation}
-use Rattle.snippet_titles.proofs.DigitLemmas.{IsDigit}
-use Rattle.snippet_titles.proofs.HeadFacts.{opening_rows-each}
-use Rattle.snippet_titles.proofs.HeadLemmas.{nameless_head-each, primary_head-each, secondary_head-each}
-use Rattle.snippet_titles.proofs.OriginFree.{each-fails}
-use Rattle.snippet_titles.proofs.OriginText.{place-each}
-use Rattle.annotate_snippets.specs.declared.renderer.Renderer.{Renderer}
-use Rattle.annotate_snippets.specs.declared.renderer.element_context.ElementContext.{ElementContext}
-use Rattle.snippet_grid.specs.Layout.{Layout}
-use Rattle.annotate_snippets.specs.ElementContext.{closes_after, is_before_message, path_bytes}
-use Rattle.annotate_snippets.specs.Walk.{is_first_group}
-use Rattle.annotate_snippets.specs.Gutter.{numbered_source}
-use Rattle.annotate_snippets.specs.RowsWithoutSource.{cause_head, origin_layout, origin_rows}
 use Rattle.annotate_snippets.proofs.PageWords.{origin_start, place_given}
-use Rattle.annotate_snippets.specs.ShortForm.{place_named}
-use Rattle.annotate_snippets.specs.RowsWithoutSource.{rows_after_cause}
-use Rattle.annotate_snippets.specs.Laws.Feeds.{HasNoFeed}
 use Rattle.annotate_snippets.proofs.OneLineTexts.{HoldsNoFeed, IsNoFeed, IsOneLineText}
 use Rattle.annotate_snippets.proofs.FeedLaws.{after_spaces, bare-plain}
 pub use Rattle.annotate_snippets.proofs.FeedLaws.{cells_plain}
-use Rattle.snippet_parts.specs.Annotated.{annotated_lines}
-use Rattle.snippet_style.specs.Separators.{closing_row, separator_row}
 
 -- ---- characters
 

@@ -1,25 +1,11 @@
 -- The place at which the first patch of a snippet starts.
-use Rattle.std.proofs.Common.{◌≡◌, ℕ, ◌+◌, ◌<◌, None, Some, List, [], ◌∷◌, All, length, map, sym, ap, ◌∙◌, arith, subst}
-use Rattle.std.specs.Cow.{cow_str_bytes}
-use Rattle.std.specs.List.{slice_get}
-use Rattle.std.proofs.lemmas.List.Elements.{All-map}
-use Rattle.snippet_lines.specs.Lines.{Source}
-use Rattle.snippet_lines.specs.Place.{locations_of, start_location}
-use Rattle.snippet_lines.specs.IsSpan.{IsSpan}
-use Rattle.snippet_lines.specs.declared.place.Loc.{Loc}
-use Rattle.snippet_splice.specs.declared.patches.TrimmedPatch.{TrimmedPatch}
-use Rattle.snippet_splice.specs.Edits.{edit_of}
-use Rattle.snippet_splice.specs.TrimmedEdits.{trimmed_edit_of}
-use Rattle.snippet_splice.specs.ShownText.{first_start}
+use Rattle.annotate_snippets.proofs.Common.{◌≡◌, ℕ, ◌+◌, ◌<◌, None, Some, List, [], ◌∷◌, All, length, map, sym, ap, ◌∙◌, arith}
+use Rattle.annotate_snippets.proofs.Common.{subst, cow_str_bytes, slice_get, All-map, Source, locations_of, start_location, IsSpan, Loc, TrimmedPatch, edit_of}
+use Rattle.annotate_snippets.proofs.Common.{trimmed_edit_of, first_start, edits_of, trimmed_of, IsPrepared, some_left, trimmed_spans, OriginLocation}
+use Rattle.annotate_snippets.proofs.Common.{locations_of-start}
 use Rattle.snippet_suggest.specs.declared.PreparedSuggestion.{PreparedSuggestion}
-use Rattle.snippet_suggest.specs.Given.{edits_of, trimmed_of}
 use Rattle.snippet_parts.specs.Numbered.{numbered_source}
-use Rattle.snippet_suggest.specs.PreparedSuggestion.{IsPrepared}
-use Rattle.snippet_suggest.proofs.PreparedLemmas.{some_left}
-use Rattle.snippet_suggest.proofs.SpanLemmas.{trimmed_spans}
-use Rattle.snippet_titles.specs.declared.origin.OriginLocation.{OriginLocation}
 use Rattle.annotate_snippets.proofs.PageWords.{patch_place}
-use Rattle.snippet_lines.proofs.PlaceLemmas.{locations_of-start}
 
 -- the first of some patches starts where the first edit does
 first_start-of : (ts : List TrimmedPatch) (t : TrimmedPatch) → slice_get ts 0 ≡ Some t → t.span.start ≡ first_start (map trimmed_edit_of ts)

@@ -1,18 +1,7 @@
 -- Elements that share no row with others.
-use Rattle.std.proofs.Common.{◌≡◌, Some, not, false, List, ◌++◌, sym, ap, ◌∙◌, subst}
-use Rattle.std.proofs.lemmas.List.{append-nil}
-use Rattle.snippet_style.specs.Cell.{Cell}
-use Rattle.snippet_model.specs.declared.snippet.Element.{Element}
-use Rattle.annotate_snippets.specs.ElementContext.{is_end}
-use Rattle.annotate_snippets.specs.DrawnReport.{last_row}
-use Rattle.annotate_snippets.specs.GraphicForm.{element_rows}
-use Rattle.annotate_snippets.specs.ElementRoom.{CanStandIn, begins_in_row_above, shared_row, drawn_rows}
-use Rattle.annotate_snippets.specs.Page.{cells_of}
-use Rattle.annotate_snippets.specs.PreparedReport.{element_of}
-use Rattle.annotate_snippets.specs.declared.renderer.preprocess.PreparedElement.{PreparedElement}
-use Rattle.annotate_snippets.specs.declared.renderer.Renderer.{Renderer}
-use Rattle.snippet_grid.specs.Layout.{Layout}
-use Rattle.annotate_snippets.specs.declared.renderer.element_context.ElementContext.{ElementContext}
+use Rattle.annotate_snippets.proofs.Common.{◌≡◌, Some, not, false, List, ◌++◌, sym, ap, ◌∙◌, subst, append-nil, Cell, Element, is_end, last_row}
+use Rattle.annotate_snippets.proofs.Common.{element_rows, CanStandIn, begins_in_row_above, shared_row, drawn_rows, cells_of, element_of, PreparedElement}
+use Rattle.annotate_snippets.proofs.Common.{Renderer, Layout, ElementContext}
 
 -- the rows of such an element stand below what is there
 pub plain_added : (r : Renderer) (layout : Layout) (around : ElementContext) (found : List Cell) (p : PreparedElement) (e : Element)

@@ -1,15 +1,7 @@
 -- What is prepared so far of a report's groups, and of the elements of a group.
-use Rattle.std.proofs.Common.{◌≡◌, ℕ, ◌+◌, ◌<◌, All, map, take, List, [], ◌∷◌, ◌++◌, length, get_or, sym, ap}
-use Rattle.std.proofs.Common.{◌∙◌}
-use Rattle.std.specs.List.{filter}
-use Rattle.std.proofs.lemmas.List.{map-append, take_more}
-use Rattle.std.proofs.lemmas.List.Elements.{All-push, All-same, filter_more}
-use Rattle.snippet_model.specs.declared.snippet.Element.{Element}
-use Rattle.snippet_model.specs.declared.snippet.Group.{Group}
-use Rattle.annotate_snippets.specs.Walk.{is_drawn}
-use Rattle.annotate_snippets.specs.PreparedReport.{IsElementPrepared, IsGroupPrepared, element_of}
-use Rattle.annotate_snippets.specs.declared.renderer.preprocess.PreparedElement.{PreparedElement}
-use Rattle.annotate_snippets.specs.declared.renderer.preprocess.PreparedGroup.{PreparedGroup}
+use Rattle.annotate_snippets.proofs.Common.{◌≡◌, ℕ, ◌+◌, ◌<◌, All, map, take, List, [], ◌∷◌, ◌++◌, length, get_or, sym, ap, ◌∙◌}
+use Rattle.annotate_snippets.proofs.Common.{filter, map-append, take_more, All-push, All-same, filter_more, Element, Group, is_drawn, IsElementPrepared}
+use Rattle.annotate_snippets.proofs.Common.{IsGroupPrepared, element_of, PreparedElement, PreparedGroup}
 
 -- the group that was prepared
 abbrev pub group_of : PreparedGroup → Group

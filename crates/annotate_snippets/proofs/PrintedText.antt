@@ -1,21 +1,10 @@
 -- Whatever rows there are, a text prints them.
-use Rattle.std.proofs.Common.{◌≡◌, ◌≢◌, ◌⊎◌, ℕ, List, [], ◌∷◌, ◌++◌, Option, None, Some, refl, sym, ap, ◌∙◌, inl, inr, subst, nat_eq}
-use Rattle.std.specs.List.{AllZip, flat_map}
-use Rattle.std.proofs.lemmas.Bool.{cases_Bool, false≢true}
-use Rattle.std.proofs.lemmas.Cmp.{nat_list_eq_equiv}
-use Rattle.std.specs.Cmp.Lexicographic.{same_text}
+use Rattle.annotate_snippets.proofs.Common.{◌≡◌, ◌≢◌, ◌⊎◌, ℕ, List, [], ◌∷◌, ◌++◌, Option, None, Some, refl, sym, ap, ◌∙◌}
+use Rattle.annotate_snippets.proofs.Common.{inl, inr, subst, nat_eq, AllZip, flat_map, cases_Bool, false≢true, nat_list_eq_equiv, same_text, cases_style}
+use Rattle.annotate_snippets.proofs.Common.{Cell, style_of, LevelInner, Style, Stylesheet, Char, LinkEnd, LinkTo, Piece, Prints, PrintsCells, Reset, next_link}
+use Rattle.annotate_snippets.proofs.Common.{piece_text, PrintsFurther, PrintsRows, Prints-from_pieces, Url, none≢some, some_same, group_rows}
 use lib.Pointwise.{pointwise}
-use Rattle.snippet_style.proofs.StyleLemmas.{cases_style}
-use Rattle.snippet_style.specs.Cell.{Cell}
-use Rattle.snippet_style.specs.Stylesheet.{style_of}
-use Rattle.snippet_style.specs.declared.role.LevelInner.{LevelInner}
-use Rattle.snippet_style.specs.declared.style.Style.{Style}
-use Rattle.snippet_style.specs.declared.stylesheet.Stylesheet.{Stylesheet}
-use Rattle.snippet_grid.specs.Woven.{Char, LinkEnd, LinkTo, Opening, Piece, Prints, PrintsCells, Reset, next_link, piece_text}
-use Rattle.snippet_grid.specs.Weaving.{PrintsFurther, PrintsRows}
-use Rattle.snippet_grid.proofs.PrintsPieces.{Prints-from_pieces}
-use Rattle.snippet_grid.proofs.WeaveLemmas.{Url, none≢some, some_same}
-use Rattle.annotate_snippets.specs.Page.{group_rows}
+use Rattle.snippet_grid.specs.Woven.{Opening}
 use Rattle.annotate_snippets.proofs.PageWords.{Page, PrintsPart}
 
 -- two links are the same or not

@@ -1,45 +1,15 @@
 -- A group that is printed while it is drawn.
-use Rattle.std.proofs.Common.{◌≡◌, ℕ, ◌+◌, ◌<◌, Bool, true, false, not, All, List, [], ◌∷◌, ◌++◌, Option, Some, length, map, refl, sym, ap, ◌∙◌}
-use Rattle.std.proofs.Common.{subst, arith, cond, encode_utf8, get_or, string_bytes, take}
-use Rattle.std.specs.List.{enumerate_from, flat_map, slice_get, slice_index_or}
-use Rattle.std.proofs.lemmas.Bool.{false≢true}
-use Rattle.std.proofs.lemmas.Grind.{flat_map-append}
-use Rattle.std.proofs.lemmas.Str.{IsUtf8-from_ascii}
-use Rattle.std.proofs.lemmas.Str.Ascii.{IsAscii-from_all}
-use Rattle.std.proofs.lemmas.List.{append_assoc, append-nil, length-append}
-use Rattle.snippet_grid.proofs.WeaveLemmas.{further-append}
-use Rattle.snippet_grid.specs.Layout.{Layout}
-use Rattle.snippet_grid.specs.Woven.{Char, Piece, piece_text}
-use Rattle.snippet_grid.specs.Weaving.{PrintsFurther, WeavesRows}
-use Rattle.snippet_model.specs.Heading.{Heading, heading_of_message}
-use Rattle.snippet_model.specs.declared.snippet.Element.{Element}
-use Rattle.snippet_model.specs.declared.snippet.Element.TheVariants.{Message}
-use Rattle.snippet_model.specs.declared.snippet.Group.{Group}
+use Rattle.annotate_snippets.proofs.Common.{◌≡◌, ℕ, ◌+◌, ◌<◌, Bool, true, false, not, All, List, [], ◌∷◌, ◌++◌, Option, Some, length}
+use Rattle.annotate_snippets.proofs.Common.{map, refl, sym, ap, ◌∙◌, subst, arith, cond, encode_utf8, get_or, string_bytes, take, enumerate_from}
+use Rattle.annotate_snippets.proofs.Common.{flat_map, slice_get, slice_index_or, false≢true, flat_map-append, IsUtf8-from_ascii, IsAscii-from_all}
+use Rattle.annotate_snippets.proofs.Common.{append_assoc, append-nil, length-append, further-append, Layout, Char, Piece, piece_text, PrintsFurther, WeavesRows}
+use Rattle.annotate_snippets.proofs.Common.{Heading, heading_of_message, Element, Message, Group, Title, Cell, LevelInner, Stylesheet, one_row, heading_rows}
+use Rattle.annotate_snippets.proofs.Common.{IsPlainHeading, title_rows, TitleStyle, context_at, drawn_elements, is_end, next_of, last_row, element_rows}
+use Rattle.annotate_snippets.proofs.Common.{group_page, CanStandIn, begins_in_row_above, shared_row, drawn_rows, rows_of_elements, cells_of, group_rows}
+use Rattle.annotate_snippets.proofs.Common.{AreAround, element_of, IsPrinting, Renderer, ElementContext, GroupPosition, Next, Printing, rows_after_title}
+use Rattle.annotate_snippets.proofs.Common.{title_part, PreparedElement}
 use Rattle.snippet_model.specs.declared.snippet.Message as message
-use Rattle.snippet_model.specs.declared.snippet.Title.{Title}
-use Rattle.snippet_style.specs.Cell.{Cell}
-use Rattle.snippet_style.specs.declared.role.LevelInner.{LevelInner}
-use Rattle.snippet_style.specs.declared.stylesheet.Stylesheet.{Stylesheet}
-use Rattle.snippet_titles.proofs.PrintedLemmas.{one_row}
-use Rattle.snippet_titles.specs.HeadingRows.{heading_rows}
-use Rattle.snippet_titles.specs.PrintedHeading.{IsPlainHeading, title_rows}
-use Rattle.snippet_titles.specs.declared.style.TitleStyle.{TitleStyle}
-use Rattle.annotate_snippets.specs.ElementContext.{context_at, drawn_elements, is_end, next_of}
-use Rattle.annotate_snippets.specs.DrawnReport.{last_row}
 use Rattle.annotate_snippets.proofs.PageWords.{found_at, message_rows, message_style}
-use Rattle.annotate_snippets.specs.GraphicForm.{element_rows, group_page}
-use Rattle.annotate_snippets.specs.ElementRoom.{CanStandIn, begins_in_row_above, shared_row, drawn_rows}
-use Rattle.annotate_snippets.specs.Printing.{rows_of_elements}
-use Rattle.annotate_snippets.specs.Page.{cells_of, group_rows}
-use Rattle.annotate_snippets.specs.PreparedReport.{AreAround, element_of}
-use Rattle.annotate_snippets.specs.Printing.{IsPrinting}
-use Rattle.annotate_snippets.specs.declared.renderer.Renderer.{Renderer}
-use Rattle.annotate_snippets.specs.declared.renderer.element_context.ElementContext.{ElementContext}
-use Rattle.annotate_snippets.specs.declared.renderer.element_context.GroupPosition.{GroupPosition}
-use Rattle.annotate_snippets.specs.declared.renderer.element_context.Next.{Next}
-use Rattle.annotate_snippets.specs.declared.renderer.printing.Printing.{Printing}
-use Rattle.annotate_snippets.specs.RowsWithoutSource.{rows_after_title, title_part}
-use Rattle.annotate_snippets.specs.declared.renderer.preprocess.PreparedElement.{PreparedElement}
 use Rattle.annotate_snippets.proofs.AroundLaws.{begins_is, shares_after, shares_before}
 use Rattle.annotate_snippets.proofs.ElementRows.{DrawnSoFar, drawn_none, get-mapped, turn_around, turn_drawn, turn_item, turn_stands, turns_all}
 use Rattle.annotate_snippets.proofs.NamedRows.{cells_of-others}

@@ -1,34 +1,15 @@
 -- What a report that is made of another, title by title and element by element, has in common with it: its faults, its links, and the listed
 -- characters of its trusted texts.
-use Rattle.std.proofs.Common.{◌≡◌, ◌∙◌, ℕ, Bool, true, List, [], ◌∷◌, ◌++◌, Option, None, Some, All, IfSome, if◌then◌else◌, is_none, ◌⊎◌, inl, inr}
-use Rattle.std.proofs.Common.{refl, sym, ap, ap₂, subst, chars}
-use Rattle.std.proofs.lemmas.Bool.{false≢true}
-use Rattle.std.proofs.lemmas.List.Elements.{All-contains, All-contains_itself, All-weaker, Contains-append_cases, Contains-append_left, Contains-append_right}
-use Rattle.std.specs.List.{AllZip, Contains, flat_map, slice_get}
-use Rattle.std.specs.Option.{option_or, option_to_list}
-use Rattle.snippet_model.specs.Fits.{ElementFits, ReportFits, TitleFits}
-use Rattle.snippet_model.specs.Same.{SameOption}
-use Rattle.snippet_model.specs.Trusted.{trusted_of_element, trusted_of_title, trusted_texts}
-use Rattle.snippet_model.specs.declared.snippet.Element.{Element}
-use Rattle.snippet_model.specs.declared.snippet.Group.{Group}
-use Rattle.snippet_model.specs.declared.snippet.Title.{Title}
-use Rattle.snippet_shown.specs.Remade.{IsGroupMade, IsGroupTaken}
-use Rattle.snippet_text.specs.Normalized.{is_listed}
-use Rattle.snippet_titles.specs.Title.{id_links}
-use Rattle.annotate_snippets.specs.ElementContext.{drawn_elements}
-use Rattle.annotate_snippets.specs.Walk.{is_drawn}
-use Rattle.annotate_snippets.specs.Fault.{element_faults, first_fault, first_of, group_faults, missing_title, refusal_in}
-use Rattle.annotate_snippets.specs.Forms.{links_in}
-use Rattle.annotate_snippets.specs.Laws.Feeds.{HasOneLineTexts}
-use Rattle.annotate_snippets.specs.Laws.Free.{IsFreeBut}
-use Rattle.annotate_snippets.specs.ShownPage.{report_links}
-use Rattle.annotate_snippets.specs.declared.renderer.Renderer.{Renderer}
-use Rattle.annotate_snippets.specs.declared.renderer.error.RenderError.TheVariants.{NoTitle}
-use Rattle.annotate_snippets.specs.declared.renderer.form.Form.{Form}
-use Rattle.annotate_snippets.specs.declared.renderer.form.Form.TheVariants.{Graphic, Short, Text}
+use Rattle.annotate_snippets.proofs.Common.{◌≡◌, ◌∙◌, ℕ, Bool, true, List, [], ◌∷◌, ◌++◌, Option, None, Some, All, IfSome}
+use Rattle.annotate_snippets.proofs.Common.{if◌then◌else◌, is_none, ◌⊎◌, inl, inr, refl, sym, ap, ap₂, subst, false≢true, All-contains}
+use Rattle.annotate_snippets.proofs.Common.{All-contains_itself, All-weaker, Contains-append_cases, Contains-append_left, Contains-append_right, AllZip}
+use Rattle.annotate_snippets.proofs.Common.{Contains, flat_map, slice_get, option_or, option_to_list, ElementFits, ReportFits, TitleFits, SameOption}
+use Rattle.annotate_snippets.proofs.Common.{trusted_of_element, trusted_of_title, trusted_texts, Element, Group, Title, IsGroupMade, IsGroupTaken, is_listed}
+use Rattle.annotate_snippets.proofs.Common.{id_links, drawn_elements, is_drawn, element_faults, first_fault, first_of, group_faults, missing_title, refusal_in}
+use Rattle.annotate_snippets.proofs.Common.{links_in, HasOneLineTexts, IsFreeBut, report_links, Renderer, NoTitle, Form, Graphic, Short, Text, zip_append}
+use Rattle.std.proofs.Common.{chars}
 use Rattle.annotate_snippets.proofs.OneLineTexts.{IsOneLineElement, IsOneLineTitle, one_line_groups, one_line_texts}
 use Rattle.annotate_snippets.proofs.PairedLemmas.{Paired, all-over, chosen, faults-same, first-pair, flat-same, flat-zip, option-same, option-zip, paired}
-use Rattle.snippet_suggest.proofs.BodyLaws.{zip_append}
 
 -- ---- texts
 

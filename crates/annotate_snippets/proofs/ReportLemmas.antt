@@ -1,34 +1,13 @@
 -- The page that the graphic form has for a report has its laws.
-use Rattle.std.proofs.Common.{◌≡◌, ℕ, zero, suc, ◌+◌, ◌<◌, get_or, arith, true, List, [], ◌∷◌, ◌++◌, All, Option, Some, None, Result, Ok, Err, map}
-use Rattle.std.proofs.Common.{length}
-use Rattle.std.proofs.Common.{chars, refl, sym, ap, subst, ◌∙◌, encode_utf8_all}
-use Rattle.std.specs.List.{Contains, enumerate_from, flat_map, slice_get}
-use Rattle.std.specs.Option.{option_or}
-use Rattle.std.specs.Result.{IfOk, MatchResult, IsErrAnd}
-use Rattle.std.proofs.Math.Nat.{zero-add}
-use Rattle.std.proofs.lemmas.List.Elements.{All-nil, All-cons, All-append, All-get_or, All-head, All-tail}
-use Rattle.std.proofs.lemmas.Option.{get_or_from_slice_get, slice_get_within}
-use Rattle.snippet_grid.specs.Print.{plain_text}
-use Rattle.snippet_style.specs.Stylesheet.{is_plain_sheet}
-use Rattle.snippet_grid.specs.Woven.{IsWoven}
-use Rattle.snippet_style.specs.declared.stylesheet.Stylesheet.{Stylesheet}
-use Rattle.snippet_grid.proofs.WeaveLemmas.{some_same}
-use Rattle.snippet_grid.proofs.WovenLemmas.{plain_woven}
-use Rattle.snippet_text.specs.Normalized.{is_listed}
-use Rattle.snippet_model.specs.Trusted.{trusted_texts}
-use Rattle.snippet_model.specs.declared.snippet.Group.{Group}
-use Rattle.annotate_snippets.specs.declared.renderer.Renderer.{Renderer}
-use Rattle.annotate_snippets.specs.ElementContext.{drawn_elements, file_of_group, next_of, position_of_group}
-use Rattle.annotate_snippets.specs.Fault.{IsWithinBounds, first_fault, form_of, missing_title}
-use Rattle.annotate_snippets.specs.GraphicForm.{graphic_form}
+use Rattle.annotate_snippets.proofs.Common.{◌≡◌, ℕ, zero, suc, ◌+◌, ◌<◌, get_or, arith, true, List, [], ◌∷◌, ◌++◌, All, Option, Some}
+use Rattle.annotate_snippets.proofs.Common.{None, Result, Ok, Err, map, length, refl, sym, ap, subst, ◌∙◌, encode_utf8_all, Contains, enumerate_from}
+use Rattle.annotate_snippets.proofs.Common.{flat_map, slice_get, option_or, IfOk, MatchResult, IsErrAnd, zero-add, All-nil, All-cons, All-append, All-get_or}
+use Rattle.annotate_snippets.proofs.Common.{All-head, All-tail, get_or_from_slice_get, slice_get_within, plain_text, is_plain_sheet, IsWoven, Stylesheet}
+use Rattle.annotate_snippets.proofs.Common.{some_same, plain_woven, is_listed, trusted_texts, Group, Renderer, drawn_elements, file_of_group, next_of}
+use Rattle.annotate_snippets.proofs.Common.{position_of_group, IsWithinBounds, first_fault, form_of, missing_title, graphic_form, layout_of_group, GroupPage}
+use Rattle.annotate_snippets.proofs.Common.{PrintsPage, group_rows, page_text, PageLaws, IsGroupDrawable, AreGroupsShown, ShowsGroup, IsFreeBut, RenderError}
+use Rattle.std.proofs.Common.{chars}
 use Rattle.annotate_snippets.proofs.PageWords.{Page, page_at}
-use Rattle.annotate_snippets.specs.Gutter.{layout_of_group}
-use Rattle.annotate_snippets.specs.Page.{GroupPage, PrintsPage, group_rows, page_text}
-use Rattle.annotate_snippets.specs.Laws.Page.{PageLaws}
-use Rattle.annotate_snippets.specs.PreparedReport.{IsGroupDrawable}
-use Rattle.annotate_snippets.specs.Laws.Groups.{AreGroupsShown, ShowsGroup}
-use Rattle.annotate_snippets.specs.Laws.Free.{IsFreeBut}
-use Rattle.annotate_snippets.specs.declared.renderer.error.RenderError.{RenderError}
 use Rattle.annotate_snippets.proofs.OneLineTexts.{HasOneLineRows, IsOneLineGroup, one_line_groups}
 use Rattle.annotate_snippets.proofs.AreTexts.{AreTexts, IsTextGroup}
 use Rattle.annotate_snippets.proofs.FaultLemmas.{groups-drawable}

@@ -1,20 +1,9 @@
 -- The trusted texts of a report, and what its titles link to.
-use Rattle.std.proofs.Common.{◌≡◌, ℕ, Bool, true, false, Option, None, Some, List, [], ◌∷◌, ◌++◌, chars, refl, sym, ap, subst, ◌∙◌}
-use Rattle.std.specs.List.{Contains, flat_map}
-use Rattle.std.specs.Option.{option_to_list}
-use Rattle.std.specs.Cow.{cow_str_bytes}
-use Rattle.std.proofs.lemmas.List.{append-nil}
-use Rattle.std.proofs.lemmas.List.Elements.{All-weaker, Contains-append_left, Contains-append_right}
-use Rattle.std.proofs.lemmas.Grind.{flat_map-append}
-use Rattle.snippet_text.specs.Normalized.{is_listed, norm}
-use Rattle.snippet_model.specs.Trusted.{trusted_of_element, trusted_of_title, trusted_texts}
-use Rattle.snippet_model.specs.declared.snippet.Group.{Group}
-use Rattle.snippet_model.specs.declared.snippet.Id.{Id}
-use Rattle.snippet_model.specs.declared.snippet.Title.{Title}
-use Rattle.snippet_titles.specs.Title.{id_links, text_links}
-use Rattle.annotate_snippets.specs.Laws.Free.{IsFreeBut}
-use Rattle.annotate_snippets.specs.ShownPage.{report_links}
-use Rattle.annotate_snippets.specs.declared.renderer.Renderer.{Renderer}
+use Rattle.annotate_snippets.proofs.Common.{◌≡◌, ℕ, Bool, true, false, Option, None, Some, List, [], ◌∷◌, ◌++◌, refl, sym, ap, subst}
+use Rattle.annotate_snippets.proofs.Common.{◌∙◌, Contains, flat_map, option_to_list, cow_str_bytes, append-nil, All-weaker, Contains-append_left}
+use Rattle.annotate_snippets.proofs.Common.{Contains-append_right, flat_map-append, is_listed, norm, trusted_of_element, trusted_of_title, trusted_texts, Group}
+use Rattle.annotate_snippets.proofs.Common.{Id, Title, id_links, text_links, IsFreeBut, report_links, Renderer}
+use Rattle.std.proofs.Common.{chars}
 
 -- the trusted texts of a group
 abbrev pub trusted_of : Group → List (List ℕ)

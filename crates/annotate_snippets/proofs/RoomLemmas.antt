@@ -1,37 +1,15 @@
 -- The layouts of a report have room for each element that is drawn in them.
-use Rattle.std.proofs.Common.{◌≡◌, ℕ, zero, suc, ◌+◌, ◌<◌, ◌≤◌, ◌^◌, ◌&&◌, ◌==◌, not, fold, All, Bool, true, false, cond, List, [], ◌∷◌, Some, length, refl}
-use Rattle.std.proofs.Common.{sym, ap, subst, arith}
-use Rattle.std.specs.Cow.{cow_str_bytes}
-use Rattle.std.specs.Fmt.{decimal}
-use Rattle.std.specs.List.{flat_map, slice_get}
-use Rattle.std.proofs.lemmas.Bool.{cond_both}
-use Rattle.std.proofs.lemmas.Bool.Decides.{nat_tests}
-use Rattle.std.proofs.lemmas.Fmt.{length-decimal-le}
-use Rattle.std.proofs.lemmas.List.Elements.{All-append, All-cons, All-filter, All-head, All-nil, All-tail, All-weaker}
-use Rattle.std.proofs.lemmas.List.Sums.{fold-append}
-use Rattle.snippet_model.specs.declared.snippet.Element.{Element}
-use Rattle.snippet_model.specs.declared.snippet.Element.TheVariants.{Message, Cause, Suggestion, Origin, Padding}
-use Rattle.snippet_model.specs.declared.snippet.Group.{Group}
-use Rattle.snippet_model.specs.declared.snippet.Patch.{Patch}
-use Rattle.snippet_model.specs.declared.snippet.Snippet.{Snippet}
-use Rattle.snippet_lines.specs.Lines.{newline_count, source_lines}
-use Rattle.snippet_lines.specs.Place.{line_of}
-use Rattle.snippet_lines.proofs.PlaceLemmas.{line_of-within}
-use Rattle.snippet_parts.specs.Counted.{counted_number}
-use Rattle.snippet_suggest.specs.Given.{counted_line, first_end, first_given, given_text, shown_kind, trimmed_of}
-use Rattle.snippet_suggest.proofs.ByKind.{counted_folded}
-use Rattle.snippet_suggest.specs.PreparedSuggestion.{IsSuggestible}
-use Rattle.snippet_suggest.proofs.PreparedLemmas.{last-fits}
-use Rattle.annotate_snippets.specs.ElementContext.{drawn_elements}
-use Rattle.annotate_snippets.specs.ElementRoom.{HasRoomFor, code_after}
-use Rattle.annotate_snippets.specs.Walk.{is_drawn}
-use Rattle.annotate_snippets.specs.Gutter.{depth_of_element, layout_of_group, gutter_of_report, width_wanted}
+use Rattle.annotate_snippets.proofs.Common.{◌≡◌, ℕ, zero, suc, ◌+◌, ◌<◌, ◌≤◌, ◌^◌, ◌&&◌, ◌==◌, not, fold, All, Bool, true}
+use Rattle.annotate_snippets.proofs.Common.{false, cond, List, [], ◌∷◌, Some, length, refl, sym, ap, subst, arith, cow_str_bytes, decimal, flat_map}
+use Rattle.annotate_snippets.proofs.Common.{slice_get, cond_both, nat_tests, length-decimal-le, All-append, All-cons, All-filter, All-head, All-nil, All-tail}
+use Rattle.annotate_snippets.proofs.Common.{All-weaker, fold-append, Element, Message, Cause, Suggestion, Origin, Padding, Group, Patch, Snippet, newline_count}
+use Rattle.annotate_snippets.proofs.Common.{source_lines, line_of, line_of-within, counted_number, counted_line, first_end, first_given, given_text, shown_kind}
+use Rattle.annotate_snippets.proofs.Common.{trimmed_of, counted_folded, IsSuggestible, last-fits, drawn_elements, HasRoomFor, code_after, is_drawn}
+use Rattle.annotate_snippets.proofs.Common.{depth_of_element, layout_of_group, gutter_of_report, width_wanted, IsElementDrawable, IsGroupDrawable, Renderer}
+use Rattle.annotate_snippets.proofs.Common.{folded_small}
 use Rattle.annotate_snippets.proofs.PageWords.{depth_of_group}
-use Rattle.annotate_snippets.specs.PreparedReport.{IsElementDrawable, IsGroupDrawable}
-use Rattle.annotate_snippets.specs.declared.renderer.Renderer.{Renderer}
 use Rattle.annotate_snippets.proofs.GutterLemmas.{counted-small}
 use Rattle.annotate_snippets.proofs.WidestLemmas.{greater}
-use Rattle.snippet_suggest.proofs.GutterFits.{folded_small}
 
 -- ---- the greatest of what some elements want
 

@@ -1,22 +1,8 @@
 -- The pages of a report under several sheets, a group at a time.
-use Rattle.std.proofs.Common.{◌≡◌, ℕ, zero, suc, ◌+◌, ◌≤◌, ◌<◌, ◌==◌, Bool, true, List, [], ◌∷◌, ◌++◌, arith, drop, get_or, length, map, set, sym, subst}
-use Rattle.std.proofs.Common.{◌∙◌, string_bytes, take}
-use Rattle.std.specs.List.{AllZip}
-use Rattle.snippet_model.specs.declared.snippet.Group.{Group}
-use Rattle.snippet_model.proofs.ZipLemmas.{AllZip-weaker}
-use Rattle.snippet_style.specs.Cell.{Cell}
-use Rattle.snippet_style.specs.declared.role.LevelInner.{LevelInner}
-use Rattle.snippet_style.specs.declared.stylesheet.Stylesheet.{Stylesheet}
-use Rattle.annotate_snippets.specs.GraphicForm.{graphic_form}
-use Rattle.annotate_snippets.specs.WithLaws.{IsTextUnder}
-use Rattle.annotate_snippets.specs.Laws.Page.{PageLaws}
-use Rattle.annotate_snippets.specs.Page.{GroupPage, PrintsPage, group_rows}
-use Rattle.annotate_snippets.specs.PageSink.{Takes}
-use Rattle.annotate_snippets.specs.Written.{AddsGroup, AddsToPage, IsEmptyPage}
-use Rattle.annotate_snippets.specs.declared.renderer.Renderer.{Renderer}
-use Rattle.annotate_snippets.specs.declared.renderer.form.Form.TheVariants.{Graphic}
-use Rattle.annotate_snippets.specs.declared.renderer.page.SheetPage.{SheetPage}
-use Rattle.annotate_snippets.specs.declared.renderer.pages.SheetPages.{SheetPages}
+use Rattle.annotate_snippets.proofs.Common.{◌≡◌, ℕ, zero, suc, ◌+◌, ◌≤◌, ◌<◌, ◌==◌, Bool, true, List, [], ◌∷◌, ◌++◌, arith}
+use Rattle.annotate_snippets.proofs.Common.{drop, get_or, length, map, set, sym, subst, ◌∙◌, string_bytes, take, AllZip, Group, AllZip-weaker, Cell}
+use Rattle.annotate_snippets.proofs.Common.{LevelInner, Stylesheet, graphic_form, IsTextUnder, PageLaws, GroupPage, PrintsPage, group_rows, Takes, AddsGroup}
+use Rattle.annotate_snippets.proofs.Common.{AddsToPage, IsEmptyPage, Renderer, Graphic, SheetPage, SheetPages}
 use Rattle.annotate_snippets.proofs.SinkLemmas.{holds_after}
 use Rattle.annotate_snippets.proofs.WriteLemmas.{group_more, page_text_is}
 

@@ -1,39 +1,15 @@
 -- The parts of the short form: a group's first annotated snippet, the place before the title, and the labels after it.
-use Rattle.std.proofs.Common.{◌≡◌, ◌≢◌, ℕ, ◌+◌, ◌*◌, ◌<◌, ◌≤◌, ◌^◌, ◌==◌, ◌∙◌, Bool, true, false, not, Option, None, Some, Result, Ok, Err, IfSome, List, []}
-use Rattle.std.proofs.Common.{◌∷◌, ◌++◌, All, chars, cond, filter, get_or, if◌then◌else◌, length, take, suc, arith, ap, refl, sym}
-use Rattle.std.specs.Char.{is_whitespace}
-use Rattle.std.specs.Cow.{cow_str_bytes}
-use Rattle.std.specs.List.{filter_map, flat_map, list_all}
-use Rattle.std.specs.Result.{OnOk, is_ok}
-use Rattle.std.specs.Str.{IsAscii, IsUtf8}
-use Rattle.std.specs.declared.alloc.Global.{Global}
-use Rattle.std.specs.declared.borrow.CowStr.{CowStr}
-use Rattle.std.proofs.lemmas.Bool.Decides.{nat_tests}
-use Rattle.std.proofs.lemmas.Grind.{flat_map-append}
-use Rattle.std.proofs.lemmas.List.{append-nil, append_assoc, length-append, take_more}
-use Rattle.std.proofs.lemmas.List.Elements.{All-head, All-tail, filter-append, filter_map-append}
-use Rattle.std.proofs.lemmas.Str.{IsUtf8-append, IsUtf8-from_ascii, chars-append, chars-IsAscii}
-use Rattle.std.proofs.lemmas.Str.Ascii.{IsAscii-cons, IsAscii-nil}
-use Rattle.snippet_model.specs.Fits.{AnnotationFits, ElementFits, SnippetFits}
-use Rattle.snippet_model.specs.declared.snippet.Annotation.{Annotation}
-use Rattle.snippet_model.specs.declared.snippet.AnnotationKind.TheVariants.{Primary}
-use Rattle.snippet_model.specs.declared.snippet.Element.{Element}
-use Rattle.snippet_model.specs.declared.snippet.Element.TheVariants.{Message, Cause, Suggestion, Origin, Padding}
-use Rattle.snippet_model.specs.declared.snippet.Group.{Group}
-use Rattle.snippet_model.specs.declared.snippet.Snippet.{Snippet}
-use Rattle.snippet_parts.specs.Annotated.{annotated_lines}
-use Rattle.snippet_labels.proofs.CharLemmas.{is_empty-chars}
-use Rattle.snippet_style.proofs.CellLemmas.{length-chars_le}
-use Rattle.snippet_text.specs.Normalized.{norm}
-use Rattle.snippet_text.proofs.NormLemmas.{length-norm}
-use Rattle.snippet_titles.specs.Origin.{column_text, line_name, line_text, origin_text}
-use Rattle.snippet_titles.specs.declared.origin.OriginLocation.{OriginLocation}
-use Rattle.annotate_snippets.specs.ElementContext.{path_bytes}
-use Rattle.annotate_snippets.specs.Gutter.{numbered_source}
-use Rattle.annotate_snippets.specs.PreparedReport.{IsDrawable, IsElementDrawable, IsGroupDrawable}
-use Rattle.annotate_snippets.specs.ShortForm.{first_cause, joined_labels, place_named, place_of_cause, place_of_path, primary_labels, short_label}
-use Rattle.snippet_model.specs.AnnotationKind.{is_primary}
-use Rattle.annotate_snippets.specs.declared.renderer.Renderer.{Renderer}
+use Rattle.annotate_snippets.proofs.Common.{◌≡◌, ◌≢◌, ℕ, ◌+◌, ◌*◌, ◌<◌, ◌≤◌, ◌^◌, ◌==◌, ◌∙◌, Bool, true, false}
+use Rattle.annotate_snippets.proofs.Common.{not, Option, None, Some, Result, Ok, Err, IfSome, List, [], ◌∷◌, ◌++◌, All, cond, get_or}
+use Rattle.annotate_snippets.proofs.Common.{if◌then◌else◌, length, take, suc, arith, ap, refl, sym, is_whitespace, cow_str_bytes, filter_map, flat_map}
+use Rattle.annotate_snippets.proofs.Common.{list_all, OnOk, is_ok, IsAscii, IsUtf8, Global, CowStr, nat_tests, flat_map-append, append-nil, append_assoc}
+use Rattle.annotate_snippets.proofs.Common.{length-append, take_more, All-head, All-tail, filter-append, filter_map-append, IsUtf8-append, IsUtf8-from_ascii}
+use Rattle.annotate_snippets.proofs.Common.{chars-append, chars-IsAscii, IsAscii-cons, IsAscii-nil, AnnotationFits, ElementFits, SnippetFits, Annotation}
+use Rattle.annotate_snippets.proofs.Common.{Primary, Element, Message, Cause, Suggestion, Origin, Padding, Group, Snippet, annotated_lines, is_empty-chars}
+use Rattle.annotate_snippets.proofs.Common.{length-chars_le, norm, length-norm, column_text, line_name, line_text, origin_text, OriginLocation, path_bytes}
+use Rattle.annotate_snippets.proofs.Common.{numbered_source, IsDrawable, IsElementDrawable, IsGroupDrawable, first_cause, joined_labels, place_named}
+use Rattle.annotate_snippets.proofs.Common.{place_of_cause, place_of_path, primary_labels, short_label, is_primary, Renderer}
+use Rattle.std.proofs.Common.{chars, filter}
 use Rattle.annotate_snippets.proofs.RoomLemmas.{digits}
 
 -- ---- labels

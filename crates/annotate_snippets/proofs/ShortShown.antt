@@ -1,67 +1,26 @@
 -- The texts that print a report's short form show it.
-use Rattle.std.proofs.Common.{◌≡◌, ◌∙◌, ℕ, ◌<◌, ◌==◌, Bool, true, false, None, Option, Some, IfSome, List, [], ◌∷◌, ◌++◌, All, arith, chars, codes}
-use Rattle.std.proofs.Common.{filter, length, not, refl, sym, ap, subst}
-use Rattle.std.specs.Char.{is_whitespace}
-use Rattle.std.specs.Cow.{cow_str_bytes}
-use Rattle.std.specs.List.{AllZip, Contains, cons_option, filter_map, flat_map, list_all, list_any, slice_get, slice_index_or}
-use Rattle.std.specs.Option.{option_map}
-use Rattle.std.specs.declared.alloc.Global.{Global}
-use Rattle.std.specs.declared.borrow.CowStr.{CowStr}
-use Rattle.std.proofs.lemmas.List.{append-nil, append_assoc}
-use Rattle.std.proofs.lemmas.List.Elements.{All-append, All-cons, All-filter, All-get_or, All-head, All-nil, All-tail, All-weaker, Contains-append_left}
-use Rattle.std.proofs.lemmas.List.Splits.{length-slice_split}
-use Rattle.std.proofs.lemmas.Option.{get_or_from_slice_get, slice_get_within}
-use Rattle.snippet_model.specs.Heading.{Heading, heading_of_title}
-use Rattle.snippet_model.specs.Trusted.{trusted_of_element, trusted_texts}
-use Rattle.snippet_model.specs.declared.snippet.Annotation.{Annotation}
-use Rattle.snippet_model.specs.declared.snippet.Group.{Group}
-use Rattle.snippet_model.specs.declared.snippet.Snippet.{Snippet}
-use Rattle.snippet_model.specs.declared.snippet.Title.{Title}
-use Rattle.snippet_parts.specs.Annotated.{KeptLine, annotated_lines, is_long}
-use Rattle.snippet_parts.specs.Mark.{is_marking}
-use Rattle.snippet_parts.specs.Location.{IsLocation, primary_place}
-use Rattle.snippet_parts.proofs.LocationLaws.{primary_place-location}
-use Rattle.snippet_grid.specs.Grid.{row_at}
-use Rattle.snippet_style.specs.Cell.{Cell}
-use Rattle.snippet_grid.specs.Print.{plain_text, row_text}
-use Rattle.snippet_grid.specs.Woven.{IsWoven, Prints, links_of}
-use Rattle.snippet_grid.proofs.WeaveLemmas.{some_same}
-use Rattle.snippet_style.specs.declared.role.LevelInner.{LevelInner}
-use Rattle.snippet_style.specs.declared.stylesheet.Stylesheet.{Stylesheet}
-use Rattle.snippet_grid.proofs.WovenLemmas.{IsWoven-from_prints, plain_woven}
-use Rattle.snippet_text.specs.Normalized.{is_listed, norm}
-use Rattle.snippet_titles.proofs.ShortLaws.{short-free, links_of-short_rows, row_text-short_rows}
-use Rattle.snippet_titles.specs.HeadingRows.{shown_text, heading_lines, indent_cells, heading_label_text, label_width}
-use Rattle.snippet_titles.specs.Origin.{line_text, origin_text}
-use Rattle.snippet_titles.specs.ShortRows.{with_end}
-use Rattle.snippet_titles.specs.ShownHeading.{IsFreeButText, texts_below}
-use Rattle.snippet_titles.specs.Title.{id_links}
+use Rattle.annotate_snippets.proofs.Common.{◌≡◌, ◌∙◌, ℕ, ◌<◌, ◌==◌, Bool, true, false, None, Option, Some, IfSome, List, [], ◌∷◌}
+use Rattle.annotate_snippets.proofs.Common.{◌++◌, All, arith, codes, length, not, refl, sym, ap, subst, is_whitespace, cow_str_bytes, AllZip, Contains}
+use Rattle.annotate_snippets.proofs.Common.{cons_option, filter_map, flat_map, list_all, list_any, slice_get, slice_index_or, option_map, Global, CowStr}
+use Rattle.annotate_snippets.proofs.Common.{append-nil, append_assoc, All-append, All-cons, All-filter, All-get_or, All-head, All-nil, All-tail, All-weaker}
+use Rattle.annotate_snippets.proofs.Common.{Contains-append_left, length-slice_split, get_or_from_slice_get, slice_get_within, Heading, heading_of_title}
+use Rattle.annotate_snippets.proofs.Common.{trusted_of_element, trusted_texts, Annotation, Group, Snippet, Title, KeptLine, annotated_lines, is_long}
+use Rattle.annotate_snippets.proofs.Common.{is_marking, IsLocation, primary_place, primary_place-location, row_at, Cell, plain_text, row_text, IsWoven, Prints}
+use Rattle.annotate_snippets.proofs.Common.{links_of, some_same, LevelInner, Stylesheet, IsWoven-from_prints, plain_woven, is_listed, norm, short-free}
+use Rattle.annotate_snippets.proofs.Common.{links_of-short_rows, row_text-short_rows, heading_lines, indent_cells, heading_label_text, label_width, line_text}
+use Rattle.annotate_snippets.proofs.Common.{origin_text, with_end, IsFreeButText, texts_below, id_links, OriginLocation, place-each, digit_unlisted, path_bytes}
+use Rattle.annotate_snippets.proofs.Common.{BeginsWithPlace, LawsIn, ShortLaws, ShowsShort, IsTextUnder, IsShortForm, ShortShown, short_links, numbered_source}
+use Rattle.annotate_snippets.proofs.Common.{IsDrawable, IsGroupDrawable, place_found, place_named, before_title, after_title, first_cause, joined_labels}
+use Rattle.annotate_snippets.proofs.Common.{short_label, labels_of_cause, place_of_cause, place_of_path, primary_labels, short_form, short_page, titled_rows}
+use Rattle.annotate_snippets.proofs.Common.{is_primary, Renderer, Short, ShortForm, AllZip-weaker, IsUnlisted, norm-free}
+use Rattle.std.proofs.Common.{chars}
+use Rattle.std.proofs.Common.{filter}
+use Rattle.snippet_titles.specs.HeadingRows.{shown_text}
 use Rattle.snippet_titles.specs.declared.style.TitleStyle.TheVariants as style
-use Rattle.snippet_titles.specs.declared.origin.OriginLocation.{OriginLocation}
-use Rattle.snippet_titles.proofs.OriginText.{place-each}
-use Rattle.snippet_titles.proofs.OriginFree.{digit_unlisted}
-use Rattle.annotate_snippets.specs.ElementContext.{path_bytes}
-use Rattle.annotate_snippets.specs.Laws.Forms.{BeginsWithPlace, LawsIn, ShortLaws, ShowsShort}
-use Rattle.annotate_snippets.specs.WithLaws.{IsTextUnder}
-use Rattle.annotate_snippets.specs.Walk.{IsShortForm}
-use Rattle.annotate_snippets.specs.Forms.{ShortShown, short_links}
-use Rattle.annotate_snippets.specs.Gutter.{numbered_source}
-use Rattle.annotate_snippets.specs.PreparedReport.{IsDrawable, IsGroupDrawable}
-use Rattle.annotate_snippets.specs.RowsWithoutSource.{place_found}
-use Rattle.annotate_snippets.specs.ShortForm.{place_named}
-use Rattle.annotate_snippets.specs.ShortForm.{before_title, after_title, first_cause, joined_labels, short_label, labels_of_cause, place_of_cause}
-use Rattle.annotate_snippets.specs.ShortForm.{place_of_path}
-use Rattle.annotate_snippets.specs.ShortForm.{primary_labels, short_form, short_page, titled_rows}
-use Rattle.snippet_model.specs.AnnotationKind.{is_primary}
-use Rattle.annotate_snippets.specs.declared.renderer.Renderer.{Renderer}
-use Rattle.annotate_snippets.specs.declared.renderer.form.Form.TheVariants.{Short}
-use Rattle.annotate_snippets.specs.declared.renderer.short.ShortForm.{ShortForm}
 use Rattle.annotate_snippets.proofs.CauseShown.{place_known}
-use Rattle.snippet_model.proofs.ZipLemmas.{AllZip-weaker}
 use Rattle.annotate_snippets.proofs.ShortLemmas.{first_cause-drawable}
 use Rattle.annotate_snippets.proofs.TrustedLemmas.{IsFreeRow, free_text, own_row}
 use Rattle.annotate_snippets.proofs.ReportTexts.{no_links}
-use Rattle.snippet_titles.proofs.FreeLemmas.{IsUnlisted, norm-free}
 
 -- ---- no character before the title or after it is listed
 

@@ -1,11 +1,7 @@
 -- What a sink is after it took up groups of a page in order.
-use Rattle.std.proofs.Common.{◌≡◌, ◌==◌, suc, ℕ, Bool, true, false, List, [], ◌∷◌, ◌++◌, arith, length, refl, subst, sym}
+use Rattle.annotate_snippets.proofs.Common.{◌≡◌, ◌==◌, suc, ℕ, Bool, true, false, List, [], ◌∷◌, ◌++◌, arith, length, refl, subst, sym}
+use Rattle.annotate_snippets.proofs.Common.{IfErr, IsErrAnd, nat_tests, append_assoc, append-nil, GroupPage, Takes}
 use Rattle.std.specs.Prelude.{Err, Ok, Result}
-use Rattle.std.specs.Result.{IfErr, IsErrAnd}
-use Rattle.std.proofs.lemmas.Bool.Decides.{nat_tests}
-use Rattle.std.proofs.lemmas.List.{append_assoc, append-nil}
-use Rattle.annotate_snippets.specs.Page.{GroupPage}
-use Rattle.annotate_snippets.specs.PageSink.{Takes}
 
 -- whether the group after some is the first, where the first of them is or isn't
 abbrev next_first : Bool → List GroupPage → Bool

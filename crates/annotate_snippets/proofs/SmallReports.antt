@@ -1,19 +1,9 @@
 -- Small reports, of which the laws on wrong results speak.
-use Rattle.std.proofs.Common.{ℕ, ◌<◌, ◌^◌, true, false, Option, None, Some, Vec, List, [], ◌∷◌, codes, length, refl, arith}
-use Rattle.std.specs.Option.{option_map}
-use Rattle.std.specs.declared.alloc.Global.{Global}
-use Rattle.snippet_model.specs.Source.{unindexed}
-use Rattle.snippet_model.specs.declared.snippet.Annotation.{Annotation}
-use Rattle.snippet_model.specs.declared.level.LevelName.TheVariants.{Hidden, Standard}
-use Rattle.snippet_model.specs.declared.snippet.Element.{Element}
+use Rattle.annotate_snippets.proofs.Common.{ℕ, ◌<◌, ◌^◌, true, false, Option, None, Some, Vec, List, [], ◌∷◌, codes, length, refl, arith}
+use Rattle.annotate_snippets.proofs.Common.{option_map, Global, unindexed, Annotation, Standard, Element, Group, Id, Snippet, Title, Error, Note, text_of}
+use Rattle.annotate_snippets.proofs.Common.{error_level}
+use Rattle.snippet_model.specs.declared.level.LevelName.TheVariants.{Hidden}
 use Rattle.snippet_model.specs.declared.snippet.Element.TheVariants as element
-use Rattle.snippet_model.specs.declared.snippet.Group.{Group}
-use Rattle.snippet_model.specs.declared.snippet.Id.{Id}
-use Rattle.snippet_model.specs.declared.snippet.Snippet.{Snippet}
-use Rattle.snippet_model.specs.declared.snippet.Title.{Title}
-use Rattle.snippet_style.specs.declared.role.LevelInner.TheVariants.{Error, Note}
-use Rattle.snippet_suggest.proofs.Examples.{text_of}
-use Rattle.annotate_snippets.specs.Levels.{error_level}
 
 -- a title of the level `error`, with this id and this text
 abbrev pub error_title : Option Id → List ℕ → Title

@@ -1,38 +1,17 @@
 -- A source row is a line of the text: it holds no line feed, whatever its source is, and whether it is cut or not.
-use Rattle.std.proofs.Common.{◌≡◌, ℕ, zero, suc, ◌+◌, ◌-◌, ◌<◌, ◌≤◌, ◌==◌, Bool, true, false, cond, Option, None, Some, List, [], ◌∷◌, ◌++◌, All, codes, length}
-use Rattle.std.proofs.Common.{take, drop, get_or, replicate, refl, sym, ap, subst, ◌∙◌, arith, inl, inr}
-use Rattle.std.specs.Cow.{cow_str_bytes}
-use Rattle.std.specs.Option.{option_map_or}
-use Rattle.std.specs.Fmt.{decimal}
-use Rattle.std.proofs.lemmas.Bool.{cases_lt}
-use Rattle.std.proofs.lemmas.List.{get_or-drop, get_or-map, get_or-take, length-drop, length-map}
-use Rattle.std.proofs.lemmas.List.Elements.{All-append, All-cons, All-drop, All-from_get_or, All-head, All-nil, All-replicate, All-tail, All-take, All-weaker}
-use Rattle.snippet_grid.specs.Print.{row_text}
-use Rattle.snippet_style.specs.Cell.{Cell, SPACE, text_cells, written}
-use Rattle.snippet_style.specs.Glyphs.{placeholder_of, separator_of}
-use Rattle.snippet_style.specs.declared.glyphs.DecorStyle.{DecorStyle}
-use Rattle.snippet_style.specs.declared.glyphs.DecorStyle.TheVariants.{Ascii, Unicode}
-use Rattle.snippet_style.specs.declared.role.ElementStyle.TheVariants.{LineNumber}
-use Rattle.snippet_text.specs.Normalized.{norm}
-use Rattle.snippet_titles.proofs.DigitLemmas.{IsDigit, decimal-all}
-use Rattle.snippet_window.specs.Window.{AreReplaced, chars_at, covered_columns, covered_end, inner_part, reaching, uncovered_part, window}
-use Rattle.snippet_lines.specs.Number.{shown_number}
-use Rattle.snippet_lines.specs.declared.number.LineNumbers.{LineNumbers}
-use Rattle.snippet_lines.specs.declared.number.LineNumbers.TheVariants.{Anonymized, Hidden, Shown}
-use Rattle.snippet_model.specs.declared.snippet.Annotation.{Annotation}
-use Rattle.snippet_model.specs.declared.snippet.Snippet.{Snippet}
-use Rattle.annotate_snippets.specs.declared.renderer.Renderer.{Renderer}
-use Rattle.snippet_grid.specs.Layout.{Layout}
-use Rattle.annotate_snippets.specs.Gutter.{line_numbers, number_text}
-use Rattle.annotate_snippets.specs.Laws.Lines.{ShowsSourceLine, cells_left, wide_spans}
-use Rattle.annotate_snippets.specs.GraphicForm.{margin_in}
+use Rattle.annotate_snippets.proofs.Common.{◌≡◌, ℕ, zero, suc, ◌+◌, ◌-◌, ◌<◌, ◌≤◌, ◌==◌, Bool, true, false, cond, Option, None}
+use Rattle.annotate_snippets.proofs.Common.{Some, List, [], ◌∷◌, ◌++◌, All, codes, length, take, drop, get_or, replicate, refl, sym, ap, subst}
+use Rattle.annotate_snippets.proofs.Common.{◌∙◌, arith, inl, inr, cow_str_bytes, option_map_or, decimal, cases_lt, get_or-drop, get_or-map, get_or-take}
+use Rattle.annotate_snippets.proofs.Common.{length-drop, length-map, All-append, All-cons, All-drop, All-from_get_or, All-head, All-nil, All-replicate}
+use Rattle.annotate_snippets.proofs.Common.{All-tail, All-take, All-weaker, row_text, Cell, SPACE, text_cells, written, placeholder_of, separator_of}
+use Rattle.annotate_snippets.proofs.Common.{DecorStyle, Ascii, Unicode, LineNumber, norm, IsDigit, decimal-all, AreReplaced, chars_at, covered_columns}
+use Rattle.annotate_snippets.proofs.Common.{covered_end, inner_part, reaching, uncovered_part, window, shown_number, LineNumbers, Anonymized, Hidden, Shown}
+use Rattle.annotate_snippets.proofs.Common.{Annotation, Snippet, Renderer, Layout, line_numbers, number_text, ShowsSourceLine, cells_left, wide_spans}
+use Rattle.annotate_snippets.proofs.Common.{margin_in, HasNoFeed, each-fails, Margin}
 use Rattle.annotate_snippets.proofs.MarginWords.{room_of}
-use Rattle.annotate_snippets.specs.Laws.Feeds.{HasNoFeed}
 use Rattle.annotate_snippets.proofs.OneLineTexts.{HoldsNoFeed, IsNoFeed}
-use Rattle.snippet_titles.proofs.OriginFree.{each-fails}
 use Rattle.annotate_snippets.proofs.FeedLaws.{at_any, bar_cell}
 use Rattle.annotate_snippets.proofs.PathFeedLaws.{alone, cells_plain, digit_plain, norm-plain}
-use Rattle.snippet_window.specs.declared.margin.Margin.{Margin}
 
 -- ---- windows
 

@@ -1,50 +1,18 @@
 -- Beside the rows of a snippet's lines stand the bars of its spans.
-use Rattle.std.proofs.Common.{◌≡◌, ℕ, zero, suc, ◌+◌, ◌-◌, ◌<◌, ◌≤◌, ◌==◌, ◌&&◌, Bool, true, false, not, cond, leb, take, replicate, ◌≢◌, List, [], ◌∷◌, ◌++◌}
-use Rattle.std.proofs.Common.{◌⊎◌, fold, length, get_or, inl, inr, refl, sym, ap, subst, ◌∙◌, arith}
-use Rattle.std.specs.List.{All, Contains, filter}
-use Rattle.std.specs.Cow.{cow_str_bytes}
-use Rattle.std.proofs.lemmas.Bool.{le-leb, and_from, cases_Bool}
-use Rattle.std.proofs.lemmas.Bool.Decides.{nat_tests}
-use Rattle.std.proofs.lemmas.List.Elements.{All-contains, All-filter, All-head, All-nil, All-tail}
-use Rattle.snippet_model.specs.declared.snippet.Annotation.{Annotation}
-use Rattle.snippet_model.specs.declared.snippet.Snippet.{Snippet}
-use Rattle.snippet_style.specs.Cell.{Cell, SPACE, text_cells}
-use Rattle.snippet_style.specs.Glyphs.{separator_of}
-use Rattle.snippet_style.specs.declared.glyphs.DecorStyle.{DecorStyle}
-use Rattle.snippet_style.specs.declared.role.ElementStyle.TheVariants.{LineNumber}
-use Rattle.snippet_style.proofs.CellLemmas.{length-text_cells}
-use Rattle.std.proofs.lemmas.List.{length-append, length-replicate, length-take}
-use Rattle.snippet_lines.specs.IsSpan.{IsSpan}
-use Rattle.snippet_parts.specs.Annotated.{deepest, depth_of, is_long}
-use Rattle.snippet_parts.specs.declared.entries.LineAnnotation.{LineAnnotation}
-use Rattle.snippet_parts.specs.declared.entries.LineAnnotationType.{LineAnnotationType}
-use Rattle.snippet_parts.specs.declared.entries.LineAnnotationType.TheVariants.{MultilineEnd, MultilineStart}
-use Rattle.snippet_parts.specs.Mark.{touches}
-use Rattle.snippet_parts.specs.Marked.{first_line, last_line}
-use Rattle.snippet_parts.proofs.AmongLemmas.{Among}
-use Rattle.snippet_parts.proofs.EntryFacts.{depth-within}
-use Rattle.snippet_strokes.specs.Bars.{Bar, bars_apart, ends_of_bars}
-use Rattle.snippet_strokes.specs.DrawnBars.{HasOwnDepth, has_depth}
-use Rattle.snippet_strokes.specs.StrokeRows.{bare_elision_row}
-use Rattle.snippet_strokes.specs.EndBars.{BarEnds, IsNoBar}
-use Rattle.snippet_strokes.proofs.BarFacts.{BarBegins}
-use Rattle.snippet_strokes.proofs.AmongLaws.{all_from_among, among_contains, contains_among}
-use Rattle.snippet_strokes.proofs.EndBarLaws.{bar_ends, elision_stands}
-use Rattle.snippet_strokes.proofs.SnippetLemmas.{highlighted_left}
-use Rattle.snippet_strokes.proofs.CrossedLaws.{line_clear}
-use Rattle.snippet_strokes.proofs.SourceCellLaws.{begins, gap_space, line_source}
-use Rattle.snippet_labels.specs.PlacedEntries.{is_end_part}
-use Rattle.annotate_snippets.specs.declared.renderer.Renderer.{Renderer}
-use Rattle.snippet_grid.specs.Layout.{Layout}
-use Rattle.annotate_snippets.specs.Gutter.{number_text}
+use Rattle.annotate_snippets.proofs.Common.{◌≡◌, ℕ, zero, suc, ◌+◌, ◌-◌, ◌<◌, ◌≤◌, ◌==◌, ◌&&◌, Bool, true, false, not, cond}
+use Rattle.annotate_snippets.proofs.Common.{leb, take, replicate, ◌≢◌, List, [], ◌∷◌, ◌++◌, ◌⊎◌, fold, length, get_or, inl, inr, refl}
+use Rattle.annotate_snippets.proofs.Common.{sym, ap, subst, ◌∙◌, arith, Contains, filter, cow_str_bytes, le-leb, and_from, cases_Bool, nat_tests}
+use Rattle.annotate_snippets.proofs.Common.{All-contains, All-filter, All-head, All-nil, All-tail, Annotation, Snippet, Cell, SPACE, text_cells, separator_of}
+use Rattle.annotate_snippets.proofs.Common.{DecorStyle, LineNumber, length-text_cells, length-append, length-replicate, length-take, IsSpan, deepest, depth_of}
+use Rattle.annotate_snippets.proofs.Common.{is_long, LineAnnotation, LineAnnotationType, MultilineEnd, MultilineStart, touches, first_line, last_line, Among}
+use Rattle.annotate_snippets.proofs.Common.{depth-within, Bar, bars_apart, ends_of_bars, HasOwnDepth, has_depth, bare_elision_row, BarEnds, IsNoBar, BarBegins}
+use Rattle.annotate_snippets.proofs.Common.{all_from_among, among_contains, contains_among, bar_ends, elision_stands, highlighted_left, line_clear, begins}
+use Rattle.annotate_snippets.proofs.Common.{gap_space, line_source, is_end_part, Renderer, Layout, number_text, code_after, Elision, NamedRow, OfferedLine}
+use Rattle.annotate_snippets.proofs.Common.{Other, RemovedLine, RowName, SourceRow, lines_named, rows_below, shows_lines, AreRowsOf, IsRowOf, cells_left}
+use Rattle.annotate_snippets.proofs.Common.{BarStarts, ShowsBars, bar_beside, line_beside}
+use Rattle.std.specs.List.{All}
 use Rattle.annotate_snippets.proofs.LineWords.{bars_on, entries_on}
-use Rattle.annotate_snippets.specs.ElementRoom.{code_after}
 use Rattle.annotate_snippets.proofs.DrawnRows.{AreRowsDrawn, IsRowDrawn, open_after}
-use Rattle.annotate_snippets.specs.Page.{Elision, NamedRow, OfferedLine, Other, RemovedLine, RowName, SourceRow, lines_named, rows_below}
-use Rattle.annotate_snippets.specs.Page.{shows_lines}
-use Rattle.annotate_snippets.specs.Laws.Snippets.{AreRowsOf, IsRowOf}
-use Rattle.annotate_snippets.specs.Laws.Lines.{cells_left}
-use Rattle.annotate_snippets.specs.Laws.Bars.{BarStarts, ShowsBars, bar_beside, line_beside}
 use Rattle.annotate_snippets.proofs.Ascending.{IsAscending}
 use Rattle.annotate_snippets.proofs.BarBeginnings.{begins_so}
 use Rattle.annotate_snippets.proofs.DrawnLines.{bar_shown, bars_seen}

@@ -1,31 +1,16 @@
 -- Which bars are open above a line: those of the spans of several lines that begin above it and don't end above it.
-use Rattle.std.proofs.Common.{◌≡◌, ◌≢◌, ℕ, ◌+◌, ◌<◌, ◌≤◌, ◌==◌, Bool, true, false, not, leb, Option, Some, None, List, [], ◌⊎◌, map, inl, inr, refl, sym, ap}
-use Rattle.std.proofs.Common.{◌∙◌, arith}
-use Rattle.std.specs.List.{All, Contains, filter, filter_map}
-use Rattle.std.proofs.lemmas.Bool.{and_from, and_parts, cases_eq, cases_lt, eq-eqb, eqb-true, false_from_ne_true, le-leb, not-true, both_ways}
-use Rattle.std.proofs.lemmas.List.Elements.{All-contains}
-use Rattle.snippet_model.specs.AnnotationKind.{is_primary}
-use Rattle.snippet_model.specs.declared.snippet.Annotation.{Annotation}
-use Rattle.snippet_lines.specs.Lines.{Source}
-use Rattle.snippet_lines.specs.IsSpan.{IsSpan}
-use Rattle.snippet_parts.specs.declared.entries.LineAnnotation.{LineAnnotation}
-use Rattle.snippet_parts.specs.declared.depths.LongExtent.{LongExtent}
-use Rattle.snippet_parts.specs.declared.entries.LineAnnotationType.TheVariants.{MultilineEnd, MultilineStart}
-use Rattle.snippet_parts.specs.Annotated.{depth_of, end_part, is_long, long_entry, long_parts, long_place, long_spans}
-use Rattle.snippet_parts.specs.Annotated.{made_parts, parts_on, single_part, start_part}
-use Rattle.snippet_parts.specs.Depths.{depth_among}
-use Rattle.snippet_parts.specs.Mark.{is_marking, is_single_line}
-use Rattle.snippet_parts.specs.Marked.{first_line, last_line}
-use Rattle.snippet_parts.proofs.AmongLemmas.{Among, among_filter, among_filter_map, among_in_order, among_left, among_map, among_right, any_among, any_cases}
-use Rattle.snippet_parts.proofs.AmongLemmas.{append_cases, filter_cases, in_order_cases, map_cases}
-use Rattle.snippet_parts.proofs.KeptPartLemmas.{lines_ordered}
-use Rattle.snippet_parts.proofs.MarkLemmas.{end-line, start-line}
-use Rattle.snippet_parts.proofs.ShownLemmas.{annotations-distinct}
-use Rattle.snippet_strokes.specs.Bars.{Bar, bar_at, bars_apart, open_past}
-use Rattle.snippet_strokes.specs.DrawnBars.{HasOwnDepth, has_depth}
-use Rattle.snippet_strokes.proofs.AmongLaws.{all_from_among, among_contains, contains_among, filter_map_cases}
+use Rattle.annotate_snippets.proofs.Common.{◌≡◌, ◌≢◌, ℕ, ◌+◌, ◌<◌, ◌≤◌, ◌==◌, Bool, true, false, not, leb, Option, Some, None}
+use Rattle.annotate_snippets.proofs.Common.{List, [], ◌⊎◌, map, inl, inr, refl, sym, ap, ◌∙◌, arith, Contains, filter, filter_map, and_from}
+use Rattle.annotate_snippets.proofs.Common.{and_parts, cases_eq, cases_lt, eq-eqb, eqb-true, false_from_ne_true, le-leb, not-true, both_ways, All-contains}
+use Rattle.annotate_snippets.proofs.Common.{is_primary, Annotation, Source, IsSpan, LineAnnotation, LongExtent, MultilineEnd, MultilineStart, depth_of}
+use Rattle.annotate_snippets.proofs.Common.{end_part, is_long, long_entry, long_parts, long_place, long_spans, made_parts, parts_on, single_part, start_part}
+use Rattle.annotate_snippets.proofs.Common.{depth_among, is_marking, is_single_line, first_line, last_line, Among, among_filter, among_filter_map}
+use Rattle.annotate_snippets.proofs.Common.{among_in_order, among_left, among_map, among_right, any_among, any_cases, append_cases, filter_cases}
+use Rattle.annotate_snippets.proofs.Common.{in_order_cases, map_cases, lines_ordered, end-line, start-line, annotations-distinct, Bar, bar_at, bars_apart}
+use Rattle.annotate_snippets.proofs.Common.{open_past, HasOwnDepth, has_depth, all_from_among, among_contains, contains_among, filter_map_cases, is_short}
+use Rattle.annotate_snippets.proofs.Common.{long_places, stands_before}
+use Rattle.std.specs.List.{All}
 use Rattle.annotate_snippets.proofs.SpanParts.{HasEnds, IsEndOf, end_of, ends_of, is_primary_at}
-use Rattle.snippet_parts.proofs.PartWords.{is_short, long_places, stands_before}
 
 -- ---- the bars of a line
 

@@ -1,24 +1,11 @@
 -- The starts and the ends of spans of several lines, which make their bars.
-use Rattle.std.proofs.Common.{◌≡◌, ℕ, ◌+◌, ◌-◌, Bool, true, false, ◌||◌, ◌&&◌, Option, Some, None, List, [], ◌∷◌, ◌++◌, ◌⊎◌, map, inl, inr, refl, sym, ap}
-use Rattle.std.proofs.Common.{subst, ◌∙◌, append_assoc}
-use Rattle.std.specs.List.{list_any}
-use Rattle.std.proofs.lemmas.Bool.{cases_Bool, cond-false, cond-true, cond_both, or_parts}
-use Rattle.std.proofs.lemmas.List.Folds.{list_any-append}
-use Rattle.snippet_model.specs.AnnotationKind.{is_primary}
-use Rattle.snippet_model.specs.declared.snippet.AnnotationKind.TheVariants.{Primary}
-use Rattle.snippet_lines.specs.Lines.{Source}
-use Rattle.snippet_parts.specs.declared.entries.LineAnnotation.{LineAnnotation}
-use Rattle.snippet_parts.specs.declared.depths.LongExtent.{LongExtent}
-use Rattle.snippet_parts.specs.declared.entries.LineAnnotationType.TheVariants.{Singleline, MultilineEnd, MultilineStart}
-use Rattle.snippet_parts.specs.Annotated.{bar_part, end_part, long_parts, long_place, promoted, span_parts}
-use Rattle.snippet_parts.specs.LongSpans.{bar_lines}
-use Rattle.snippet_parts.specs.Annotated.{start_part}
-use Rattle.snippet_parts.specs.Depths.{depth_among, same_place}
-use Rattle.snippet_parts.proofs.AmongLemmas.{Among, among_left, among_right, any_cases, append_cases, map_cases}
-use Rattle.snippet_parts.proofs.LongStarts.{promoted-end, promoted-start}
-use Rattle.snippet_parts.proofs.RawDepthLemmas.{same-refl, same-true}
-use Rattle.snippet_strokes.specs.Bars.{Bar, bar_at}
-use Rattle.snippet_parts.proofs.PartWords.{is_promoted, stands_among}
+use Rattle.annotate_snippets.proofs.Common.{◌≡◌, ℕ, ◌+◌, ◌-◌, Bool, true, false, ◌||◌, ◌&&◌, Option, Some, None, List, [], ◌∷◌}
+use Rattle.annotate_snippets.proofs.Common.{◌++◌, ◌⊎◌, map, inl, inr, refl, sym, ap, subst, ◌∙◌, list_any, cases_Bool, cond-false, cond-true}
+use Rattle.annotate_snippets.proofs.Common.{cond_both, or_parts, list_any-append, is_primary, Primary, Source, LineAnnotation, LongExtent, Singleline}
+use Rattle.annotate_snippets.proofs.Common.{MultilineEnd, MultilineStart, bar_part, end_part, long_parts, long_place, promoted, span_parts, bar_lines}
+use Rattle.annotate_snippets.proofs.Common.{start_part, depth_among, same_place, Among, among_left, among_right, any_cases, append_cases, map_cases}
+use Rattle.annotate_snippets.proofs.Common.{promoted-end, promoted-start, same-refl, same-true, Bar, bar_at, is_promoted, stands_among}
+use Rattle.std.proofs.Common.{append_assoc}
 
 -- whether one of some spans of this place is primary
 abbrev pub is_primary_at : List LineAnnotation → LongExtent → Bool

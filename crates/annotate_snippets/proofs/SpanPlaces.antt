@@ -1,30 +1,12 @@
 -- The place of a span is its bytes: so the bar of a span is that of its place.
-use Rattle.std.proofs.Common.{◌≡◌, ℕ, ◌==◌, ◌&&◌, Bool, true, false, not, eqb, List, map, refl, sym, ap, ◌∙◌}
-use Rattle.std.specs.List.{filter}
-use Rattle.std.proofs.lemmas.Bool.{and_from, and_parts, cond_both, eq-eqb, eqb-true}
-use Rattle.snippet_model.specs.AnnotationKind.{is_primary}
-use Rattle.snippet_model.specs.declared.snippet.Annotation.{Annotation}
-use Rattle.snippet_model.specs.declared.snippet.AnnotationKind.{AnnotationKind}
-use Rattle.snippet_model.specs.declared.snippet.AnnotationKind.TheVariants.{Primary, Context, Visible}
-use Rattle.snippet_model.specs.declared.snippet.Snippet.{Snippet}
-use Rattle.snippet_lines.specs.declared.place.Loc.{Loc}
-use Rattle.snippet_lines.specs.Lines.{Source, source_lines}
-use Rattle.snippet_lines.specs.Place.{end_location, line_of, location_of, locations_of, start_location}
-use Rattle.snippet_parts.specs.declared.entries.LineAnnotation.{LineAnnotation}
-use Rattle.snippet_parts.specs.declared.depths.LongExtent.{LongExtent}
-use Rattle.snippet_parts.specs.Annotated.{depth_of, is_long, long_entry, long_place, long_spans}
-use Rattle.snippet_parts.specs.Depths.{same_place}
-use Rattle.snippet_parts.specs.Mark.{is_marking, is_single_line}
-use Rattle.snippet_parts.specs.Marked.{first_line, last_line}
-use Rattle.snippet_parts.proofs.AmongLemmas.{among_filter, among_in_order, among_map, any_among, any_cases, filter_cases, in_order_cases, map_cases}
-use Rattle.snippet_parts.proofs.RawDepthLemmas.{same-refl, same-true}
-use Rattle.snippet_grid.specs.Layout.{Layout, bar_cell}
-use Rattle.snippet_strokes.specs.Bars.{Bar}
-use Rattle.annotate_snippets.specs.Gutter.{numbered_source}
-use Rattle.annotate_snippets.specs.Laws.Bars.{bar_of_span}
+use Rattle.annotate_snippets.proofs.Common.{◌≡◌, ℕ, ◌==◌, ◌&&◌, Bool, true, false, not, eqb, List, map, refl, sym, ap, ◌∙◌, filter}
+use Rattle.annotate_snippets.proofs.Common.{and_from, and_parts, cond_both, eq-eqb, eqb-true, is_primary, Annotation, AnnotationKind, Primary, Context, Visible}
+use Rattle.annotate_snippets.proofs.Common.{Snippet, Loc, Source, source_lines, end_location, line_of, location_of, locations_of, start_location}
+use Rattle.annotate_snippets.proofs.Common.{LineAnnotation, LongExtent, depth_of, is_long, long_entry, long_place, long_spans, same_place, is_marking}
+use Rattle.annotate_snippets.proofs.Common.{is_single_line, first_line, last_line, among_filter, among_in_order, among_map, any_among, any_cases, filter_cases}
+use Rattle.annotate_snippets.proofs.Common.{in_order_cases, map_cases, same-refl, same-true, Layout, bar_cell, Bar, numbered_source, bar_of_span, stands_before}
 use Rattle.annotate_snippets.proofs.SpanOpen.{bar_at_place, place_in}
 use Rattle.annotate_snippets.proofs.SpanParts.{is_primary_at}
-use Rattle.snippet_parts.proofs.PartWords.{stands_before}
 
 -- the cell of a row in which the bar of a span stands: at depth 1 the second after the separator
 abbrev pub bar_cell_of : Layout → Snippet Annotation → Annotation → ℕ

@@ -1,62 +1,29 @@
 -- The rows of a suggestion hold a line feed only where its path does.
-use Rattle.std.proofs.Common.{◌≡◌, ℕ, zero, suc, ◌+◌, ◌-◌, ◌<◌, ◌≤◌, ◌==◌, Bool, true, false, Option, None, Some, List, [], ◌∷◌, ◌++◌}
-use Rattle.std.proofs.Common.{All, chars, take, drop, map, length, get_or, refl, sym, ap, subst, ◌∙◌, arith, inl, inr}
-use Rattle.std.specs.Cow.{cow_str_bytes}
-use Rattle.std.specs.List.{AllZip, list_any, slice_index_or}
-use Rattle.std.specs.Str.{IsUtf8}
-use Rattle.std.proofs.lemmas.Bool.{cases_Bool, cases_eq, cases_lt, eqb-true, false≢true}
-use Rattle.std.proofs.lemmas.Bool.Decides.{nat_tests}
-use Rattle.std.proofs.lemmas.List.{get_or-drop, get_or-take}
-use Rattle.std.proofs.lemmas.List.Elements.{All-append, All-cons, All-from_get_or, All-head, All-nil, All-tail}
-use Rattle.snippet_lines.specs.Lines.{Line, lines_of, text_at}
-use Rattle.snippet_lines.specs.Number.{shown_number}
-use Rattle.snippet_lines.specs.declared.number.LineNumbers.{LineNumbers}
-use Rattle.snippet_lines.specs.declared.number.LineNumbers.TheVariants.{Anonymized, Hidden, Shown}
-use Rattle.snippet_model.specs.declared.snippet.Patch.{Patch}
-use Rattle.snippet_model.specs.declared.snippet.Snippet.{Snippet}
-use Rattle.snippet_splice.specs.Patched.{texts_of}
-use Rattle.snippet_style.specs.Cell.{Cell, SPACE, text_cells}
-use Rattle.snippet_style.specs.declared.glyphs.DecorStyle.{DecorStyle}
-use Rattle.snippet_style.specs.declared.glyphs.DecorStyle.TheVariants.{Ascii, Unicode}
-use Rattle.snippet_style.specs.declared.role.ElementStyle.{ElementStyle}
-use Rattle.snippet_style.specs.declared.role.ElementStyle.TheVariants.{Addition, LineNumber, NoStyle}
-use Rattle.snippet_text.specs.Normalized.{norm}
-use Rattle.snippet_titles.specs.Origin.{primary_start}
-use Rattle.snippet_titles.proofs.OriginFree.{each-fails}
-use Rattle.snippet_parts.proofs.PartLemmas.{All-unmapped}
-use Rattle.snippet_suggest.specs.Cells.{line_cells, offered_cells, put, sign_of, with_stretches}
-use Rattle.snippet_suggest.specs.Given.{first_given, given_lines, given_text, shown_kind}
-use Rattle.snippet_style.specs.Glyphs.{suggestion_glyph_of, suggestion_role_of}
-use Rattle.snippet_suggest.specs.RowOrder.{Begins, Empty, Ends, Offers, Removes, Skips, SuggestionRow, rows_of_suggestion}
-use Rattle.snippet_suggest.specs.SuggestionRows.{IsBareRow, IsMarkOrSpace, IsRemovedRow, is_stroke}
-use Rattle.snippet_suggest.specs.ShownRows.{Shows}
-use Rattle.snippet_suggest.proofs.LeftOver.{IsBeforeSign, IsLeftOver}
-use Rattle.snippet_suggest.specs.Suggested.{body_cells, suggested_cells as row_cells, new_on}
-use Rattle.snippet_suggest.specs.declared.SuggestionLayout.{SuggestionLayout}
-use Rattle.snippet_suggest.specs.declared.SuggestionStart.{SuggestionStart}
+use Rattle.annotate_snippets.proofs.Common.{◌≡◌, ℕ, zero, suc, ◌+◌, ◌-◌, ◌<◌, ◌≤◌, ◌==◌, Bool, true, false, Option, None, Some}
+use Rattle.annotate_snippets.proofs.Common.{List, [], ◌∷◌, ◌++◌, All, take, drop, map, length, get_or, refl, sym, ap, subst, ◌∙◌, arith, inl}
+use Rattle.annotate_snippets.proofs.Common.{inr, cow_str_bytes, AllZip, list_any, slice_index_or, IsUtf8, cases_Bool, cases_eq, cases_lt, eqb-true}
+use Rattle.annotate_snippets.proofs.Common.{false≢true, nat_tests, get_or-drop, get_or-take, All-append, All-cons, All-from_get_or, All-head, All-nil}
+use Rattle.annotate_snippets.proofs.Common.{All-tail, Line, lines_of, text_at, shown_number, LineNumbers, Anonymized, Hidden, Shown, Patch, Snippet, texts_of}
+use Rattle.annotate_snippets.proofs.Common.{Cell, SPACE, text_cells, DecorStyle, Ascii, Unicode, ElementStyle, Addition, LineNumber, NoStyle, norm}
+use Rattle.annotate_snippets.proofs.Common.{primary_start, each-fails, All-unmapped, line_cells, offered_cells, put, sign_of, with_stretches, first_given}
+use Rattle.annotate_snippets.proofs.Common.{given_lines, given_text, shown_kind, suggestion_glyph_of, suggestion_role_of, Begins, Empty, Ends, Offers, Removes}
+use Rattle.annotate_snippets.proofs.Common.{Skips, SuggestionRow, rows_of_suggestion, IsBareRow, IsMarkOrSpace, IsRemovedRow, is_stroke, Shows, IsBeforeSign}
+use Rattle.annotate_snippets.proofs.Common.{IsLeftOver, body_cells, new_on, SuggestionLayout, SuggestionStart, SuggestionGlyph, Leading, Closing, Kept, Changed}
+use Rattle.annotate_snippets.proofs.Common.{Added, body_all, same_ch, without_role, with_same, Renderer, ElementContext, Layout, path_bytes, suggestion_rows}
+use Rattle.annotate_snippets.proofs.Common.{suggestion_layout, suggestion_lines, HasNoFeed, origin_layout, path_row, suggestion_head, capped_sum}
+use Rattle.std.proofs.Common.{chars}
+use Rattle.snippet_suggest.specs.Suggested.{suggested_cells as row_cells}
 use Rattle.snippet_suggest.specs.declared.SuggestionStart.TheVariants as start
-use Rattle.snippet_style.specs.declared.glyphs.SuggestionGlyph.{SuggestionGlyph}
-use Rattle.snippet_style.specs.declared.glyphs.SuggestionGlyph.TheVariants.{Opening, Next, Leading, Closing, Kept, Alone, Changed, Added}
-use Rattle.snippet_suggest.proofs.BodyLaws.{body_all}
-use Rattle.snippet_suggest.proofs.RepaintLemmas.{same_ch, without_role}
-use Rattle.snippet_suggest.proofs.RowLaws.{with_same}
+use Rattle.snippet_style.specs.declared.glyphs.SuggestionGlyph.TheVariants.{Opening, Next, Alone}
 use Rattle.snippet_suggest.proofs.OrderLaws.{IsRowOf}
-use Rattle.annotate_snippets.specs.declared.renderer.Renderer.{Renderer}
-use Rattle.annotate_snippets.specs.declared.renderer.element_context.ElementContext.{ElementContext}
-use Rattle.snippet_grid.specs.Layout.{Layout}
-use Rattle.annotate_snippets.specs.ElementContext.{path_bytes, suggestion_rows}
 use Rattle.annotate_snippets.proofs.AreTexts.{IsTextSuggestion}
-use Rattle.annotate_snippets.specs.DrawnReport.{suggestion_layout, suggestion_lines}
 use Rattle.annotate_snippets.proofs.PageWords.{patch_place, suggestion_head_at, under_of}
-use Rattle.annotate_snippets.specs.Laws.Feeds.{HasNoFeed}
-use Rattle.annotate_snippets.specs.RowsWithoutSource.{origin_layout, path_row, suggestion_head}
 use Rattle.annotate_snippets.proofs.OneLineTexts.{HoldsNoFeed, IsNoFeed, IsOneLineText}
 use Rattle.annotate_snippets.proofs.FeedLaws.{at_any}
 use Rattle.annotate_snippets.proofs.LineFeedLaws.{line_plain, row_written}
 use Rattle.annotate_snippets.proofs.PathFeedLaws.{cells_plain, norm-plain, row_plain}
 use Rattle.annotate_snippets.proofs.SourceFeedLaws.{number_plain}
 use Rattle.annotate_snippets.proofs.SuggestionLines.{lines_each}
-use Rattle.snippet_window.specs.Margin.{capped_sum}
 
 -- ---- characters
 

@@ -1,37 +1,17 @@
 -- The rows of a suggestion's lines, with their names.
-use Rattle.std.proofs.Common.{◌≡◌, ◌≢◌, ℕ, ◌+◌, ◌-◌, ◌<◌, ◌≤◌, Option, None, Some, List, [], ◌∷◌, map, length, take, chars, get_or, refl}
-use Rattle.std.proofs.Common.{sym, ap, subst, ◌∙◌, arith}
-use Rattle.std.specs.List.{All, AllZip, cons_option, filter_map, zip}
-use Rattle.std.proofs.lemmas.List.Elements.{All-nil, All-cons, All-head, All-tail}
-use Rattle.snippet_model.specs.declared.snippet.Patch.{Patch}
-use Rattle.snippet_model.specs.declared.snippet.Snippet.{Snippet}
-use Rattle.snippet_style.specs.Cell.{Cell, SPACE}
-use Rattle.snippet_style.specs.Glyphs.{suggestion_glyph_of}
-use Rattle.snippet_grid.specs.Print.{row_text}
-use Rattle.snippet_text.specs.Normalized.{norm}
-use Rattle.snippet_lines.specs.Number.{shown_number}
-use Rattle.snippet_model.specs.FreeRows.{IsFree}
-use Rattle.snippet_suggest.specs.Cells.{sign_of}
-use Rattle.snippet_suggest.specs.Given.{first_given, given_lines, shown_kind}
-use Rattle.snippet_suggest.specs.PreparedSuggestion.{IsSuggestible}
-use Rattle.snippet_suggest.specs.RowOrder.{Begins, Empty, Ends, Offers, Removes, Skips, SuggestionRow, removed_number}
-use Rattle.snippet_suggest.specs.Suggested.{new_on}
-use Rattle.snippet_suggest.specs.SuggestionRows.{IsRemovedRow}
-use Rattle.snippet_suggest.specs.ShownRows.{HasSign, Shows}
-use Rattle.snippet_suggest.specs.Offered.{lines_taken, numbers_offered, AreRising}
-use Rattle.snippet_suggest.proofs.OfferLaws.{given-is-patched}
+use Rattle.annotate_snippets.proofs.Common.{◌≡◌, ◌≢◌, ℕ, ◌+◌, ◌-◌, ◌<◌, ◌≤◌, Option, None, Some, List, [], ◌∷◌, map}
+use Rattle.annotate_snippets.proofs.Common.{length, take, get_or, refl, sym, ap, subst, ◌∙◌, arith, AllZip, cons_option, filter_map, zip, All-nil}
+use Rattle.annotate_snippets.proofs.Common.{All-cons, All-head, All-tail, Patch, Snippet, Cell, SPACE, suggestion_glyph_of, row_text, norm, shown_number}
+use Rattle.annotate_snippets.proofs.Common.{IsFree, sign_of, first_given, given_lines, shown_kind, IsSuggestible, Begins, Empty, Ends, Offers, Removes, Skips}
+use Rattle.annotate_snippets.proofs.Common.{SuggestionRow, removed_number, new_on, IsRemovedRow, HasSign, Shows, lines_taken, numbers_offered, AreRising}
+use Rattle.annotate_snippets.proofs.Common.{given-is-patched, suggestion_layout, line_numbers, number_text, Elision, NamedRow, OfferedLine, Other, RemovedLine}
+use Rattle.annotate_snippets.proofs.Common.{RowName, SourceRow, cells_of, line_offered, lines_offered, HasStrokes, IsOfferedRow, IsSuggestionRow, name_of_row}
+use Rattle.annotate_snippets.proofs.Common.{Renderer, Layout, capped_sum}
+use Rattle.std.proofs.Common.{chars}
+use Rattle.std.specs.List.{All}
 use Rattle.snippet_suggest.proofs.OrderLaws.{IsRowOf}
-use Rattle.annotate_snippets.specs.DrawnReport.{suggestion_layout}
-use Rattle.annotate_snippets.specs.Gutter.{line_numbers, number_text}
-use Rattle.annotate_snippets.specs.Page.{Elision, NamedRow, OfferedLine, Other, RemovedLine, RowName, SourceRow}
-use Rattle.annotate_snippets.specs.Page.{cells_of, line_offered, lines_offered}
-use Rattle.annotate_snippets.specs.Laws.Suggestions.{HasStrokes, IsOfferedRow, IsSuggestionRow}
-use Rattle.annotate_snippets.specs.GraphicForm.{name_of_row}
-use Rattle.annotate_snippets.specs.declared.renderer.Renderer.{Renderer}
 use Rattle.annotate_snippets.proofs.Ascending.{IsAscending}
-use Rattle.snippet_grid.specs.Layout.{Layout}
 use Rattle.snippet_suggest.proofs.RisingLemmas.{rising_bound as rising_within}
-use Rattle.snippet_window.specs.Margin.{capped_sum}
 
 -- numbers that rise between two bounds ascend
 pub rising_ascends : (from to : ℕ) (ks : List ℕ) → AreRising from to ks → IsAscending ks

@@ -1,40 +1,16 @@
 -- What the rows of a suggestion's lines show, by their value.
-use Rattle.std.proofs.Common.{◌≡◌, ◌≢◌, ℕ, zero, suc, ◌+◌, ◌-◌, ◌≤◌, nat_eq, ◌&&◌, not, Bool, true, false, if◌then◌else◌, Some, List, [], ◌∷◌, drop, length}
-use Rattle.std.proofs.Common.{refl, sym, ap, arith, subst}
-use Rattle.std.specs.Fmt.{decimal}
-use Rattle.std.specs.List.{AllZip, list_all, list_any, slice_get}
-use Rattle.std.proofs.lemmas.Bool.{and_parts}
-use Rattle.std.proofs.lemmas.Bool.Decides.{nat_tests}
-use Rattle.snippet_model.specs.declared.snippet.Element.{Element}
-use Rattle.snippet_model.specs.declared.snippet.Element.TheVariants.{Cause, Message, Origin, Padding, Suggestion}
-use Rattle.snippet_model.specs.declared.snippet.Patch.{Patch}
-use Rattle.snippet_model.specs.declared.snippet.Snippet.{Snippet}
-use Rattle.snippet_style.specs.declared.glyphs.DecorStyle.{DecorStyle}
-use Rattle.snippet_style.specs.declared.glyphs.DecorStyle.TheVariants.{Ascii, Unicode}
-use Rattle.snippet_style.specs.declared.role.ElementStyle.TheVariants.{LineNumber}
-use Rattle.snippet_style.specs.Cell.{Cell}
-use Rattle.snippet_style.specs.Glyphs.{separator_of}
-use Rattle.snippet_style.specs.Separators.{separator_row}
-use Rattle.snippet_grid.specs.Layout.{Layout}
-use Rattle.snippet_text.specs.Normalized.{is_listed}
-use Rattle.snippet_lines.specs.Number.{number_width}
-use Rattle.snippet_lines.specs.declared.number.LineNumbers.TheVariants.{Shown, Anonymized, Hidden}
-use Rattle.snippet_suggest.specs.declared.SuggestionStart.{SuggestionStart}
-use Rattle.snippet_suggest.specs.declared.SuggestionStart.TheVariants.{Opening, Next, Path}
-use Rattle.snippet_suggest.specs.Given.{counted_line, first_given, given_lines}
-use Rattle.snippet_suggest.specs.PreparedSuggestion.{IsSuggestible}
-use Rattle.snippet_suggest.specs.RowOrder.{Ends, SuggestionRow, rows_of_suggestion}
-use Rattle.snippet_suggest.specs.Suggested.{body_cells, suggested_cells as row_cells}
-use Rattle.snippet_suggest.specs.SuggestionRows.{begin_glyph, beside_gutter, end_glyph, is_stroke}
-use Rattle.snippet_suggest.specs.ShownRows.{HasGutter, IsEdgeRow, IsUnder, Shows}
-use Rattle.snippet_suggest.proofs.BareLemmas.{stroke_led}
-use Rattle.snippet_suggest.proofs.BodyLaws.{body_shows, last_shows, zip_append}
-use Rattle.annotate_snippets.specs.ElementContext.{first_two_share, is_end, share_file, suggestion_rows}
-use Rattle.annotate_snippets.specs.DrawnReport.{last_row, suggestion_layout, suggestion_lines}
-use Rattle.annotate_snippets.specs.ElementRoom.{begins_in_row_above, is_next_start, HasRoomFor}
+use Rattle.annotate_snippets.proofs.Common.{◌≡◌, ◌≢◌, ℕ, zero, suc, ◌+◌, ◌-◌, ◌≤◌, nat_eq, ◌&&◌, not, Bool, true, false}
+use Rattle.annotate_snippets.proofs.Common.{if◌then◌else◌, Some, List, [], ◌∷◌, drop, length, refl, sym, ap, arith, subst, decimal, AllZip}
+use Rattle.annotate_snippets.proofs.Common.{list_all, list_any, slice_get, and_parts, nat_tests, Element, Cause, Message, Origin, Padding, Suggestion, Patch}
+use Rattle.annotate_snippets.proofs.Common.{Snippet, DecorStyle, Ascii, Unicode, LineNumber, Cell, separator_of, separator_row, Layout, is_listed, number_width}
+use Rattle.annotate_snippets.proofs.Common.{Shown, Anonymized, Hidden, SuggestionStart, Opening, Path, counted_line, first_given, given_lines, IsSuggestible}
+use Rattle.annotate_snippets.proofs.Common.{Ends, SuggestionRow, rows_of_suggestion, body_cells, begin_glyph, beside_gutter, end_glyph, is_stroke, HasGutter}
+use Rattle.annotate_snippets.proofs.Common.{IsEdgeRow, IsUnder, Shows, stroke_led, body_shows, last_shows, zip_append, first_two_share, is_end, share_file}
+use Rattle.annotate_snippets.proofs.Common.{suggestion_rows, last_row, suggestion_layout, suggestion_lines, begins_in_row_above, is_next_start, HasRoomFor}
+use Rattle.annotate_snippets.proofs.Common.{Renderer, ElementContext}
+use Rattle.snippet_suggest.specs.declared.SuggestionStart.TheVariants.{Next}
+use Rattle.snippet_suggest.specs.Suggested.{suggested_cells as row_cells}
 use Rattle.annotate_snippets.proofs.PageWords.{found_at, under_of}
-use Rattle.annotate_snippets.specs.declared.renderer.Renderer.{Renderer}
-use Rattle.annotate_snippets.specs.declared.renderer.element_context.ElementContext.{ElementContext}
 use Rattle.annotate_snippets.proofs.AroundLaws.{shares_before}
 
 -- ---- the row that a suggestion finds

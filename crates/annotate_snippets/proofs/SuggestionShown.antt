@@ -1,45 +1,19 @@
 -- The rows of a suggestion show it.
-use Rattle.std.proofs.Common.{◌≡◌, ◌≢◌, ◌∙◌, ℕ, ◌+◌, Bool, true, false, not, if◌then◌else◌, Option, None, Some, List, [], ◌∷◌, ◌++◌, map, length, refl, sym, ap}
-use Rattle.std.proofs.Common.{subst, inl, inr}
-use Rattle.std.specs.Cow.{cow_str_bytes}
-use Rattle.std.specs.List.{All, AllZip, Contains}
-use Rattle.std.proofs.lemmas.List.{append-nil}
-use Rattle.std.proofs.lemmas.List.Elements.{All-append, All-cons, All-nil, filter_map-append}
-use Rattle.snippet_model.specs.declared.snippet.Element.TheVariants.{Suggestion}
-use Rattle.snippet_model.specs.declared.snippet.Patch.{Patch}
-use Rattle.snippet_model.specs.declared.snippet.Snippet.{Snippet}
-use Rattle.snippet_style.specs.Cell.{Cell}
-use Rattle.snippet_model.specs.FreeRows.{IsFree}
-use Rattle.snippet_parts.proofs.PartLemmas.{All-unmapped}
-use Rattle.snippet_lines.specs.Lines.{lines_of}
-use Rattle.snippet_splice.specs.Patched.{spliced_text, texts_of}
-use Rattle.snippet_splice.specs.FirstOverlap.{AreDisjoint}
-use Rattle.snippet_suggest.specs.Given.{IsOfferable, edits_of, first_given, given_lines, last_reached, removed_lines}
-use Rattle.snippet_suggest.specs.RowOrder.{Ends, SuggestionRow, rows_of_suggestion}
-use Rattle.snippet_suggest.specs.PreparedSuggestion.{IsSuggestible}
-use Rattle.snippet_suggest.proofs.SignLaws.{body_signs}
-use Rattle.snippet_suggest.specs.ShownRows.{HasSign, Shows}
-use Rattle.snippet_suggest.specs.Offered.{IsAsItWas, numbers_given, offered_lines, line_taken, lines_taken, number_offered, numbers_offered, AreRising}
-use Rattle.snippet_suggest.specs.declared.SuggestionStart.{SuggestionStart}
+use Rattle.annotate_snippets.proofs.Common.{◌≡◌, ◌≢◌, ◌∙◌, ℕ, ◌+◌, Bool, true, false, not, if◌then◌else◌, Option, None, Some}
+use Rattle.annotate_snippets.proofs.Common.{List, [], ◌∷◌, ◌++◌, map, length, refl, sym, ap, subst, inl, inr, cow_str_bytes, AllZip, Contains}
+use Rattle.annotate_snippets.proofs.Common.{append-nil, All-append, All-cons, All-nil, filter_map-append, Suggestion, Patch, Snippet, Cell, IsFree}
+use Rattle.annotate_snippets.proofs.Common.{All-unmapped, lines_of, spliced_text, texts_of, AreDisjoint, IsOfferable, edits_of, first_given, given_lines}
+use Rattle.annotate_snippets.proofs.Common.{last_reached, removed_lines, Ends, SuggestionRow, rows_of_suggestion, IsSuggestible, body_signs, HasSign, Shows}
+use Rattle.annotate_snippets.proofs.Common.{IsAsItWas, numbers_given, offered_lines, line_taken, lines_taken, number_offered, numbers_offered, AreRising}
+use Rattle.annotate_snippets.proofs.Common.{SuggestionStart, HaveSpans, given-part, offered-ascends, rows-offer, rows-own, rows-take, touched-offered}
+use Rattle.annotate_snippets.proofs.Common.{primary_start, origin_row-free, is_end, path_bytes, suggestion_rows, suggestion_layout, suggestion_lines}
+use Rattle.annotate_snippets.proofs.Common.{begins_in_row_above, HasRoomFor, element_rows, name_of_row, NamedRow, cells_of, lines_offered, others}
+use Rattle.annotate_snippets.proofs.Common.{origin_layout, path_row, suggestion_head, HasStrokes, ShowsSuggestion, HasNoFeed, Renderer, Layout, ElementContext}
+use Rattle.std.specs.List.{All}
 use Rattle.snippet_suggest.specs.declared.SuggestionStart.TheVariants as start
-use Rattle.snippet_suggest.proofs.OfferLaws.{HaveSpans, given-part, offered-ascends}
-use Rattle.snippet_suggest.proofs.OrderLaws.{IsRowOf, rows-offer, rows-own, rows-take}
-use Rattle.snippet_suggest.proofs.TouchLaws.{touched-offered}
-use Rattle.snippet_titles.specs.Origin.{primary_start}
-use Rattle.snippet_titles.proofs.OriginFree.{origin_row-free}
-use Rattle.annotate_snippets.specs.ElementContext.{is_end, path_bytes, suggestion_rows}
-use Rattle.annotate_snippets.specs.DrawnReport.{suggestion_layout, suggestion_lines}
-use Rattle.annotate_snippets.specs.ElementRoom.{begins_in_row_above, HasRoomFor}
-use Rattle.annotate_snippets.specs.GraphicForm.{element_rows, name_of_row}
+use Rattle.snippet_suggest.proofs.OrderLaws.{IsRowOf}
 use Rattle.annotate_snippets.proofs.PageWords.{under_of}
 use Rattle.annotate_snippets.proofs.PageWords.{patch_place, suggestion_head_at}
-use Rattle.annotate_snippets.specs.Page.{NamedRow, cells_of, lines_offered, others}
-use Rattle.annotate_snippets.specs.RowsWithoutSource.{origin_layout, path_row, suggestion_head}
-use Rattle.annotate_snippets.specs.Laws.Suggestions.{HasStrokes, ShowsSuggestion}
-use Rattle.annotate_snippets.specs.Laws.Feeds.{HasNoFeed}
-use Rattle.annotate_snippets.specs.declared.renderer.Renderer.{Renderer}
-use Rattle.snippet_grid.specs.Layout.{Layout}
-use Rattle.annotate_snippets.specs.declared.renderer.element_context.ElementContext.{ElementContext}
 use Rattle.annotate_snippets.proofs.AreTexts.{IsTextSuggestion}
 use Rattle.annotate_snippets.proofs.Ascending.{IsAscending, ascends}
 use Rattle.annotate_snippets.proofs.ElementShown.{ElementShown}

@@ -1,15 +1,9 @@
 -- The lines of a page's text are its rows, where no row holds a line feed.
-use Rattle.std.proofs.Common.{◌≡◌, ℕ, ◌<◌, ◌==◌, Bool, true, false, List, [], ◌∷◌, ◌++◌, All, codes, length, map, refl, sym, ap, ◌∙◌, arith}
-use Rattle.std.specs.List.{flat_map, onto_first}
-use Rattle.std.proofs.lemmas.List.{append-nil}
-use Rattle.std.proofs.lemmas.List.Elements.{All-head, All-map, All-tail}
-use Rattle.std.proofs.lemmas.List.Splits.{length-slice_split, slice_split-cons_no, slice_split-cons_yes, slice_split_at, slice_split_none}
-use Rattle.snippet_grid.specs.Print.{further_text, plain_text, row_text}
-use Rattle.snippet_style.specs.Cell.{Cell, text_cells}
-use Rattle.snippet_style.specs.declared.role.ElementStyle.TheVariants.{LineNumber}
-use Rattle.snippet_style.specs.declared.role.LevelInner.TheVariants.{Error}
-use Rattle.annotate_snippets.specs.Laws.Feeds.{HasNoFeed, or_empty_line, page_lines, text_lines}
-use Rattle.annotate_snippets.specs.Page.{GroupPage, group_rows, page_text}
+use Rattle.annotate_snippets.proofs.Common.{◌≡◌, ℕ, ◌<◌, ◌==◌, Bool, true, false, List, [], ◌∷◌, ◌++◌, All, codes, length, map, refl}
+use Rattle.annotate_snippets.proofs.Common.{sym, ap, ◌∙◌, arith, flat_map, onto_first, append-nil, All-head, All-map, All-tail, length-slice_split}
+use Rattle.annotate_snippets.proofs.Common.{slice_split-cons_no, slice_split-cons_yes, slice_split_at, slice_split_none, further_text, plain_text, row_text}
+use Rattle.annotate_snippets.proofs.Common.{Cell, text_cells, LineNumber, Error, HasNoFeed, or_empty_line, page_lines, text_lines, GroupPage, group_rows}
+use Rattle.annotate_snippets.proofs.Common.{page_text}
 use Rattle.annotate_snippets.proofs.PageWords.{Page}
 use Rattle.annotate_snippets.proofs.OneLineTexts.{HasOneLineRows, IsNoFeed}
 

@@ -1,57 +1,27 @@
 -- The lines of a report's text form are those of its paragraphs, where line feeds are shown.
-use Rattle.std.proofs.Common.{◌≡◌, ℕ, ◌==◌, ◌&&◌, not, Bool, true, false, IfSome, Option, None, Some, List, [], ◌∷◌, ◌++◌, All, chars, codes}
-use Rattle.std.proofs.Common.{filter, if◌then◌else◌, map, replicate, refl, arith}
-use Rattle.std.specs.Cow.{cow_str_bytes}
-use Rattle.std.specs.Fmt.{decimal}
-use Rattle.std.specs.List.{flat_map}
-use Rattle.std.specs.Option.{option_map}
-use Rattle.std.proofs.lemmas.Bool.Decides.{nat_tests}
-use Rattle.std.proofs.lemmas.List.Elements.{All-append, All-cons, All-filter, All-head, All-nil, All-replicate, All-tail}
-use Rattle.snippet_lines.specs.Lines.{Source}
-use Rattle.snippet_lines.specs.Place.{locations_of}
-use Rattle.snippet_model.specs.Heading.{Heading, heading_of_message, heading_of_title, is_hidden}
-use Rattle.snippet_model.specs.Level.{name_of}
-use Rattle.snippet_model.specs.declared.snippet.Annotation.{Annotation}
-use Rattle.snippet_model.specs.declared.snippet.Element.{Element}
+use Rattle.annotate_snippets.proofs.Common.{◌≡◌, ℕ, ◌==◌, ◌&&◌, not, Bool, true, false, IfSome, Option, None, Some, List, [], ◌∷◌}
+use Rattle.annotate_snippets.proofs.Common.{◌++◌, All, codes, if◌then◌else◌, map, replicate, refl, arith, cow_str_bytes, decimal, flat_map}
+use Rattle.annotate_snippets.proofs.Common.{option_map, nat_tests, All-append, All-cons, All-filter, All-head, All-nil, All-replicate, All-tail, Source}
+use Rattle.annotate_snippets.proofs.Common.{locations_of, Heading, heading_of_message, heading_of_title, is_hidden, name_of, Annotation, Element, Group, Id}
+use Rattle.annotate_snippets.proofs.Common.{Patch, Snippet, Title, picture_of, with_line_feeds_shown, Edit, without_final_line_feeds, trimmed_of, is_blank_text}
+use Rattle.annotate_snippets.proofs.Common.{norm, normalized_chars, width_of, further_indent, is_labelled, named_spans, span_text, FormPiece, form_text}
+use Rattle.annotate_snippets.proofs.Common.{before_id, before_name, heading_form, heading_label, id_label, label_of_id, added_words, edit_line}
+use Rattle.annotate_snippets.proofs.Common.{heading_paragraph, line_paragraph, lines_after, lines_of_paragraphs, option_lines, span_lines}
+use Rattle.annotate_snippets.proofs.Common.{suggestion_paragraphs, place, place_in_file, added_text, before_added, edit_indent, edit_place, named_path}
+use Rattle.annotate_snippets.proofs.Common.{HeadingKind, SuggestionContext, SuggestionSettings, All-named_spans, IsTextOf, cause-text, heading-text}
+use Rattle.annotate_snippets.proofs.Common.{lines-of_text, no_text, origin-text, suggestion-text, text-append, text-each, PathIs, before_added-each}
+use Rattle.annotate_snippets.proofs.Common.{before_id-each, before_name-each, decimal-each, edit_indent-each, edit_place-each, further_indent-each, is_odd}
+use Rattle.annotate_snippets.proofs.Common.{known-each, place_in_file-each, span_text-each, colon_of, heading_lines, is_set, drawn_elements, file_of_group}
+use Rattle.annotate_snippets.proofs.Common.{first_two_share, path_bytes, is_drawn, HasOneLineTexts, text_lines, element_paragraphs, elements_paragraphs}
+use Rattle.annotate_snippets.proofs.Common.{group_paragraphs, report_paragraphs, title_paragraphs, PreviousSuggestion, before_next, element_form, elements_form}
+use Rattle.annotate_snippets.proofs.Common.{group_form, suggestion_place, suggestion_settings, text_form, Renderer}
+use Rattle.std.proofs.Common.{chars}
+use Rattle.std.proofs.Common.{filter}
 use Rattle.snippet_model.specs.declared.snippet.Element.TheVariants as element
-use Rattle.snippet_model.specs.declared.snippet.Group.{Group}
-use Rattle.snippet_model.specs.declared.snippet.Id.{Id}
-use Rattle.snippet_model.specs.declared.snippet.Patch.{Patch}
-use Rattle.snippet_model.specs.declared.snippet.Snippet.{Snippet}
-use Rattle.snippet_model.specs.declared.snippet.Title.{Title}
 use Rattle.snippet_parts.specs.Numbered.{numbered_source}
-use Rattle.snippet_shown.specs.LineFeeds.{picture_of, with_line_feeds_shown}
-use Rattle.snippet_splice.specs.Edits.{Edit}
-use Rattle.snippet_splice.specs.ShownText.{without_final_line_feeds}
-use Rattle.snippet_suggest.specs.Given.{trimmed_of}
-use Rattle.snippet_suggest.specs.Kind.{is_blank_text}
-use Rattle.snippet_text.specs.Normalized.{norm, normalized_chars}
-use Rattle.snippet_text.specs.Width.{width_of}
-use Rattle.snippet_text_form.specs.Cause.{further_indent, is_labelled, named_spans, span_text}
-use Rattle.snippet_text_form.specs.Form.{FormPiece, form_text}
-use Rattle.snippet_text_form.specs.HeadingForm.{before_id, before_name, heading_form, heading_label, id_label, label_of_id}
-use Rattle.snippet_text_form.specs.Lines.{added_words, edit_line, heading_paragraph, line_paragraph, lines_after, lines_of_paragraphs}
-use Rattle.snippet_text_form.specs.Lines.{option_lines, span_lines, suggestion_paragraphs}
-use Rattle.snippet_text_form.specs.Position.{place, place_in_file}
-use Rattle.snippet_text_form.specs.Suggestion.{added_text, before_added, edit_indent, edit_place, named_path}
-use Rattle.snippet_text_form.specs.declared.heading.HeadingKind.{HeadingKind}
 use Rattle.snippet_text_form.specs.declared.heading.HeadingKind.TheVariants as kind
-use Rattle.snippet_text_form.specs.declared.suggestion.SuggestionContext.{SuggestionContext}
-use Rattle.snippet_text_form.specs.declared.suggestion.SuggestionSettings.{SuggestionSettings}
-use Rattle.snippet_text_form.proofs.CauseLemmas.{All-named_spans}
-use Rattle.snippet_text_form.proofs.LineLaws.{IsTextOf, cause-text, heading-text, lines-of_text, no_text, origin-text, suggestion-text}
-use Rattle.snippet_text_form.proofs.LineLaws.{text-append, text-each}
-use Rattle.snippet_text_form.proofs.PlaceParts.{PathIs, before_added-each, before_id-each, before_name-each, decimal-each, edit_indent-each}
-use Rattle.snippet_text_form.proofs.PlaceParts.{edit_place-each, further_indent-each, is_odd, known-each, place-each, place_in_file-each}
-use Rattle.snippet_text_form.proofs.PlaceParts.{span_text-each}
-use Rattle.snippet_titles.specs.HeadingRows.{colon_of, heading_lines, is_set, shown_text}
-use Rattle.annotate_snippets.specs.ElementContext.{drawn_elements, file_of_group, first_two_share, path_bytes}
-use Rattle.annotate_snippets.specs.Walk.{is_drawn}
-use Rattle.annotate_snippets.specs.Laws.Feeds.{HasOneLineTexts, text_lines}
-use Rattle.annotate_snippets.specs.Laws.TextLines.{element_paragraphs, elements_paragraphs, group_paragraphs, report_paragraphs, title_paragraphs}
-use Rattle.annotate_snippets.specs.TextForm.{PreviousSuggestion, before_next, element_form, elements_form, group_form, suggestion_place}
-use Rattle.annotate_snippets.specs.TextForm.{suggestion_settings, text_form}
-use Rattle.annotate_snippets.specs.declared.renderer.Renderer.{Renderer}
+use Rattle.snippet_text_form.proofs.PlaceParts.{place-each}
+use Rattle.snippet_titles.specs.HeadingRows.{shown_text}
 use Rattle.annotate_snippets.proofs.FormSteps.{title_form}
 use Rattle.annotate_snippets.proofs.HeadingFeedLaws.{IsOneLineHeading, parts_plain}
 use Rattle.annotate_snippets.proofs.OneLineTexts.{IsNoFeed, IsOneLineElement, IsOneLineGroup, IsOneLineId, IsOneLineLabel, IsOneLineText, IsOneLineTitle}

@@ -1,47 +1,20 @@
 -- The texts that are woven of a report's text form show it.
-use Rattle.std.proofs.Common.{◌≡◌, ◌∙◌, ℕ, ◌==◌, Bool, true, false, not, Option, None, Some, List, [], ◌∷◌, ◌++◌, cond, if◌then◌else◌, refl}
-use Rattle.std.proofs.Common.{sym, ap, subst}
-use Rattle.std.specs.List.{All, AllZip, filter, flat_map, list_any}
-use Rattle.std.specs.Option.{option_to_list}
-use Rattle.std.proofs.lemmas.List.{append-nil}
-use Rattle.std.proofs.lemmas.List.Elements.{All-nil, All-head, All-tail, All-append, All-filter}
-use Rattle.std.proofs.lemmas.Grind.{flat_map-append}
-use Rattle.snippet_grid.specs.Woven.{IsWoven}
-use Rattle.snippet_style.specs.declared.stylesheet.Stylesheet.{Stylesheet}
-use Rattle.snippet_grid.proofs.WovenLemmas.{plain_woven}
-use Rattle.snippet_model.specs.Heading.{Heading, heading_of_message, heading_of_title}
-use Rattle.snippet_model.specs.Trusted.{trusted_of_element, trusted_of_title, trusted_texts}
-use Rattle.snippet_model.specs.declared.snippet.Element.{Element}
-use Rattle.snippet_model.specs.declared.snippet.Element.TheVariants.{Message, Cause, Suggestion, Origin, Padding}
-use Rattle.snippet_model.specs.declared.snippet.Group.{Group}
-use Rattle.snippet_model.specs.declared.snippet.Title.{Title}
+use Rattle.annotate_snippets.proofs.Common.{◌≡◌, ◌∙◌, ℕ, ◌==◌, Bool, true, false, not, Option, None, Some, List, [], ◌∷◌, ◌++◌}
+use Rattle.annotate_snippets.proofs.Common.{cond, if◌then◌else◌, refl, sym, ap, subst, AllZip, filter, flat_map, list_any, option_to_list, append-nil}
+use Rattle.annotate_snippets.proofs.Common.{All-nil, All-head, All-tail, All-append, All-filter, flat_map-append, IsWoven, Stylesheet, plain_woven, Heading}
+use Rattle.annotate_snippets.proofs.Common.{heading_of_message, heading_of_title, trusted_of_element, trusted_of_title, trusted_texts, Element, Message, Cause}
+use Rattle.annotate_snippets.proofs.Common.{Suggestion, Origin, Padding, Group, Title, id_links, cause_form, FormPiece, begun_after, form_bytes, form_text}
+use Rattle.annotate_snippets.proofs.Common.{plain_from, form_links, piece_links, heading_form, StandInOrder, origin_form, suggestion_form, HeadingKind}
+use Rattle.annotate_snippets.proofs.Common.{cause-free, heading-free, origin-free, suggestion-free, cause-links, heading-links, origin-links, suggestion-links}
+use Rattle.annotate_snippets.proofs.Common.{cause-holds, heading_stays, plain-append, stand-append, drawn_elements, file_of_group, first_two_share, LawsIn}
+use Rattle.annotate_snippets.proofs.Common.{TextLaws, IsTextUnder, is_drawn, TextShown, IsFreeBut, report_links, PreviousSuggestion, before_next, element_form}
+use Rattle.annotate_snippets.proofs.Common.{element_texts, elements_form, group_form, group_texts, report_texts, suggestion_place, suggestion_settings}
+use Rattle.annotate_snippets.proofs.Common.{text_form, whole_text, Renderer, Text, AllZip-weaker}
+use Rattle.std.specs.List.{All}
 use Rattle.snippet_titles.specs.HeadingRows.{shown_text}
-use Rattle.snippet_titles.specs.Title.{id_links}
-use Rattle.snippet_text_form.specs.Cause.{cause_form}
-use Rattle.snippet_text_form.specs.Form.{FormPiece, begun_after, form_bytes, form_text, plain_from}
-use Rattle.snippet_text_form.specs.FormLinks.{form_links, piece_links}
-use Rattle.snippet_text_form.specs.HeadingForm.{heading_form}
-use Rattle.snippet_text_form.specs.TextOrder.{StandInOrder}
-use Rattle.snippet_text_form.specs.Suggestion.{origin_form, suggestion_form}
-use Rattle.snippet_text_form.specs.declared.heading.HeadingKind.{HeadingKind}
 use Rattle.snippet_text_form.specs.declared.heading.HeadingKind.TheVariants as kind
-use Rattle.snippet_text_form.proofs.FreeLaws.{cause-free, heading-free, origin-free, suggestion-free}
-use Rattle.snippet_text_form.proofs.LinkLaws.{cause-links, heading-links, origin-links, suggestion-links}
-use Rattle.snippet_text_form.proofs.OrderLaws.{cause-holds, heading_stays, plain-append, stand-append}
-use Rattle.annotate_snippets.specs.ElementContext.{drawn_elements, file_of_group, first_two_share}
-use Rattle.annotate_snippets.specs.Laws.Forms.{LawsIn, TextLaws}
-use Rattle.annotate_snippets.specs.WithLaws.{IsTextUnder}
-use Rattle.annotate_snippets.specs.Walk.{is_drawn}
-use Rattle.annotate_snippets.specs.Forms.{TextShown}
-use Rattle.annotate_snippets.specs.Laws.Free.{IsFreeBut}
-use Rattle.annotate_snippets.specs.ShownPage.{report_links}
-use Rattle.annotate_snippets.specs.TextForm.{PreviousSuggestion, before_next, element_form, element_texts, elements_form, group_form, group_texts, report_texts}
-use Rattle.annotate_snippets.specs.TextForm.{suggestion_place, suggestion_settings, text_form, whole_text}
-use Rattle.annotate_snippets.specs.declared.renderer.Renderer.{Renderer}
-use Rattle.annotate_snippets.specs.declared.renderer.form.Form.TheVariants.{Text}
 use Rattle.annotate_snippets.proofs.FormSteps.{title_form}
 use Rattle.annotate_snippets.proofs.TextParagraphLaws.{paragraph_lines}
-use Rattle.snippet_model.proofs.ZipLemmas.{AllZip-weaker}
 use Rattle.annotate_snippets.proofs.ReportTexts.{free_first, free_rest, links_of_titles, title_links, trusted_of}
 use Rattle.annotate_snippets.proofs.TrustedLemmas.{AreTextsAmong, IsTrusted, message_among, own_text, texts_among, title_among, unlisted_text}
 

@@ -1,34 +1,15 @@
 -- No row of a title that begins with a word begins with a number.
-use Rattle.std.proofs.Common.{◌≡◌, ℕ, zero, suc, ◌+◌, ◌<◌, ◌≤◌, ◌==◌, ◌||◌, not, Bool, true, false, cond, Option, Some, List, [], ◌∷◌, ◌++◌, All, chars, get_or}
-use Rattle.std.proofs.Common.{length, map, replicate, take, refl, sym, ap, subst, ◌∙◌, arith}
-use Rattle.std.specs.Char.{is_ascii_alphanumeric, is_ascii_digit}
-use Rattle.std.specs.Int.{is_in_range}
-use Rattle.std.specs.List.{slice_index_or}
-use Rattle.std.proofs.lemmas.List.{append_assoc}
-use Rattle.std.proofs.lemmas.List.Elements.{All-append, All-cons, All-from_get_or, All-nil}
-use Rattle.snippet_grid.specs.Print.{row_text}
-use Rattle.snippet_model.specs.Heading.{Heading, heading_of_title, is_hidden}
-use Rattle.snippet_model.specs.Level.{name_of}
-use Rattle.snippet_model.specs.FreeRows.{HasNoNumber}
-use Rattle.snippet_model.specs.declared.snippet.Title.{Title}
-use Rattle.snippet_style.specs.Cell.{Cell, SPACE}
-use Rattle.snippet_text.specs.Normalized.{norm}
-use Rattle.snippet_titles.specs.HeadingRows.{colon_of, heading_lines, id_text, heading_label_text, label_width, roles_of}
-use Rattle.snippet_titles.proofs.TextLemmas.{row_text-label}
-use Rattle.snippet_titles.specs.declared.style.HeadingRoles.{HeadingRoles}
+use Rattle.annotate_snippets.proofs.Common.{◌≡◌, ℕ, zero, suc, ◌+◌, ◌<◌, ◌≤◌, ◌==◌, ◌||◌, not, Bool, true, false, cond, Option}
+use Rattle.annotate_snippets.proofs.Common.{Some, List, [], ◌∷◌, ◌++◌, All, get_or, length, map, replicate, take, refl, sym, ap, subst, ◌∙◌}
+use Rattle.annotate_snippets.proofs.Common.{arith, is_ascii_alphanumeric, is_ascii_digit, is_in_range, slice_index_or, append_assoc, All-append, All-cons}
+use Rattle.annotate_snippets.proofs.Common.{All-from_get_or, All-nil, row_text, Heading, heading_of_title, is_hidden, name_of, HasNoNumber, Title, Cell, SPACE}
+use Rattle.annotate_snippets.proofs.Common.{norm, colon_of, heading_lines, id_text, heading_label_text, label_width, roles_of, row_text-label, HeadingRoles}
+use Rattle.annotate_snippets.proofs.Common.{width_of, texts_below, closing_row-unnumbered, separator_row-unnumbered, IsTitleOfWords, begins_with_number}
+use Rattle.annotate_snippets.proofs.Common.{begins_with_word, rows_after_title, ShowsTitlePart, Renderer, Layout, GroupPosition, Next, closing_row}
+use Rattle.annotate_snippets.proofs.Common.{separator_row}
+use Rattle.std.proofs.Common.{chars}
 use Rattle.snippet_titles.specs.declared.style.TitleStyle.TheVariants as style
-use Rattle.snippet_text.specs.Width.{width_of}
-use Rattle.snippet_titles.specs.ShownHeading.{texts_below}
-use Rattle.snippet_titles.proofs.OriginNumbers.{closing_row-unnumbered, separator_row-unnumbered}
-use Rattle.annotate_snippets.specs.Laws.Numbers.{IsTitleOfWords, begins_with_number, begins_with_word}
-use Rattle.annotate_snippets.specs.RowsWithoutSource.{rows_after_title}
-use Rattle.annotate_snippets.specs.Laws.Titles.{ShowsTitlePart}
-use Rattle.annotate_snippets.specs.declared.renderer.Renderer.{Renderer}
-use Rattle.snippet_grid.specs.Layout.{Layout}
-use Rattle.annotate_snippets.specs.declared.renderer.element_context.GroupPosition.{GroupPosition}
-use Rattle.annotate_snippets.specs.declared.renderer.element_context.Next.{Next}
 use Rattle.annotate_snippets.proofs.HeadingShown.{texts_of}
-use Rattle.snippet_style.specs.Separators.{closing_row, separator_row}
 
 -- a character that is neither a space nor a digit begins no number
 no_number : (space digit rest : Bool) → not (space || digit) ≡ true → cond space rest digit ≡ false

@@ -1,34 +1,15 @@
 -- Each listed character of a group's rows is one of a trusted text.
-use Rattle.std.proofs.Common.{◌≡◌, ℕ, Bool, true, false, Option, None, Some, List, [], ◌∷◌, ◌++◌, chars, if◌then◌else◌, refl, sym, subst}
-use Rattle.std.specs.List.{All, Contains, flat_map}
-use Rattle.std.specs.Option.{option_to_list}
-use Rattle.std.specs.Cow.{cow_str_bytes}
-use Rattle.std.proofs.lemmas.List.Elements.{All-nil, All-cons, All-head, All-tail, All-append, All-map, All-weaker, Contains-append_left, Contains-append_right}
-use Rattle.std.proofs.lemmas.Grind.{flat_map-append}
-use Rattle.snippet_text.specs.Normalized.{is_listed}
-use Rattle.snippet_model.specs.FreeRows.{IsFree, IsFreeCell}
-use Rattle.snippet_style.specs.Cell.{Cell}
-use Rattle.snippet_grid.specs.Print.{row_text, further_text, plain_text}
-use Rattle.snippet_model.specs.declared.snippet.Element.{Element}
-use Rattle.snippet_model.specs.declared.snippet.Element.TheVariants.{Message, Cause, Suggestion, Origin, Padding}
+use Rattle.annotate_snippets.proofs.Common.{◌≡◌, ℕ, Bool, true, false, Option, None, Some, List, [], ◌∷◌, ◌++◌, if◌then◌else◌, refl}
+use Rattle.annotate_snippets.proofs.Common.{sym, subst, Contains, flat_map, option_to_list, cow_str_bytes, All-nil, All-cons, All-head, All-tail, All-append}
+use Rattle.annotate_snippets.proofs.Common.{All-map, All-weaker, Contains-append_left, Contains-append_right, flat_map-append, is_listed, IsFree, IsFreeCell}
+use Rattle.annotate_snippets.proofs.Common.{Cell, row_text, further_text, plain_text, Element, Message, Cause, Suggestion, Origin, Padding, Title, Heading}
+use Rattle.annotate_snippets.proofs.Common.{heading_of_message, heading_of_title, trusted_of_element, trusted_of_title, IsFreeButText, title_rows}
+use Rattle.annotate_snippets.proofs.Common.{heading_rows-free, closing_row-free, separator_row-free, is_before_message, NamedRow, cells_of, rows_after_title}
+use Rattle.annotate_snippets.proofs.Common.{title_part, IsFreeBut, IsFreeElement, Renderer, Layout, GroupPosition, Next, closing_row, separator_row}
+use Rattle.std.proofs.Common.{chars}
+use Rattle.std.specs.List.{All}
 use Rattle.snippet_model.specs.declared.snippet.Message.{Message as MessageGiven}
-use Rattle.snippet_model.specs.declared.snippet.Title.{Title}
-use Rattle.snippet_model.specs.Heading.{Heading, heading_of_message, heading_of_title}
-use Rattle.snippet_model.specs.Trusted.{trusted_of_element, trusted_of_title}
-use Rattle.snippet_titles.specs.ShownHeading.{IsFreeButText}
-use Rattle.snippet_titles.specs.PrintedHeading.{title_rows}
 use Rattle.snippet_titles.specs.declared.style.TitleStyle.TheVariants as style
-use Rattle.snippet_titles.proofs.FreeLemmas.{heading_rows-free}
-use Rattle.snippet_titles.proofs.OriginFree.{closing_row-free, separator_row-free}
-use Rattle.annotate_snippets.specs.ElementContext.{is_before_message}
-use Rattle.annotate_snippets.specs.Page.{NamedRow, cells_of}
-use Rattle.annotate_snippets.specs.RowsWithoutSource.{rows_after_title, title_part}
-use Rattle.annotate_snippets.specs.Laws.Free.{IsFreeBut, IsFreeElement}
-use Rattle.annotate_snippets.specs.declared.renderer.Renderer.{Renderer}
-use Rattle.snippet_grid.specs.Layout.{Layout}
-use Rattle.annotate_snippets.specs.declared.renderer.element_context.GroupPosition.{GroupPosition}
-use Rattle.annotate_snippets.specs.declared.renderer.element_context.Next.{Next}
-use Rattle.snippet_style.specs.Separators.{closing_row, separator_row}
 
 -- a character that isn't listed, or is one of a trusted text
 abbrev pub IsTrusted : List (List ℕ) → ℕ → Type 0

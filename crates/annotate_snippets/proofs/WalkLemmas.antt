@@ -1,15 +1,8 @@
 -- What a walk over some elements or groups knows of those that it hasn't met yet.
-use Rattle.std.proofs.Common.{◌≡◌, ◌≢◌, ℕ, ◌+◌, ◌<◌, ◌≤◌, ◌∙◌, List, Option, Some, None, length, drop, get_or, sym, ap, refl}
-use Rattle.std.specs.List.{cons_option, filter_map, slice_get}
-use Rattle.std.specs.Option.{option_flatten}
-use Rattle.std.proofs.lemmas.List.{drop_more, drop_all}
-use Rattle.snippet_model.specs.declared.snippet.Element.{Element}
-use Rattle.snippet_model.specs.declared.snippet.Element.TheVariants.{Message, Cause, Suggestion, Origin, Padding}
-use Rattle.snippet_model.specs.declared.snippet.Annotation.{Annotation}
+use Rattle.annotate_snippets.proofs.Common.{◌≡◌, ◌≢◌, ℕ, ◌+◌, ◌<◌, ◌≤◌, ◌∙◌, List, Option, Some, None, length, drop, get_or}
+use Rattle.annotate_snippets.proofs.Common.{sym, ap, refl, cons_option, filter_map, slice_get, option_flatten, drop_more, drop_all, Element, Message, Cause}
+use Rattle.annotate_snippets.proofs.Common.{Suggestion, Origin, Padding, Annotation, Snippet, Group, file_of_element, primary_path}
 use Rattle.snippet_model.specs.declared.snippet.Origin.{Origin as PlaceGiven}
-use Rattle.snippet_model.specs.declared.snippet.Snippet.{Snippet}
-use Rattle.snippet_model.specs.declared.snippet.Group.{Group}
-use Rattle.annotate_snippets.specs.ElementContext.{file_of_element, primary_path}
 
 -- what the rest of a list gives, one item on
 pub filter_map-rest : {X Y : Type 0} (h : X → Option Y) (xs : List X) (i : ℕ) (x : X) → i < length xs → x ≡ get_or xs i x

@@ -1,20 +1,8 @@
 -- The greatest of what some elements want: as wide a gutter as any of them, as many bars as stand beside any of them.
-use Rattle.std.proofs.Common.{◌≡◌, ℕ, ◌+◌, ◌<◌, ◌&&◌, max, fold, map, take, Bool, true, false, cond, List, [], ◌∷◌, ◌++◌, length, get_or, refl, sym, ap, ◌∙◌}
-use Rattle.std.proofs.Common.{arith}
-use Rattle.std.specs.List.{filter, flat_map}
-use Rattle.std.specs.Fmt.{decimal}
-use Rattle.std.proofs.lemmas.Grind.{flat_map-append}
-use Rattle.std.proofs.lemmas.List.{append-nil, take_more}
-use Rattle.std.proofs.lemmas.List.Folds.{fold-map}
-use Rattle.std.proofs.lemmas.List.Sums.{fold-append, fold_more}
-use Rattle.snippet_model.specs.declared.snippet.Element.{Element}
-use Rattle.snippet_model.specs.declared.snippet.Element.TheVariants.{Message, Cause, Suggestion, Origin, Padding}
-use Rattle.snippet_suggest.specs.Given.{counted_line}
-use Rattle.annotate_snippets.specs.Walk.{is_drawn}
-use Rattle.annotate_snippets.specs.Gutter.{depth_of_element, width_wanted}
-use Rattle.annotate_snippets.specs.PreparedReport.{IsGroupPrepared, element_of}
-use Rattle.annotate_snippets.specs.declared.renderer.preprocess.PreparedElement.{PreparedElement}
-use Rattle.annotate_snippets.specs.declared.renderer.preprocess.PreparedGroup.{PreparedGroup}
+use Rattle.annotate_snippets.proofs.Common.{◌≡◌, ℕ, ◌+◌, ◌<◌, ◌&&◌, max, fold, map, take, Bool, true, false, cond, List, [], ◌∷◌}
+use Rattle.annotate_snippets.proofs.Common.{◌++◌, length, get_or, refl, sym, ap, ◌∙◌, arith, filter, flat_map, decimal, flat_map-append, append-nil}
+use Rattle.annotate_snippets.proofs.Common.{take_more, fold-map, fold-append, fold_more, Element, Message, Cause, Suggestion, Origin, Padding, counted_line}
+use Rattle.annotate_snippets.proofs.Common.{is_drawn, depth_of_element, width_wanted, IsGroupPrepared, element_of, PreparedElement, PreparedGroup}
 
 -- the greater of a number and of what an element wants
 abbrev pub greater : (Element → ℕ) → ℕ → Element → ℕ

@@ -1,17 +1,9 @@
 -- Woven texts that are joined by line feeds are woven.
-use Rattle.std.proofs.Common.{◌≡◌, ℕ, false, List, [], ◌∷◌, ◌++◌, lit<, refl, sym, ap, ◌∙◌, subst}
-use Rattle.std.specs.List.{AllZip, flat_map, join_with_byte}
-use Rattle.std.proofs.lemmas.List.{append-nil}
-use Rattle.std.proofs.lemmas.List.Elements.{All-nil, All-append, All-cons}
-use Rattle.std.proofs.lemmas.Grind.{flat_map-append}
-use Rattle.std.proofs.lemmas.Str.{encode_ascii}
-use Rattle.snippet_grid.specs.Print.{plain_text}
-use Rattle.snippet_grid.specs.Woven.{Piece, Char, piece_text, plain_piece, piece_link, IsOfSheet, IsWoven, links_of}
-use Rattle.snippet_style.specs.declared.stylesheet.Stylesheet.{Stylesheet}
-use Rattle.snippet_grid.proofs.WovenLemmas.{IsWoven-from_prints}
-use Rattle.annotate_snippets.specs.Page.{PrintsPage, group_rows, page_text}
+use Rattle.annotate_snippets.proofs.Common.{◌≡◌, ℕ, false, List, [], ◌∷◌, ◌++◌, lit<, refl, sym, ap, ◌∙◌, subst, AllZip, flat_map}
+use Rattle.annotate_snippets.proofs.Common.{join_with_byte, append-nil, All-nil, All-append, All-cons, flat_map-append, encode_ascii, plain_text, Piece, Char}
+use Rattle.annotate_snippets.proofs.Common.{piece_text, plain_piece, piece_link, IsOfSheet, IsWoven, links_of, Stylesheet, IsWoven-from_prints, PrintsPage}
+use Rattle.annotate_snippets.proofs.Common.{group_rows, page_text, ended-append}
 use Rattle.annotate_snippets.proofs.PageWords.{Page, PrintsPart}
-use Rattle.snippet_grid.proofs.WovenLemmas.{ended-append}
 
 -- no text is woven
 pub IsWoven-nil : (sheet : Stylesheet) → IsWoven sheet [] [] []

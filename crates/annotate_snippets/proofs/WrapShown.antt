@@ -1,48 +1,18 @@
 -- A report whose titles and messages are wrapped: what it has in common with the one in whose place it is shown, and what follows of its texts.
-use Rattle.std.proofs.Common.{◌≡◌, ◌∙◌, ℕ, ◌+◌, ◌-◌, ◌≤◌, Bool, true, false, List, [], ◌∷◌, Option, None, Some, All, fold, if◌then◌else◌, max}
-use Rattle.std.proofs.Common.{◌⊎◌, refl, sym, ap, ap₂, subst, chars, arith}
-use Rattle.std.proofs.lemmas.Bool.{false≢true}
-use Rattle.std.proofs.lemmas.List.Elements.{All-weaker}
-use Rattle.std.specs.Cow.{cow_str_bytes}
-use Rattle.std.specs.List.{AllZip, Contains, flat_map}
-use Rattle.std.specs.declared.alloc.Global.{Global}
-use Rattle.std.specs.declared.borrow.CowStr.{CowStr}
-use Rattle.snippet_model.proofs.ZipLemmas.{AllZip-weaker}
-use Rattle.snippet_model.specs.Fits.{ElementFits, GroupFits, ReportFits, TitleFits}
-use Rattle.snippet_model.specs.Heading.{heading_of_message, heading_of_title}
-use Rattle.snippet_model.specs.Same.{SameOption}
-use Rattle.snippet_model.specs.Trusted.{trusted_of_element, trusted_of_title}
-use Rattle.snippet_model.specs.declared.level.Level.{Level}
-use Rattle.snippet_model.specs.declared.snippet.Element.{Element}
-use Rattle.snippet_model.specs.declared.snippet.Element.TheVariants.{Message, Cause, Suggestion, Origin, Padding}
-use Rattle.snippet_model.specs.declared.snippet.Group.{Group}
-use Rattle.snippet_model.specs.declared.snippet.Id.{Id}
+use Rattle.annotate_snippets.proofs.Common.{◌≡◌, ◌∙◌, ℕ, ◌+◌, ◌-◌, ◌≤◌, Bool, true, false, List, [], ◌∷◌, Option, None, Some}
+use Rattle.annotate_snippets.proofs.Common.{All, fold, if◌then◌else◌, max, ◌⊎◌, refl, sym, ap, ap₂, subst, arith, false≢true, All-weaker}
+use Rattle.annotate_snippets.proofs.Common.{cow_str_bytes, AllZip, Contains, flat_map, Global, CowStr, AllZip-weaker, ElementFits, GroupFits, ReportFits}
+use Rattle.annotate_snippets.proofs.Common.{TitleFits, heading_of_message, heading_of_title, SameOption, trusted_of_element, trusted_of_title, Level, Element}
+use Rattle.annotate_snippets.proofs.Common.{Message, Cause, Suggestion, Origin, Padding, Group, Id, Title, message-within, title-within, wrapped-chars}
+use Rattle.annotate_snippets.proofs.Common.{wrapped-laws, IsGroupMasked, IsElementAsSet, IsGroupAsSet, IsTitleAsSet, IsElementWrapped, IsGroupWrapped}
+use Rattle.annotate_snippets.proofs.Common.{IsTextWrapped, IsTitleWrapped, room_of_message, room_of_title, IsElementWrappable, letters_of, IsGroupTaken, Stays}
+use Rattle.annotate_snippets.proofs.Common.{IsElementWithContext, IsGroupWithContext, AreRowsWithin, AreWithin, IsRewrapped, lines_in, width_of}
+use Rattle.annotate_snippets.proofs.Common.{heading_label_text, label_width, heading_texts, id_links, MessageContext, IsRemade, IsStep, adds_context, wraps}
+use Rattle.annotate_snippets.proofs.Common.{is_drawn, element_faults, gutter_of_report, width_wanted, HasOneLineTexts, AreRewrapped, IsElementRewrapped}
+use Rattle.annotate_snippets.proofs.Common.{IsGroupRewrapped, IsTextRewrapped, IsTitleRewrapped, Renderer, Form}
+use Rattle.std.proofs.Common.{chars}
 use Rattle.snippet_model.specs.declared.snippet.Message as message
-use Rattle.snippet_model.specs.declared.snippet.Title.{Title}
-use Rattle.snippet_shown.proofs.DrawnLemmas.{message-within, title-within}
-use Rattle.snippet_shown.proofs.WrapLemmas.{wrapped-chars, wrapped-laws}
-use Rattle.snippet_shown.specs.AsMasked.{IsGroupMasked}
-use Rattle.snippet_shown.specs.AsSet.{IsElementAsSet, IsGroupAsSet, IsTitleAsSet}
-use Rattle.snippet_shown.specs.AsWrapped.{IsElementWrapped, IsGroupWrapped, IsTextWrapped, IsTitleWrapped, room_of_message, room_of_title}
-use Rattle.snippet_shown.specs.Asked.{IsElementWrappable}
-use Rattle.snippet_shown.specs.Letters.{letters_of}
-use Rattle.snippet_shown.specs.Remade.{IsGroupTaken, Stays}
-use Rattle.snippet_shown.specs.WithContext.{IsElementWithContext, IsGroupWithContext}
-use Rattle.snippet_shown.specs.WrapLaws.{AreRowsWithin, AreWithin, IsRewrapped, lines_in}
-use Rattle.snippet_text.specs.Width.{width_of}
-use Rattle.snippet_titles.specs.HeadingRows.{heading_label_text, label_width}
-use Rattle.snippet_titles.specs.ShownHeading.{heading_texts}
-use Rattle.snippet_titles.specs.Title.{id_links}
-use Rattle.snippet_titles.specs.declared.style.MessageContext.{MessageContext}
 use Rattle.snippet_titles.specs.declared.style.TitleStyle.TheVariants as style
-use Rattle.annotate_snippets.specs.AsSet.{IsRemade, IsStep, adds_context, wraps}
-use Rattle.annotate_snippets.specs.Walk.{is_drawn}
-use Rattle.annotate_snippets.specs.Fault.{element_faults}
-use Rattle.annotate_snippets.specs.Gutter.{gutter_of_report, width_wanted}
-use Rattle.annotate_snippets.specs.Laws.Feeds.{HasOneLineTexts}
-use Rattle.annotate_snippets.specs.Laws.Wrapped.{AreRewrapped, IsElementRewrapped, IsGroupRewrapped, IsTextRewrapped, IsTitleRewrapped}
-use Rattle.annotate_snippets.specs.declared.renderer.Renderer.{Renderer}
-use Rattle.annotate_snippets.specs.declared.renderer.form.Form.{Form}
 use Rattle.annotate_snippets.proofs.OneLineTexts.{IsOneLineElement, IsOneLineId, IsOneLineName}
 use Rattle.annotate_snippets.proofs.PairedLemmas.{compose, flat-zip}
 use Rattle.annotate_snippets.proofs.RemadeLemmas.{IsFaithful, IsTextOf, line-made, text-own}

@@ -1,39 +1,14 @@
 -- What a writer holds once a report was to be written to it, a group at a time.
-use Rattle.std.proofs.Common.{◌≡◌, ◌⊎◌, ℕ, suc, ◌+◌, ◌<◌, ◌≤◌, ◌==◌, Bool, true, false, List, [], ◌∷◌, ◌++◌, Option, refl, alloc_error}
-use Rattle.std.proofs.Common.{sym, ap, ◌∙◌}
-use Rattle.std.proofs.Common.{subst, inl, inr, arith, length, take, cond}
-use Rattle.std.specs.Io.KnownBytes.{Appends}
-use Rattle.std.specs.List.{AllZip, flat_map, join_with_byte}
+use Rattle.annotate_snippets.proofs.Common.{◌≡◌, ◌⊎◌, ℕ, suc, ◌+◌, ◌<◌, ◌≤◌, ◌==◌, Bool, true, false, List, [], ◌∷◌}
+use Rattle.annotate_snippets.proofs.Common.{◌++◌, Option, refl, alloc_error, sym, ap, ◌∙◌, subst, inl, inr, arith, length, take, cond, Appends}
+use Rattle.annotate_snippets.proofs.Common.{AllZip, flat_map, join_with_byte, IfErr, OnOk, Appends-nil, Appends-trans, take-append-add, take-append_seam}
+use Rattle.annotate_snippets.proofs.Common.{append_assoc, append-nil, length-append, take-append-le, nat_tests, AllZip-long, piece_text, WeavesRows}
+use Rattle.annotate_snippets.proofs.Common.{Prints-from_pieces, Group, AllZip-last, Cell, LevelInner, Stylesheet, zip_append, graphic_form, IsTextUnder}
+use Rattle.annotate_snippets.proofs.Common.{PageLaws, held, GroupPage, PrintsPage, group_rows, Stops, Takes, AddsGroup, IsStop, IsTextIn, PrintsGroup, ShowsIn}
+use Rattle.annotate_snippets.proofs.Common.{StopsAtGroup, WritesGroup, WritesPart, WritesText, blames_writer, is_write, Renderer, Memory, Graphic, ReportWriter}
+use Rattle.annotate_snippets.proofs.Common.{RenderToError, Refused}
 use Rattle.std.specs.Prelude.{Result, Ok, Err}
-use Rattle.std.specs.Result.{IfErr, OnErr, OnOk}
-use Rattle.std.proofs.KnownBytes.{Appends-nil, Appends-trans}
-use Rattle.std.proofs.Math.Seq.{take-append-add, take-append_seam}
-use Rattle.std.proofs.lemmas.List.{append_assoc, append-nil, length-append, take-append-le}
-use Rattle.std.proofs.lemmas.Bool.Decides.{nat_tests}
-use Rattle.std.proofs.lemmas.Slice.Zip.{AllZip-long}
-use Rattle.snippet_grid.specs.Woven.{piece_text}
-use Rattle.snippet_grid.specs.Weaving.{WeavesRows}
-use Rattle.snippet_grid.proofs.PrintsPieces.{Prints-from_pieces}
-use Rattle.snippet_model.specs.declared.snippet.Group.{Group}
-use Rattle.snippet_model.proofs.ZipLemmas.{AllZip-last}
-use Rattle.snippet_style.specs.Cell.{Cell}
-use Rattle.snippet_style.specs.declared.role.LevelInner.{LevelInner}
-use Rattle.snippet_style.specs.declared.stylesheet.Stylesheet.{Stylesheet}
-use Rattle.snippet_suggest.proofs.BodyLaws.{zip_append}
-use Rattle.annotate_snippets.specs.GraphicForm.{graphic_form}
-use Rattle.annotate_snippets.specs.WithLaws.{IsTextUnder}
-use Rattle.annotate_snippets.specs.Laws.Page.{PageLaws}
-use Rattle.annotate_snippets.specs.Lent.{held}
-use Rattle.annotate_snippets.specs.Page.{GroupPage, PrintsPage, group_rows}
-use Rattle.annotate_snippets.specs.PageSink.{Stops, Takes}
-use Rattle.annotate_snippets.specs.Written.{AddsGroup, IsStop, IsTextIn, PrintsGroup, ShowsIn, StopsAtGroup, WritesGroup, WritesPart, WritesText, blames_writer}
-use Rattle.annotate_snippets.specs.Written.{is_write}
-use Rattle.annotate_snippets.specs.declared.renderer.Renderer.{Renderer}
-use Rattle.annotate_snippets.specs.declared.renderer.error.RenderError.TheVariants.{Memory}
-use Rattle.annotate_snippets.specs.declared.renderer.form.Form.TheVariants.{Graphic}
-use Rattle.annotate_snippets.specs.declared.renderer.report_writer.ReportWriter.{ReportWriter}
-use Rattle.annotate_snippets.specs.declared.renderer.to_writer.RenderToError.{RenderToError}
-use Rattle.annotate_snippets.specs.declared.renderer.to_writer.RenderToError.TheVariants.{Refused}
+use Rattle.std.specs.Result.{OnErr}
 use Rattle.annotate_snippets.proofs.FormsShown.{page-law}
 use Rattle.annotate_snippets.proofs.PageWords.{Page, PrintsPart}
 use Rattle.annotate_snippets.proofs.PrintedText.{texts_of_page}

@@ -1,12 +1,11 @@
 -- A row of cells that is added to a grid, as runs.
-use Rattle.std.proofs.Common.{◌≡◌, ℕ, ◌+◌, ◌-◌, ◌<◌, ◌≤◌, List, [], ◌∷◌, ◌++◌, length, map, take, drop, get_or, refl, sym, ap, ◌∙◌, arith, inl, inr, subst}
-use Rattle.std.proofs.Common.{All}
-use Rattle.std.specs.List.{range_with_len}
-use Rattle.std.proofs.lemmas.Bool.{cases_eq, cases_lt}
-use Rattle.std.proofs.lemmas.List.{append-nil, append_assoc, drop_all, ext_get_or, get_or-drop, get_or-map, get_or-take, get_or_append_left, get_or_default}
-use Rattle.std.proofs.lemmas.List.{get_or_past, get_or_push, length-drop, length-map, length-take, length_push, same_lists, take_all}
-use Rattle.std.proofs.lemmas.List.Elements.{All-append, All-nil, All-push}
-use Rattle.std.proofs.lemmas.List.FromFn.{get_or-map-range_with_len, length-map-range_with_len}
+use Rattle.snippet_grid.proofs.Common.{◌≡◌, ℕ, ◌+◌, ◌-◌, ◌<◌, ◌≤◌, List, [], ◌∷◌, ◌++◌, length, map, take, drop, get_or}
+use Rattle.snippet_grid.proofs.Common.{refl, sym, ap, ◌∙◌, arith, inl, inr, subst, All, range_with_len, cases_eq, cases_lt, append-nil, append_assoc}
+use Rattle.snippet_grid.proofs.Common.{drop_all, ext_get_or, get_or-drop, get_or-map, get_or-take, get_or_append_left, get_or_default, get_or_past, get_or_push}
+use Rattle.snippet_grid.proofs.Common.{length-drop, length-map, length-take, length_push, same_lists, take_all, All-append, All-nil, All-push}
+use Rattle.snippet_grid.proofs.Common.{get_or-map-range_with_len, length-map-range_with_len, AddsRow, AddsStretch, RowAt, row_at, BeginsWith, Differ, EndsBy}
+use Rattle.snippet_grid.proofs.Common.{FitIn, IsGrid, IsRow, IsRun, cells_to, grid_shown, run_cell, shown_cell, cell_of, ch_of, Run, StyledChar, Cell, SPACE}
+use Rattle.snippet_grid.proofs.Common.{MainHeaderMsg}
 use Rattle.snippet_grid.proofs.CopyLemmas.{shown_past}
 use Rattle.snippet_grid.proofs.GridChanged.{IsExchanged, IsGrid-put, put_elsewhere}
 use Rattle.snippet_grid.proofs.GridShown.{count_shown, row_shown, same_row}
@@ -14,15 +13,6 @@ use Rattle.snippet_grid.proofs.PutLemmas.{IsRow-added}
 use Rattle.snippet_grid.proofs.RowPut.{put_shows}
 use Rattle.snippet_grid.proofs.ShownLemmas.{AddsRun-pushed, All-IsRun-grown, cell_same, holds_before, holds_inside, painted-append}
 use Rattle.snippet_grid.proofs.ShownLemmas.{painted-grown, pick}
-use Rattle.snippet_grid.specs.AddedRow.{AddsRow, AddsStretch}
-use Rattle.snippet_grid.specs.Changes.{RowAt}
-use Rattle.snippet_grid.specs.Grid.{row_at}
-use Rattle.snippet_grid.specs.Runs.{BeginsWith, Differ, EndsBy, FitIn, IsGrid, IsRow, IsRun, cells_to, grid_shown, run_cell, shown_cell}
-use Rattle.snippet_grid.specs.StyledChars.{cell_of, ch_of}
-use Rattle.snippet_grid.specs.declared.runs.Run.{Run}
-use Rattle.snippet_grid.specs.declared.styled_char.StyledChar.{StyledChar}
-use Rattle.snippet_style.specs.Cell.{Cell, SPACE}
-use Rattle.snippet_style.specs.declared.role.ElementStyle.TheVariants.{MainHeaderMsg}
 
 -- what the code reads past the last one, which it never does
 abbrev pub FIRST : StyledChar

@@ -1,12 +1,9 @@
 -- Lemmas on lists and grids in which some elements were changed.
-use Rattle.std.proofs.Common.{◌≡◌, ◌≢◌, ℕ, ◌+◌, ◌-◌, ◌<◌, ◌≤◌, max, min, List, [], ◌++◌, length, map, take, drop, set, get_or, sym, ap, ◌∙◌, arith, inl, inr}
-use Rattle.std.proofs.Common.{subst}
-use Rattle.std.proofs.lemmas.List.{places, same_lists, get_or-map, get_or_past, get_or-set_same, get_or-set_other, set-get_or, length-map, length-set}
-use Rattle.std.proofs.lemmas.Bool.{cases_lt, cases_eq}
+use Rattle.snippet_grid.proofs.Common.{◌≡◌, ◌≢◌, ℕ, ◌+◌, ◌-◌, ◌<◌, ◌≤◌, max, min, List, [], ◌++◌, length, map, take, drop}
+use Rattle.snippet_grid.proofs.Common.{set, get_or, sym, ap, ◌∙◌, arith, inl, inr, subst, places, same_lists, get_or-map, get_or_past, get_or-set_same}
+use Rattle.snippet_grid.proofs.Common.{get_or-set_other, set-get_or, length-map, length-set, cases_lt, cases_eq, row_at, changed_within, cells_changed}
+use Rattle.snippet_grid.proofs.Common.{ChangesCells, Cell, SPACE}
 use Rattle.std.specs.List.{slice_index_or}
-use Rattle.snippet_grid.specs.Grid.{row_at, changed_within}
-use Rattle.snippet_grid.specs.Calls.{cells_changed, ChangesCells}
-use Rattle.snippet_style.specs.Cell.{Cell, SPACE}
 
 -- a list keeps its length
 pub length-changed_within : {X : Type 0} (f : X → X) (start end : ℕ) (xs : List X) → length (changed_within f start end xs) ≡ length xs

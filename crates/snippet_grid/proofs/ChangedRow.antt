@@ -1,16 +1,12 @@
 -- A row whose cells are changed part by part.
-use Rattle.std.proofs.Common.{◌≡◌, ◌≢◌, ℕ, ◌*◌, ◌+◌, ◌-◌, ◌<◌, ◌≤◌, List, length, get_or, refl, sym, ap, ◌∙◌, arith, inl, inr, All}
-use Rattle.std.proofs.lemmas.Bool.{cases_lt, cases_eq}
+use Rattle.snippet_grid.proofs.Common.{◌≡◌, ◌≢◌, ℕ, ◌*◌, ◌+◌, ◌-◌, ◌<◌, ◌≤◌, List, length, get_or, refl, sym, ap, ◌∙◌}
+use Rattle.snippet_grid.proofs.Common.{arith, inl, inr, All, cases_lt, cases_eq, changed_by, IsChanged, IsBlankRun, IsPartOfRow, ShowsSpan, Cell, SPACE, IsRun}
+use Rattle.snippet_grid.proofs.Common.{IsRow, IsPart, IsPut, BeginsWith, EndsBy, Precedes, run_cell, shown_cell, Change, Run}
 use Rattle.snippet_grid.proofs.CopyLemmas.{piece_cell}
 use Rattle.snippet_grid.proofs.RowWoven.{painted_unheld, shown_cell-run}
 use Rattle.snippet_grid.proofs.ShownLemmas.{pick, painted-grown, holds_inside, holds_elsewhere, holds_before, holds-after}
 use Rattle.snippet_grid.proofs.SpanLemmas.{within_yes, within_before, within_after, span_joined}
 use Rattle.snippet_grid.proofs.StretchLemmas.{BeginsWith-same, BeginsWith-trans}
-use Rattle.snippet_grid.specs.Changes.{changed_by, IsChanged, IsBlankRun, IsPartOfRow, ShowsSpan}
-use Rattle.snippet_style.specs.Cell.{Cell, SPACE}
-use Rattle.snippet_grid.specs.Runs.{IsRun, IsRow, IsPart, IsPut, BeginsWith, EndsBy, Precedes, run_cell, shown_cell}
-use Rattle.snippet_grid.specs.declared.change.Change.{Change}
-use Rattle.snippet_grid.specs.declared.runs.Run.{Run}
 
 -- the first cells of a stretch, cut from the run that holds them
 pub part_held : (text : List ℕ) (runs : List Run) (part : Run) (d : Run) (row from to end n : ℕ) → IsRow text row runs → n < length runs

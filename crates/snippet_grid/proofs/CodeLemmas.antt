@@ -1,23 +1,12 @@
 -- Codes of which one more is made.
-use Rattle.std.proofs.Common.{◌≡◌, inl, inr, ℕ, ◌<◌, Bool, true, false, if◌then◌else◌, List, [], ◌∷◌, ◌++◌, Option, None, Some, IfSome}
-use Rattle.std.proofs.Common.{get_or, length, map, refl, sym, ap}
-use Rattle.std.proofs.Common.{◌∙◌, arith, append-nil, encode_utf8_all}
+use Rattle.snippet_grid.proofs.Common.{◌≡◌, inl, inr, ℕ, ◌<◌, Bool, true, false, if◌then◌else◌, List, [], ◌∷◌, ◌++◌, Option, None}
+use Rattle.snippet_grid.proofs.Common.{Some, IfSome, get_or, length, map, refl, sym, ap, ◌∙◌, arith, encode_utf8_all, cases_eq, get_or-set_same}
+use Rattle.snippet_grid.proofs.Common.{get_or-set_other, length-set, get_or_default, get_or-map, AreOpenings, opening_bytes, style_at, styles_in, usual_bytes}
+use Rattle.snippet_grid.proofs.Common.{UsualCode, code, color_code, effect_code, effect_codes, reset, is_plain_style, no_effects, plain_style, Color, Effects}
+use Rattle.snippet_grid.proofs.Common.{encode-opening, reset-bytes, bold-alone, plain_is_plain, Style, Stylesheet}
+use Rattle.std.proofs.Common.{append-nil}
 use Rattle.std.proofs.Math.ListN.{set}
-use Rattle.std.proofs.lemmas.Bool.{cases_eq}
-use Rattle.std.proofs.lemmas.List.{get_or-set_same, get_or-set_other, length-set, get_or_default, get_or-map}
-use Rattle.snippet_grid.specs.SheetCodes.{AreOpenings, opening_bytes, style_at, styles_in}
-use Rattle.snippet_grid.specs.UsualCodes.{usual_bytes}
-use Rattle.snippet_grid.specs.declared.usual_codes.UsualCode.{UsualCode}
 use Rattle.std.specs.Prelude.{codes}
-use Rattle.snippet_style.specs.Codes.{code, color_code, effect_code, effect_codes, reset}
-use Rattle.snippet_style.specs.Style.{is_plain_style, no_effects, plain_style}
-use Rattle.snippet_style.specs.declared.style.Color.{Color}
-use Rattle.snippet_style.specs.declared.style.Effects.{Effects}
-use Rattle.snippet_style.proofs.CodeLemmas.{encode-opening, reset-bytes}
-use Rattle.snippet_style.proofs.CodeSteps.{bold-alone}
-use Rattle.snippet_style.proofs.StyleLemmas.{plain_is_plain}
-use Rattle.snippet_style.specs.declared.style.Style.{Style}
-use Rattle.snippet_style.specs.declared.stylesheet.Stylesheet.{Stylesheet}
 use Rattle.snippet_grid.proofs.WeaveLemmas.{some_same}
 
 -- the code that opens the style at a place is kept

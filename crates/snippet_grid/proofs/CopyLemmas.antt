@@ -1,20 +1,15 @@
 -- Runs that are copied, cut and moved.
-use Rattle.std.proofs.Common.{◌≡◌, ℕ, ◌+◌, ◌-◌, ◌<◌, ◌≤◌, List, [], ◌∷◌, ◌++◌, length, take, drop, get_or, refl, sym, ap, ◌∙◌, arith, Bool, true, false, inl}
-use Rattle.std.proofs.Common.{inr, subst, All, nat_lt, nat_le, min, max}
-use Rattle.std.proofs.lemmas.List.{take_more, get_or_default, get_or-take, get_or-drop}
-use Rattle.std.proofs.lemmas.Bool.{cases_lt, cases_eq, and_from, and_left, and_right, le-leb, lt-leb, lt-ltb, le-ltb}
+use Rattle.snippet_grid.proofs.Common.{◌≡◌, ℕ, ◌+◌, ◌-◌, ◌<◌, ◌≤◌, List, [], ◌∷◌, ◌++◌, length, take, drop, get_or, refl}
+use Rattle.snippet_grid.proofs.Common.{sym, ap, ◌∙◌, arith, Bool, true, false, inl, inr, subst, All, nat_lt, nat_le, min, max, take_more, get_or_default}
+use Rattle.snippet_grid.proofs.Common.{get_or-take, get_or-drop, cases_lt, cases_eq, and_from, and_left, and_right, le-leb, lt-leb, lt-ltb, le-ltb}
+use Rattle.snippet_grid.proofs.Common.{option_copied, num_touched, Cell, SPACE, IsRun, IsPart, BeginsWith, ShowsMore, ShowsCopy, AddsRun, IsRow, EndsBy}
+use Rattle.snippet_grid.proofs.Common.{Precedes, run_bytes, run_chars, run_cell, holds, painted_over, shown_cell, Run}
 use Rattle.std.specs.Bool.{if◌then◌else◌}
 use Rattle.std.specs.Prelude.{◌&&◌}
-use Rattle.std.specs.Option.{option_copied}
 use Rattle.std.specs.Str.{chars}
 use Rattle.snippet_grid.proofs.RunLemmas.{run_bytes-grown}
 use Rattle.snippet_grid.proofs.StretchLemmas.{BeginsWith-same, BeginsWith-trans}
 use Rattle.snippet_grid.proofs.ShownLemmas.{painted-append, All-tail, pick, cell_same, holds_inside, holds_elsewhere, holds_before, holds-after}
-use Rattle.snippet_grid.specs.Changes.{num_touched}
-use Rattle.snippet_style.specs.Cell.{Cell, SPACE}
-use Rattle.snippet_grid.specs.Runs.{IsRun, IsPart, BeginsWith, ShowsMore, ShowsCopy, AddsRun, IsRow, EndsBy, Precedes, run_bytes, run_chars, run_cell, holds}
-use Rattle.snippet_grid.specs.Runs.{painted_over, shown_cell}
-use Rattle.snippet_grid.specs.declared.runs.Run.{Run}
 
 -- whether a cell is among those that are copied
 abbrev pub is_copied : ℕ → ℕ → ℕ → ℕ → Bool

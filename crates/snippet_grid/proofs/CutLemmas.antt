@@ -1,15 +1,12 @@
 -- A text cut after its first characters.
-use Rattle.std.proofs.Common.{◌≡◌, ℕ, ◌+◌, ◌-◌, ◌<◌, ◌≤◌, true, List, ◌++◌, length, take, drop, sym, ap, ◌∙◌, subst, arith, chars, encode_utf8, encode_utf8_all}
+use Rattle.snippet_grid.proofs.Common.{◌≡◌, ℕ, ◌+◌, ◌-◌, ◌<◌, ◌≤◌, true, List, ◌++◌, length, take, drop, sym, ap, ◌∙◌}
+use Rattle.snippet_grid.proofs.Common.{subst, arith, encode_utf8, encode_utf8_all, is_utf8, option_copied, encodes-chars, encodes-append, length-le-encodes}
+use Rattle.snippet_grid.proofs.Common.{IsUtf8-take, IsUtf8-append, IsUtf8-from_is_utf8, is_utf8-from_IsUtf8, places, same_lists, take-append-drop, drop-take}
+use Rattle.snippet_grid.proofs.Common.{take-take, length-append, length-take-le, length-drop, IsRun, IsPart, run_bytes, run_chars, Run, bytes_of}
+use Rattle.std.proofs.Common.{chars}
 use Rattle.std.proofs.Common.{IsUtf8}
-use Rattle.std.specs.Str.{is_utf8}
-use Rattle.std.specs.Option.{option_copied}
-use Rattle.std.proofs.lemmas.Str.{encodes-chars, encodes-append, length-le-encodes, IsUtf8-take, IsUtf8-append, IsUtf8-from_is_utf8, is_utf8-from_IsUtf8}
-use Rattle.std.proofs.lemmas.List.{places, same_lists, take-append-drop, drop-take, take-take, length-append, length-take-le, length-drop}
 use Rattle.snippet_grid.proofs.StretchLemmas.{stretch, length-stretch_of}
 use Rattle.snippet_grid.proofs.RunLemmas.{IsUtf8-run_bytes}
-use Rattle.snippet_grid.specs.Runs.{IsRun, IsPart, run_bytes, run_chars}
-use Rattle.snippet_grid.specs.declared.runs.Run.{Run}
-use Rattle.snippet_style.specs.Cell.{bytes_of}
 pub use Rattle.snippet_style.proofs.CutLemmas.{text_parts, cut_boundary, cut_front, cut_back, bytes-push, IsNext, take-next, drop-next, bytes_within}
 pub use Rattle.snippet_style.proofs.CutLemmas.{bytes_next}
 

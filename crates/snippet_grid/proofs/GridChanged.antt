@@ -1,9 +1,8 @@
 -- The rows of cells that runs show, after cells of a row were changed.
-use Rattle.std.proofs.Common.{◌≡◌, ◌≢◌, ℕ, ◌<◌, List, [], ◌++◌, length, take, drop, get_or, refl, sym, ap, ◌∙◌, arith, false, inl, inr, subst, All, min, Result}
-use Rattle.std.proofs.Common.{OnOk}
-use Rattle.std.proofs.lemmas.List.{same_lists, get_or_default}
-use Rattle.std.proofs.lemmas.Bool.{cases_lt, cases_eq}
-use Rattle.std.proofs.lemmas.Result.{on_ok_weaker}
+use Rattle.snippet_grid.proofs.Common.{◌≡◌, ◌≢◌, ℕ, ◌<◌, List, [], ◌++◌, length, take, drop, get_or, refl, sym, ap, ◌∙◌, arith}
+use Rattle.snippet_grid.proofs.Common.{false, inl, inr, subst, All, min, Result, OnOk, same_lists, get_or_default, cases_lt, cases_eq, on_ok_weaker, RowAt}
+use Rattle.snippet_grid.proofs.Common.{ShowsSpan, is_within, row_at, cell_at, cells_changed, ChangesCells, Cell, SPACE, IsRun, IsRow, IsGrid, BeginsWith}
+use Rattle.snippet_grid.proofs.Common.{EndsBy, FitIn, shown_cell, grid_shown, Run}
 use Rattle.std.specs.Bool.{if◌then◌else◌}
 use Rattle.snippet_grid.proofs.ChangeLemmas.{ChangesCells-cells_changed, ChangesCells-from_equal}
 use Rattle.snippet_grid.proofs.GridShown.{count_shown, width_shown, cell_shown, same_row}
@@ -12,12 +11,6 @@ use Rattle.snippet_grid.proofs.RowPut.{row_shows, put_shows, put_others}
 use Rattle.snippet_grid.proofs.ShownLemmas.{pick, painted-grown}
 use Rattle.snippet_grid.proofs.SpanLemmas.{within_yes, within_before, within_after}
 use Rattle.snippet_grid.proofs.StretchLemmas.{stretch}
-use Rattle.snippet_grid.specs.Changes.{RowAt, ShowsSpan, is_within}
-use Rattle.snippet_grid.specs.Grid.{row_at, cell_at}
-use Rattle.snippet_grid.specs.Calls.{cells_changed, ChangesCells}
-use Rattle.snippet_style.specs.Cell.{Cell, SPACE}
-use Rattle.snippet_grid.specs.Runs.{IsRun, IsRow, IsGrid, BeginsWith, EndsBy, FitIn, shown_cell, grid_shown}
-use Rattle.snippet_grid.specs.declared.runs.Run.{Run}
 
 -- grids whose rows have the same cells are one
 pub same_rows : (old a b : List (List Cell)) (row : ℕ) → length a ≡ length b → length (row_at a row) ≡ length (row_at b row)

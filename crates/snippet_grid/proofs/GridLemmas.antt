@@ -1,13 +1,8 @@
 -- Rows that are written.
-use Rattle.std.proofs.Common.{◌≡◌, ◌≢◌, ℕ, ◌+◌, List, [], ◌∷◌, ◌++◌, length, refl, sym, ap, ◌∙◌, arith, inl, inr, subst}
-use Rattle.std.proofs.lemmas.List.{get_or_past, get_or_push}
-use Rattle.std.proofs.lemmas.Bool.{cases_lt}
+use Rattle.snippet_grid.proofs.Common.{◌≡◌, ◌≢◌, ℕ, ◌+◌, List, [], ◌∷◌, ◌++◌, length, refl, sym, ap, ◌∙◌, arith, inl, inr}
+use Rattle.snippet_grid.proofs.Common.{subst, get_or_past, get_or_push, cases_lt, length-written, slice_index_or-written_before, slice_index_or-written_inside}
+use Rattle.snippet_grid.proofs.Common.{slice_index_or-written_after, written_end, written_last, Cell, SPACE, written, row_at, cells_written, WritesCells}
 use Rattle.std.specs.List.{slice_index_or}
-use Rattle.snippet_style.proofs.CellLemmas.{length-written, slice_index_or-written_before, slice_index_or-written_inside, slice_index_or-written_after}
-use Rattle.snippet_style.proofs.CellLemmas.{written_end, written_last}
-use Rattle.snippet_style.specs.Cell.{Cell, SPACE, written}
-use Rattle.snippet_grid.specs.Grid.{row_at, cells_written}
-use Rattle.snippet_grid.specs.Calls.{WritesCells}
 
 -- writing below all rows appends one
 pub cells_written_below : (rows : List (List Cell)) (at : ℕ) (cells : List Cell)

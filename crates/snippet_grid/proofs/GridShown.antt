@@ -1,25 +1,15 @@
 -- The rows of cells that runs show, and what a run over others writes there.
-use Rattle.std.proofs.Common.{◌≡◌, ◌^◌, ℕ, ◌+◌, ◌-◌, ◌<◌, ◌≤◌, max, List, [], ◌∷◌, ◌++◌, length, map, take, get_or, refl, sym, ap, ◌∙◌, arith, false, inl, inr}
-use Rattle.std.proofs.Common.{subst, All, None, Result, Ok, Err, OnErr, encode_utf8, encode_utf8_all}
-use Rattle.std.proofs.lemmas.List.{append-nil, same_lists, get_or_default, get_or_past, nil_from_length}
-use Rattle.std.proofs.lemmas.List.FromFn.{length-map-range_with_len, get_or-map-range_with_len}
-use Rattle.std.proofs.lemmas.Bool.{cases_lt, cases_eq}
-use Rattle.std.proofs.lemmas.Str.{encodes-chars, chars_from_encodes}
-use Rattle.std.specs.List.{range_with_len}
-use Rattle.std.specs.Option.{option_copied}
-use Rattle.std.specs.Str.{chars, is_utf8, IsUtf8}
+use Rattle.snippet_grid.proofs.Common.{◌≡◌, ◌^◌, ℕ, ◌+◌, ◌-◌, ◌<◌, ◌≤◌, max, List, [], ◌∷◌, ◌++◌, length, map, take}
+use Rattle.snippet_grid.proofs.Common.{get_or, refl, sym, ap, ◌∙◌, arith, false, inl, inr, subst, All, None, Result, Ok, Err, OnErr, encode_utf8}
+use Rattle.snippet_grid.proofs.Common.{encode_utf8_all, append-nil, same_lists, get_or_default, get_or_past, nil_from_length, length-map-range_with_len}
+use Rattle.snippet_grid.proofs.Common.{get_or-map-range_with_len, cases_lt, cases_eq, encodes-chars, chars_from_encodes, range_with_len, option_copied, is_utf8}
+use Rattle.snippet_grid.proofs.Common.{IsUtf8, length-text_cells, slice_index_or-text_cells, row_at, cell_at, cells_written, WritesCells, Cell, SPACE}
+use Rattle.snippet_grid.proofs.Common.{text_cells, IsRun, BeginsWith, ShowsMore, FitIn, IsGrid, IsWord, IsWidened, run_bytes, run_chars, run_cell, holds}
+use Rattle.snippet_grid.proofs.Common.{painted_over, shown_cell, grid_shown, ElementStyle, Run}
+use Rattle.std.specs.Str.{chars}
 use Rattle.snippet_grid.proofs.GridLemmas.{WritesCells-cells_written}
-use Rattle.snippet_style.proofs.CellLemmas.{length-text_cells, slice_index_or-text_cells}
 use Rattle.snippet_grid.proofs.StretchLemmas.{stretch, stretch_added, BeginsWith-append, BeginsWith-le, IsUtf8-stretch, front_grown, is_utf8-end}
 use Rattle.snippet_grid.proofs.ShownLemmas.{All-tail, pick, cell_same, painted-grown, All-IsRun-grown, holds_inside, holds_elsewhere, holds_before, holds-after}
-use Rattle.snippet_grid.specs.Grid.{row_at, cell_at, cells_written}
-use Rattle.snippet_grid.specs.Calls.{WritesCells}
-use Rattle.snippet_style.specs.Cell.{Cell, SPACE, text_cells}
-use Rattle.snippet_grid.specs.Runs.{IsRun, BeginsWith, ShowsMore, FitIn, IsGrid, IsWord, IsWidened, run_bytes, run_chars, run_cell, holds, painted_over}
-use Rattle.snippet_grid.specs.Runs.{shown_cell}
-use Rattle.snippet_grid.specs.Runs.{grid_shown}
-use Rattle.snippet_style.specs.declared.role.ElementStyle.{ElementStyle}
-use Rattle.snippet_grid.specs.declared.runs.Run.{Run}
 
 -- a shown grid has a row for each width
 pub count_shown : (text : List ℕ) (runs : List Run) (widths : List ℕ) → length (grid_shown text runs widths) ≡ length widths

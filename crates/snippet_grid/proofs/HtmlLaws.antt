@@ -1,29 +1,16 @@
 -- The laws of a grid's rows as HTML: read as HTML, the text is the plain text of the rows; its tags are its own; and each character
 -- stands in the class of its cell's role, and in the link of the cell.
-use Rattle.std.proofs.Common.{◌≡◌, ℕ, Bool, true, ◌&&◌, if◌then◌else◌, nat_eq, List, [], ◌∷◌, ◌++◌, refl, sym, ap, ◌∙◌, inl, inr}
-use Rattle.std.proofs.lemmas.Bool.{and_parts, cases_Bool}
-use Rattle.std.proofs.lemmas.List.{append_assoc}
-use Rattle.std.proofs.lemmas.Grind.{flat_map-append}
-use Rattle.std.specs.Cmp.Lexicographic.{same_text}
-use Rattle.std.specs.List.{flat_map, list_all}
+use Rattle.snippet_grid.proofs.Common.{◌≡◌, ℕ, Bool, true, ◌&&◌, if◌then◌else◌, nat_eq, List, [], ◌∷◌, ◌++◌, refl, sym, ap}
+use Rattle.snippet_grid.proofs.Common.{◌∙◌, inl, inr, and_parts, cases_Bool, append_assoc, flat_map-append, same_text, flat_map, list_all, HtmlLook}
+use Rattle.snippet_grid.proofs.Common.{HtmlPiece, Text, SpanStart, SpanEnd, AnchorStart, AnchorEnd, anchor_ended, anchor_started, tags_between, cells_html}
+use Rattle.snippet_grid.proofs.Common.{class_of, ended, further_html, level_class, html_look_of, plain_look, row_html, rows_html, same_html_look, span_ended}
+use Rattle.snippet_grid.proofs.Common.{span_started, started, ReadChar, chars_of_cells, chars_of_rows, feed_read, further_text, plain_text, row_text, Cell}
+use Rattle.snippet_grid.proofs.Common.{ElementStyle, MainHeaderMsg, HeaderMsg, LineAndColumn, Quotation, NoStyle, LineNumber, UnderlinePrimary, LabelPrimary}
+use Rattle.snippet_grid.proofs.Common.{UnderlineSecondary, LabelSecondary, Level, Addition, Removal, LevelInner, Error, Warning, Info, Note, Help}
 use Rattle.std.specs.Str.{chars}
 use lib.Pointwise.{pointwise}
 use Rattle.snippet_grid.proofs.HtmlLemmas.{look_is}
 use Rattle.snippet_grid.proofs.HtmlReads.{is_class, is_made, piece_says}
-use Rattle.snippet_grid.specs.Html.{HtmlLook, HtmlPiece, Text, SpanStart, SpanEnd, AnchorStart, AnchorEnd, anchor_ended, anchor_started}
-use Rattle.snippet_grid.specs.Html.{tags_between, cells_html, class_of, ended}
-use Rattle.snippet_grid.specs.Html.{further_html, level_class, html_look_of, plain_look, row_html, rows_html, same_html_look, span_ended}
-use Rattle.snippet_grid.specs.Html.{span_started}
-use Rattle.snippet_grid.specs.Html.{started}
-use Rattle.snippet_grid.specs.HtmlRead.{ReadChar, chars_of_cells, chars_of_rows, feed_read}
-use Rattle.snippet_grid.specs.Print.{further_text, plain_text, row_text}
-use Rattle.snippet_style.specs.Cell.{Cell}
-use Rattle.snippet_style.specs.declared.role.ElementStyle.{ElementStyle}
-use Rattle.snippet_style.specs.declared.role.ElementStyle.TheVariants.{MainHeaderMsg, HeaderMsg, LineAndColumn, Quotation, NoStyle, LineNumber}
-use Rattle.snippet_style.specs.declared.role.ElementStyle.TheVariants.{UnderlinePrimary, LabelPrimary, UnderlineSecondary, LabelSecondary, Level, Addition}
-use Rattle.snippet_style.specs.declared.role.ElementStyle.TheVariants.{Removal}
-use Rattle.snippet_style.specs.declared.role.LevelInner.{LevelInner}
-use Rattle.snippet_style.specs.declared.role.LevelInner.TheVariants.{Error, Warning, Info, Note, Help}
 
 -- ---- the text
 

@@ -1,21 +1,14 @@
 -- How a text in HTML grows by a stretch of cells, by a row's end and by a row.
-use Rattle.std.proofs.Common.{◌≡◌, ◌==◌, ℕ, zero, suc, replicate, ◌<◌, Bool, true, false, codes, ◌&&◌, if◌then◌else◌, nat_eq, List, [], ◌∷◌, ◌++◌, length}
-use Rattle.std.proofs.Common.{Option, map, refl, sym, ap, ◌∙◌, arith, encode_utf8, encode_utf8_all}
-use Rattle.std.proofs.lemmas.List.{append_assoc, append-nil}
-use Rattle.std.proofs.lemmas.Grind.{flat_map-append}
-use Rattle.std.proofs.lemmas.Bool.{false≢true}
-use Rattle.std.proofs.lemmas.Str.{encodes-append, encodes-chars}
-use Rattle.std.proofs.lemmas.Cmp.{nat_list_eq_equiv}
-use Rattle.std.specs.Str.{IsUtf8, chars}
+use Rattle.snippet_grid.proofs.Common.{◌≡◌, ◌==◌, ℕ, zero, suc, replicate, ◌<◌, Bool, true, false, codes, ◌&&◌, if◌then◌else◌, nat_eq}
+use Rattle.snippet_grid.proofs.Common.{List, [], ◌∷◌, ◌++◌, length, Option, map, refl, sym, ap, ◌∙◌, arith, encode_utf8, encode_utf8_all}
+use Rattle.snippet_grid.proofs.Common.{append_assoc, append-nil, flat_map-append, false≢true, encodes-append, encodes-chars, nat_list_eq_equiv, IsUtf8}
+use Rattle.snippet_grid.proofs.Common.{AddsHtml, AnchorStart, HtmlLook, HtmlPiece, SpanStart, Text, anchor_started, tags_between, cells_html, ended, escape}
+use Rattle.snippet_grid.proofs.Common.{escaped, further_html, html_bytes, span_started, html_text, look_at, piece_html, row_html, rows_html, same_html_look}
+use Rattle.snippet_grid.proofs.Common.{started, Cell, ElementStyle, LevelInner}
+use Rattle.std.specs.Str.{chars}
 use lib.Pointwise.{pointwise}
 use Rattle.snippet_grid.proofs.StretchPrinted.{alike, space_bytes}
 use Rattle.snippet_grid.proofs.WeaveLemmas.{Url}
-use Rattle.snippet_grid.specs.Html.{AddsHtml, AnchorStart, HtmlLook, HtmlPiece, SpanStart, Text, anchor_started, tags_between, cells_html, ended}
-use Rattle.snippet_grid.specs.Html.{escape, escaped, further_html, html_bytes, span_started}
-use Rattle.snippet_grid.specs.Html.{html_text, look_at, piece_html, row_html, rows_html, same_html_look, started}
-use Rattle.snippet_style.specs.Cell.{Cell}
-use Rattle.snippet_style.specs.declared.role.ElementStyle.{ElementStyle}
-use Rattle.snippet_style.specs.declared.role.LevelInner.{LevelInner}
 
 -- ---- texts
 

@@ -1,12 +1,10 @@
 -- What a text in HTML reads as: piece by piece, without tags and with escapes undone, it is the characters of its pieces; and its tags
 -- are those of its pieces.
-use Rattle.std.proofs.Common.{◌≡◌, ℕ, Bool, true, false, not, ◌&&◌, if◌then◌else◌, nat_eq, List, [], ◌∷◌, ◌++◌, None, Some, codes, refl, sym, ap, ◌∙◌}
-use Rattle.std.proofs.lemmas.Bool.{and_parts, eqb-true, false≢true}
-use Rattle.std.proofs.lemmas.List.{append_assoc, append-nil}
-use Rattle.std.specs.List.{flat_map, list_all}
+use Rattle.snippet_grid.proofs.Common.{◌≡◌, ℕ, Bool, true, false, not, ◌&&◌, if◌then◌else◌, nat_eq, List, [], ◌∷◌, ◌++◌, None, Some}
+use Rattle.snippet_grid.proofs.Common.{codes, refl, sym, ap, ◌∙◌, and_parts, eqb-true, false≢true, append_assoc, append-nil, flat_map, list_all}
+use Rattle.snippet_grid.proofs.Common.{HtmlPiece, Text, SpanStart, SpanEnd, AnchorStart, AnchorEnd, escape, escaped, html_text, piece_html, html_says}
+use Rattle.snippet_grid.proofs.Common.{piece_tag, tags_of, unescaped, without_tags}
 use Rattle.std.specs.Str.{chars}
-use Rattle.snippet_grid.specs.Html.{HtmlPiece, Text, SpanStart, SpanEnd, AnchorStart, AnchorEnd, escape, escaped, html_text, piece_html}
-use Rattle.snippet_grid.specs.HtmlRead.{html_says, piece_tag, tags_of, unescaped, without_tags}
 
 -- ---- characters that a text lacks
 

@@ -1,23 +1,15 @@
 -- Rows that are printed as HTML run by run.
-use Rattle.std.proofs.Common.{◌≡◌, ℕ, ◌+◌, ◌-◌, ◌<◌, ◌≤◌, List, [], ◌∷◌, ◌++◌, length, map, take, get_or, replicate, None, refl, sym, ap, ◌∙◌, subst}
-use Rattle.std.proofs.Common.{arith, inl, inr, encode_utf8}
-use Rattle.std.proofs.lemmas.List.{append-nil, take_more, take_all, get_or_default, length-take, length-map, length-replicate, get_or-map, get_or-replicate}
-use Rattle.std.proofs.lemmas.Bool.{cases_lt}
-use Rattle.std.specs.Option.{option_copied}
+use Rattle.snippet_grid.proofs.Common.{◌≡◌, ℕ, ◌+◌, ◌-◌, ◌<◌, ◌≤◌, List, [], ◌∷◌, ◌++◌, length, map, take, get_or}
+use Rattle.snippet_grid.proofs.Common.{replicate, None, refl, sym, ap, ◌∙◌, subst, arith, inl, inr, encode_utf8, append-nil, take_more, take_all}
+use Rattle.snippet_grid.proofs.Common.{get_or_default, length-take, length-map, length-replicate, get_or-map, get_or-replicate, cases_lt, option_copied, row_at}
+use Rattle.snippet_grid.proofs.Common.{AddsHtml, HtmlLook, Text, tags_between, look_at, plain_look, row_html, rows_html, IsHtmlGap, IsRow, IsRun, Precedes}
+use Rattle.snippet_grid.proofs.Common.{cells_to, grid_shown, run_chars, Run, Cell, SPACE, NoStyle, LevelInner}
 use Rattle.snippet_grid.proofs.GridShown.{count_shown}
 use Rattle.snippet_grid.proofs.HtmlLemmas.{HtmlGoes, adds_both, adds_line_feed, html_stretch, rows_html-more}
 use Rattle.snippet_grid.proofs.RowWoven.{cells_more, shown_cell-run, shown_gap}
 use Rattle.snippet_grid.proofs.RowsWoven.{cells_of_row}
 use Rattle.snippet_grid.proofs.StretchLemmas.{stretch}
 use Rattle.snippet_grid.proofs.StretchPrinted.{alike}
-use Rattle.snippet_grid.specs.Grid.{row_at}
-use Rattle.snippet_grid.specs.Html.{AddsHtml, HtmlLook, Text, tags_between, look_at, plain_look, row_html, rows_html}
-use Rattle.snippet_grid.specs.HtmlLooks.{IsHtmlGap}
-use Rattle.snippet_grid.specs.Runs.{IsRow, IsRun, Precedes, cells_to, grid_shown, run_chars}
-use Rattle.snippet_grid.specs.declared.runs.Run.{Run}
-use Rattle.snippet_style.specs.Cell.{Cell, SPACE}
-use Rattle.snippet_style.specs.declared.role.ElementStyle.TheVariants.{NoStyle}
-use Rattle.snippet_style.specs.declared.role.LevelInner.{LevelInner}
 
 -- ---- a row
 

@@ -1,12 +1,9 @@
 -- What each character of a text in HTML stands in, as it is read: what it stands in by the pieces of the text.
-use Rattle.std.proofs.Common.{◌≡◌, ℕ, Bool, true, false, not, ◌&&◌, if◌then◌else◌, nat_eq, List, [], ◌∷◌, ◌++◌, None, Some, codes, refl, sym, ap, ◌∙◌, map}
-use Rattle.std.proofs.lemmas.Bool.{and_parts, eqb-true}
-use Rattle.std.proofs.lemmas.List.{append_assoc, append-nil}
-use Rattle.std.specs.List.{list_all}
+use Rattle.snippet_grid.proofs.Common.{◌≡◌, ℕ, Bool, true, false, not, ◌&&◌, if◌then◌else◌, nat_eq, List, [], ◌∷◌, ◌++◌, None, Some}
+use Rattle.snippet_grid.proofs.Common.{codes, refl, sym, ap, ◌∙◌, map, and_parts, eqb-true, append_assoc, append-nil, list_all, HtmlLook, HtmlPiece, Text}
+use Rattle.snippet_grid.proofs.Common.{SpanStart, SpanEnd, AnchorStart, AnchorEnd, escape, escaped, html_text, plain_look, CharInTags, InTags, InText, InTag}
+use Rattle.snippet_grid.proofs.Common.{InEscape, after_tag, as_read, html_reads, quoted, reads, tags_in, unescaped}
 use Rattle.std.specs.Str.{chars}
-use Rattle.snippet_grid.specs.Html.{HtmlLook, HtmlPiece, Text, SpanStart, SpanEnd, AnchorStart, AnchorEnd, escape, escaped, html_text, plain_look}
-use Rattle.snippet_grid.specs.HtmlRead.{CharInTags, InTags, InText, InTag, InEscape, after_tag, as_read, html_reads, quoted, reads, tags_in}
-use Rattle.snippet_grid.specs.HtmlRead.{unescaped}
 use Rattle.snippet_grid.proofs.HtmlLaws.{chars_read}
 use Rattle.snippet_grid.proofs.HtmlReads.{escape_by, escaped_lacks_greater, is_made, lacks, lacks-append, not_true, tag_text, undone}
 

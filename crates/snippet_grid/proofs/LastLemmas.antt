@@ -1,9 +1,6 @@
 -- A run that is put after all others.
-use Rattle.std.proofs.Common.{◌≡◌, ℕ, ◌+◌, ◌≤◌, All, List, ap, arith, get_or, inl, inr, length, set}
-use Rattle.std.proofs.lemmas.Bool.{cases_lt}
-use Rattle.std.proofs.lemmas.List.{get_or_past, get_or-set_other, get_or-set_same, length-set}
-use Rattle.snippet_grid.specs.Runs.{FitIn, IsLast, IsRun, IsWidened, Precedes}
-use Rattle.snippet_grid.specs.declared.runs.Run.{Run}
+use Rattle.snippet_grid.proofs.Common.{◌≡◌, ℕ, ◌+◌, ◌≤◌, All, List, ap, arith, get_or, inl, inr, length, set, cases_lt, get_or_past}
+use Rattle.snippet_grid.proofs.Common.{get_or-set_other, get_or-set_same, length-set, FitIn, IsLast, IsRun, IsWidened, Precedes, Run}
 
 -- each of the others stands before it
 pub last_before : (text widths : List ℕ) (runs : List Run) (run : Run) → All (λ x. IsRun text x) runs → FitIn widths runs → IsLast widths run

@@ -1,3 +1,4 @@
+pub mod Common
 pub mod AddedRows
 pub mod ChangeLemmas
 pub mod ChangedRow

@@ -1,19 +1,9 @@
 -- A row that grows by spaces and by words, and ends.
-use Rattle.std.proofs.Common.{◌≡◌, ℕ, zero, suc, ◌<◌, List, [], ◌∷◌, ◌++◌, length, replicate, Option, None, Some, refl, sym, ap, ◌∙◌, subst, string_bytes}
-use Rattle.std.proofs.Common.{encode_utf8_all}
-use Rattle.std.proofs.lemmas.List.{append_assoc, append-nil}
+use Rattle.snippet_grid.proofs.Common.{◌≡◌, ℕ, zero, suc, ◌<◌, List, [], ◌∷◌, ◌++◌, length, replicate, Option, None, Some, refl, sym, ap}
+use Rattle.snippet_grid.proofs.Common.{◌∙◌, subst, string_bytes, encode_utf8_all, append_assoc, append-nil, AddsCells, Goes, IsPrinted, PrintsStretch}
+use Rattle.snippet_grid.proofs.Common.{WeavesRow, PrintedRow, Cell, SPACE, reset, style_of, NoStyle, Style, Stylesheet}
 use Rattle.snippet_grid.proofs.StretchPrinted.{alike, stretch_printed}
 use Rattle.snippet_grid.proofs.WeaveLemmas.{row_closed}
-use Rattle.snippet_grid.specs.OpenRow.{AddsCells, Goes, IsPrinted}
-use Rattle.snippet_grid.specs.Stretch.{PrintsStretch}
-use Rattle.snippet_grid.specs.Weaving.{WeavesRow}
-use Rattle.snippet_grid.specs.declared.printed_row.PrintedRow.{PrintedRow}
-use Rattle.snippet_style.specs.Cell.{Cell, SPACE}
-use Rattle.snippet_style.specs.Codes.{reset}
-use Rattle.snippet_style.specs.Stylesheet.{style_of}
-use Rattle.snippet_style.specs.declared.role.ElementStyle.TheVariants.{NoStyle}
-use Rattle.snippet_style.specs.declared.style.Style.{Style}
-use Rattle.snippet_style.specs.declared.stylesheet.Stylesheet.{Stylesheet}
 
 -- a word in a role was added: its style is open
 pub word_added : (sheet : Stylesheet) (cells : List Cell) (old word : List ℕ) (before after : PrintedRow) (last next : Style)

@@ -1,6 +1,5 @@
 -- A result that a function returns as another gave it.
-use Rattle.std.proofs.Common.{◌≡◌, if◌then◌else◌, Result, Ok, Err, IfOk, IfSome, OnOk, OnErr, Option, None, Some}
-use Rattle.std.specs.Result.{is_ok}
+use Rattle.snippet_grid.proofs.Common.{◌≡◌, if◌then◌else◌, Result, Ok, Err, IfOk, IfSome, OnOk, OnErr, Option, None, Some, is_ok}
 
 -- a fact that holds after either answer
 pub on_either : {T E P : Type 0} (r : Result T E) → OnOk r P → OnErr r P → P

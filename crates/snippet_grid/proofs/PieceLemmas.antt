@@ -1,10 +1,10 @@
 -- What becomes of the runs that a run touches: what the first holds before it, the run, and what the last holds after.
-use Rattle.std.proofs.Common.{◌≡◌, ℕ, suc, ◌+◌, ◌-◌, ◌<◌, ◌≤◌, List, [], ◌∷◌, ◌++◌, length, take, drop, set, get_or, refl, sym, ap, ◌∙◌, arith, false, inl, inr}
-use Rattle.std.proofs.Common.{subst, All, if◌then◌else◌}
-use Rattle.std.proofs.lemmas.List.{places, same_lists, take_all, take_more, get_or_default, get_or-take, get_or-drop, get_or-set_same, get_or-set_other}
-use Rattle.std.proofs.lemmas.List.{length-set, length-drop}
-use Rattle.std.proofs.lemmas.List.Elements.{All-cons, All-nil}
-use Rattle.std.proofs.lemmas.Bool.{cases_lt, cases_eq, true≢false}
+use Rattle.snippet_grid.proofs.Common.{◌≡◌, ℕ, suc, ◌+◌, ◌-◌, ◌<◌, ◌≤◌, List, [], ◌∷◌, ◌++◌, length, take, drop, set}
+use Rattle.snippet_grid.proofs.Common.{get_or, refl, sym, ap, ◌∙◌, arith, false, inl, inr, subst, All, if◌then◌else◌, places, same_lists, take_all}
+use Rattle.snippet_grid.proofs.Common.{take_more, get_or_default, get_or-take, get_or-drop, get_or-set_same, get_or-set_other, length-set, length-drop}
+use Rattle.snippet_grid.proofs.Common.{All-cons, All-nil, cases_lt, cases_eq, true≢false, Cell, SPACE, IsRun, IsRow, IsPart, BeginsWith, ShowsMore, AddsRun}
+use Rattle.snippet_grid.proofs.Common.{EndsBy, Precedes, Differ, Continues, Touches, IsClear, IsJoined, AreTouchedRuns, IsFront, IsBack, ArePieces, IsPut}
+use Rattle.snippet_grid.proofs.Common.{run_chars, run_cell, holds, painted_over, shown_cell, Run}
 use Rattle.snippet_grid.proofs.ShownLemmas.{painted-append, run_cell-grown, ShowsMore-joined, AddsRun-joined, pick, cell_same, holds_inside, holds_elsewhere}
 use Rattle.snippet_grid.proofs.ShownLemmas.{AddsRun-pushed, ShowsMore-pushed}
 use Rattle.snippet_grid.proofs.ShownLemmas.{holds_before, holds-after}
@@ -13,10 +13,6 @@ use Rattle.snippet_grid.proofs.PutLemmas.{AreOrdered, AreApart, IsRow-added, pai
 use Rattle.snippet_grid.proofs.RowWoven.{painted_unheld}
 use Rattle.snippet_grid.proofs.StretchLemmas.{stretch, below_take}
 use Rattle.snippet_grid.proofs.TouchLemmas.{cases_held, touched_stretch, IsPut-touched}
-use Rattle.snippet_style.specs.Cell.{Cell, SPACE}
-use Rattle.snippet_grid.specs.Runs.{IsRun, IsRow, IsPart, BeginsWith, ShowsMore, AddsRun, EndsBy, Precedes, Differ, Continues, Touches, IsClear, IsJoined}
-use Rattle.snippet_grid.specs.Runs.{AreTouchedRuns, IsFront, IsBack, ArePieces, IsPut, run_chars, run_cell, holds, painted_over, shown_cell}
-use Rattle.snippet_grid.specs.declared.runs.Run.{Run}
 
 -- a part of a run shows what the run shows where it holds the same
 part_shows : (text : List ℕ) (run part : Run) (from to r c : ℕ) (d : Cell) → IsPart text run from to part → run.cell ≤ from

@@ -1,16 +1,10 @@
 -- A grid has one printed text under a sheet.
-use Rattle.std.proofs.Common.{◌≡◌, ℕ, List, [], ◌∷◌, ◌++◌, Option, None, Some, refl, sym, ap, ◌∙◌, inl, inr, subst}
-use Rattle.std.specs.List.{flat_map}
+use Rattle.snippet_grid.proofs.Common.{◌≡◌, ℕ, List, [], ◌∷◌, ◌++◌, Option, None, Some, refl, sym, ap, ◌∙◌, inl, inr, subst, flat_map}
+use Rattle.snippet_grid.proofs.Common.{Cell, Piece, Char, Opening, Reset, LinkTo, LinkEnd, piece_text, next_style, next_link, PrintsCells, PrintsRow, Prints}
+use Rattle.snippet_grid.proofs.Common.{PrintsFurther, PrintsRows, LevelInner, Style, Stylesheet}
 use Rattle.snippet_grid.proofs.PrintsPieces.{PrintsPieces-from_prints}
 use Rattle.snippet_grid.proofs.WeaveLemmas.{Url, none≢some, some_same}
 use Rattle.snippet_grid.proofs.WovenLemmas.{nil≢cons}
-use Rattle.snippet_style.specs.Cell.{Cell}
-use Rattle.snippet_grid.specs.Woven.{Piece, Char, Opening, Reset, LinkTo, LinkEnd, piece_text, next_style, next_link, PrintsCells, PrintsRow}
-use Rattle.snippet_grid.specs.Woven.{Prints}
-use Rattle.snippet_grid.specs.Weaving.{PrintsFurther, PrintsRows}
-use Rattle.snippet_style.specs.declared.role.LevelInner.{LevelInner}
-use Rattle.snippet_style.specs.declared.style.Style.{Style}
-use Rattle.snippet_style.specs.declared.stylesheet.Stylesheet.{Stylesheet}
 
 abbrev rest_of : {X : Type 0} → List X → List X
 rest_of [] = []

@@ -1,13 +1,7 @@
 -- The text of a printed grid as one list of pieces, with a line feed before each row but the first.
-use Rattle.std.proofs.Common.{◌≡◌, ℕ, List, [], ◌∷◌, ◌++◌, map, refl, sym, ap, ◌∙◌}
-use Rattle.std.proofs.lemmas.Grind.{flat_map-append}
-use Rattle.std.proofs.lemmas.List.{append-nil}
-use Rattle.std.specs.List.{AllZip, flat_map, join_with_byte}
-use Rattle.snippet_style.specs.Cell.{Cell}
-use Rattle.snippet_grid.specs.Woven.{Piece, Char, piece_text, Prints, PrintsRow}
-use Rattle.snippet_grid.specs.Weaving.{PrintsFurther, PrintsRows}
-use Rattle.snippet_style.specs.declared.role.LevelInner.{LevelInner}
-use Rattle.snippet_style.specs.declared.stylesheet.Stylesheet.{Stylesheet}
+use Rattle.snippet_grid.proofs.Common.{◌≡◌, ℕ, List, [], ◌∷◌, ◌++◌, map, refl, sym, ap, ◌∙◌, flat_map-append, append-nil, AllZip}
+use Rattle.snippet_grid.proofs.Common.{flat_map, join_with_byte, Cell, Piece, Char, piece_text, Prints, PrintsRow, PrintsFurther, PrintsRows, LevelInner}
+use Rattle.snippet_grid.proofs.Common.{Stylesheet}
 
 -- the text is a grid's rows, printed under a sheet in a group of this level
 pub record PrintsPieces (sheet : Stylesheet) (level : LevelInner) (rows : List (List Cell)) (text : List ℕ) : Type 0 where

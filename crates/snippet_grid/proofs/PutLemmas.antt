@@ -1,15 +1,11 @@
 -- A run that is put over others.
-use Rattle.std.proofs.Common.{◌≡◌, ℕ, ◌+◌, ◌-◌, ◌<◌, ◌≤◌, ◌^◌, List, [], ◌∷◌, ◌++◌, length, take, drop, get_or, refl, sym, ap, ◌∙◌, arith, inl, inr, subst, All}
-use Rattle.std.proofs.lemmas.List.{places, same_lists, get_or_default, get_or_append_left, get_or-append_right, get_or-take, get_or-drop, length-append}
-use Rattle.std.proofs.lemmas.List.{length-take, length-drop}
-use Rattle.std.proofs.lemmas.List.Elements.{All-take, All-drop, All-append}
-use Rattle.std.proofs.lemmas.Bool.{cases_lt, cases_eq}
-use Rattle.std.specs.List.{AllPairs}
+use Rattle.snippet_grid.proofs.Common.{◌≡◌, ℕ, ◌+◌, ◌-◌, ◌<◌, ◌≤◌, ◌^◌, List, [], ◌∷◌, ◌++◌, length, take, drop, get_or}
+use Rattle.snippet_grid.proofs.Common.{refl, sym, ap, ◌∙◌, arith, inl, inr, subst, All, places, same_lists, get_or_default, get_or_append_left}
+use Rattle.snippet_grid.proofs.Common.{get_or-append_right, get_or-take, get_or-drop, length-append, length-take, length-drop, All-take, All-drop, All-append}
+use Rattle.snippet_grid.proofs.Common.{cases_lt, cases_eq, AllPairs, Cell, SPACE, IsRun, BeginsWith, AddsRun, IsRow, EndsBy, FitIn, Precedes, Differ, run_cell}
+use Rattle.snippet_grid.proofs.Common.{painted_over, shown_cell, Run}
 use Rattle.snippet_grid.proofs.StretchLemmas.{stretch, below_take, get_or-stretch}
 use Rattle.snippet_grid.proofs.ShownLemmas.{painted-append, All-tail, All-IsRun-grown, pick, holds_elsewhere}
-use Rattle.snippet_style.specs.Cell.{Cell, SPACE}
-use Rattle.snippet_grid.specs.Runs.{IsRun, BeginsWith, AddsRun, IsRow, EndsBy, FitIn, Precedes, Differ, run_cell, painted_over, shown_cell}
-use Rattle.snippet_grid.specs.declared.runs.Run.{Run}
 
 -- runs that stand in order of rows and cells
 abbrev pub AreOrdered : List Run → Type 0

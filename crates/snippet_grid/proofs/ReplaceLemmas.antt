@@ -1,11 +1,8 @@
 -- Lemmas on grids in which a stretch of a row gave its place to other cells.
-use Rattle.std.proofs.Common.{◌≡◌, ◌≢◌, ℕ, ◌+◌, ◌-◌, ◌<◌, ◌≤◌, List, [], ◌++◌, length, take, drop, set, sym, ap, ◌∙◌, arith, inl, inr, subst}
-use Rattle.std.proofs.lemmas.List.{places, get_or_past, set-get_or}
-use Rattle.std.proofs.lemmas.Bool.{cases_lt}
+use Rattle.snippet_grid.proofs.Common.{◌≡◌, ◌≢◌, ℕ, ◌+◌, ◌-◌, ◌<◌, ◌≤◌, List, [], ◌++◌, length, take, drop, set, sym, ap}
+use Rattle.snippet_grid.proofs.Common.{◌∙◌, arith, inl, inr, subst, places, get_or_past, set-get_or, cases_lt, row_at, replaced_within, cells_replaced}
+use Rattle.snippet_grid.proofs.Common.{ReplacesCells, Cell, SPACE}
 use Rattle.std.specs.List.{slice_index_or}
-use Rattle.snippet_grid.specs.Grid.{row_at, replaced_within}
-use Rattle.snippet_grid.specs.Calls.{cells_replaced, ReplacesCells}
-use Rattle.snippet_style.specs.Cell.{Cell, SPACE}
 use Rattle.snippet_grid.proofs.ChangeLemmas.{changed_within_one, changed_within_none, slice_index_or-changed_within_inside}
 use Rattle.snippet_grid.proofs.ChangeLemmas.{slice_index_or-changed_within_before, slice_index_or-changed_within_after, length-changed_within}
 

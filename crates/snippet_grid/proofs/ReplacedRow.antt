@@ -1,26 +1,18 @@
 -- A row in which a text took the place of some cells.
-use Rattle.std.proofs.Common.{◌≡◌, ◌≢◌, ℕ, ◌+◌, ◌-◌, ◌<◌, ◌≤◌, ◌^◌, List, ◌++◌, length, take, drop, get_or, sym, ap, ◌∙◌, arith, inl, inr, subst, All, None}
-use Rattle.std.proofs.lemmas.List.{get_or_default, get_or-take, get_or-drop, length-drop, nil_from_length}
-use Rattle.std.proofs.lemmas.List.Elements.{All-append}
-use Rattle.std.proofs.lemmas.Bool.{cases_lt}
-use Rattle.std.proofs.lemmas.Str.{chars-nil}
+use Rattle.snippet_grid.proofs.Common.{◌≡◌, ◌≢◌, ℕ, ◌+◌, ◌-◌, ◌<◌, ◌≤◌, ◌^◌, List, ◌++◌, length, take, drop, get_or}
+use Rattle.snippet_grid.proofs.Common.{sym, ap, ◌∙◌, arith, inl, inr, subst, All, None, get_or_default, get_or-take, get_or-drop, length-drop}
+use Rattle.snippet_grid.proofs.Common.{nil_from_length, All-append, cases_lt, chars-nil, slice_index_or-text_cells, ShowsSpan, ShowsReplaced, row_at, cell_at}
+use Rattle.snippet_grid.proofs.Common.{cells_replaced, ReplacesCells, Cell, SPACE, text_cells, IsRun, IsRow, IsWord, BeginsWith, EndsBy, FitIn, ShowsCopy}
+use Rattle.snippet_grid.proofs.Common.{ShowsMore, run_cell, run_chars, shown_cell, grid_shown, ElementStyle, Run}
 use Rattle.std.specs.Str.{chars}
 use Rattle.snippet_grid.proofs.CopyLemmas.{copied_yes, copied_before, copied_after, shown_past}
 use Rattle.snippet_grid.proofs.GridChanged.{same_rows, IsExchanged, put_elsewhere}
-use Rattle.snippet_style.proofs.CellLemmas.{slice_index_or-text_cells}
 use Rattle.snippet_grid.proofs.GridShown.{count_shown, width_shown, cell_shown, same_row}
 use Rattle.snippet_grid.proofs.ReplaceLemmas.{ReplacesCells-cells_replaced}
 use Rattle.snippet_grid.proofs.RowPut.{row_shows, put_shows}
 use Rattle.snippet_grid.proofs.ShownLemmas.{pick, cell_same, painted-grown, holds_inside, holds_before, holds-after}
 use Rattle.snippet_grid.proofs.SpanLemmas.{within_yes, within_before, within_after}
 use Rattle.snippet_grid.proofs.StretchLemmas.{stretch, below_take, BeginsWith-trans}
-use Rattle.snippet_grid.specs.Changes.{ShowsSpan, ShowsReplaced}
-use Rattle.snippet_grid.specs.Grid.{row_at, cell_at}
-use Rattle.snippet_grid.specs.Calls.{cells_replaced, ReplacesCells}
-use Rattle.snippet_style.specs.Cell.{Cell, SPACE, text_cells}
-use Rattle.snippet_grid.specs.Runs.{IsRun, IsRow, IsWord, BeginsWith, EndsBy, FitIn, ShowsCopy, ShowsMore, run_cell, run_chars, shown_cell, grid_shown}
-use Rattle.snippet_style.specs.declared.role.ElementStyle.{ElementStyle}
-use Rattle.snippet_grid.specs.declared.runs.Run.{Run}
 
 -- a text with no byte shows nothing
 pub span_empty : (text : List ℕ) (out : List Run) (row at : ℕ) (word : List ℕ) (g : ℕ → Cell) → length word ≤ 0

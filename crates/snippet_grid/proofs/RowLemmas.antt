@@ -1,15 +1,8 @@
 -- What writes make of the rows of a grid: a row that is begun, and the last row written into.
-use Rattle.std.proofs.Common.{◌≡◌, ℕ, ◌+◌, ◌<◌, List, [], ◌∷◌, ◌++◌, length, replicate, chars, refl, ap, ◌∙◌, arith}
-use Rattle.snippet_style.specs.declared.glyphs.DecorStyle.{DecorStyle}
-use Rattle.snippet_style.specs.declared.role.ElementStyle.{ElementStyle}
-use Rattle.snippet_style.specs.declared.role.ElementStyle.TheVariants.{LineNumber}
-use Rattle.snippet_style.specs.Cell.{Cell, SPACE, text_cells, written}
-use Rattle.snippet_style.specs.Glyphs.{separator_of}
-use Rattle.snippet_style.specs.Separators.{separator_row}
-use Rattle.snippet_style.proofs.CellLemmas.{length-chars_le}
-use Rattle.snippet_style.proofs.RowLemmas.{written-nil}
-use Rattle.snippet_grid.specs.Grid.{cells_written}
-use Rattle.snippet_grid.specs.Print.{row_text}
+use Rattle.snippet_grid.proofs.Common.{◌≡◌, ℕ, ◌+◌, ◌<◌, List, [], ◌∷◌, ◌++◌, length, replicate, refl, ap, ◌∙◌, arith}
+use Rattle.snippet_grid.proofs.Common.{DecorStyle, ElementStyle, LineNumber, Cell, SPACE, text_cells, written, separator_of, separator_row, length-chars_le}
+use Rattle.snippet_grid.proofs.Common.{written-nil, cells_written, row_text}
+use Rattle.std.proofs.Common.{chars}
 use Rattle.snippet_grid.proofs.GridLemmas.{cells_written_below, cells_written_last}
 
 -- a row that is begun by some cells alone

@@ -1,11 +1,9 @@
 -- The runs of a row that others took the place of.
-use Rattle.std.proofs.Common.{◌≡◌, ◌≢◌, ℕ, ◌+◌, ◌-◌, ◌<◌, ◌≤◌, ◌^◌, List, ◌++◌, length, take, drop, get_or, sym, ap, ◌∙◌, arith, subst, All}
-use Rattle.std.proofs.lemmas.List.{get_or-take, get_or-drop, length-append, length-take, length-drop}
+use Rattle.snippet_grid.proofs.Common.{◌≡◌, ◌≢◌, ℕ, ◌+◌, ◌-◌, ◌<◌, ◌≤◌, ◌^◌, List, ◌++◌, length, take, drop, get_or}
+use Rattle.snippet_grid.proofs.Common.{sym, ap, ◌∙◌, arith, subst, All, get_or-take, get_or-drop, length-append, length-take, length-drop, RowAt, IsRun}
+use Rattle.snippet_grid.proofs.Common.{EndsBy, FitIn, shown_cell, Run}
 use Rattle.snippet_grid.proofs.PutLemmas.{painted_middle, painted_outer, split_three}
 use Rattle.snippet_grid.proofs.StretchLemmas.{stretch, below_take, get_or-stretch}
-use Rattle.snippet_grid.specs.Changes.{RowAt}
-use Rattle.snippet_grid.specs.Runs.{IsRun, EndsBy, FitIn, shown_cell}
-use Rattle.snippet_grid.specs.declared.runs.Run.{Run}
 
 -- the runs above a row hold none of its cells, nor do those below it
 no_left : (runs : List Run) (row start end : ℕ) → RowAt runs row start end → All (λ x. x.row ≡ row → ⊥) (take start runs)

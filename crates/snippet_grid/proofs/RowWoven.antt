@@ -1,23 +1,13 @@
 -- A row that is printed run by run.
-use Rattle.std.proofs.Common.{◌≡◌, ℕ, ◌+◌, ◌-◌, ◌<◌, ◌≤◌, List, [], ◌∷◌, ◌++◌, length, take, drop, get_or, replicate, Option, None, Some, refl, sym, ap, ◌∙◌}
-use Rattle.std.proofs.Common.{subst, arith, false, inl, inr, All, if◌then◌else◌}
-use Rattle.std.proofs.lemmas.List.{same_lists, take-append-drop, drop_more, length-append, length-map, length-replicate, get_or-map, get_or-replicate}
-use Rattle.std.proofs.lemmas.List.{get_or_default, get_or_append_left, get_or-append_right, get_or-drop, length-drop}
-use Rattle.std.proofs.lemmas.List.FromFn.{length-map-range_with_len, get_or-map-range_with_len}
-use Rattle.std.proofs.lemmas.Bool.{cases_lt, cases_eq}
-use Rattle.std.specs.Option.{option_copied}
+use Rattle.snippet_grid.proofs.Common.{◌≡◌, ℕ, ◌+◌, ◌-◌, ◌<◌, ◌≤◌, List, [], ◌∷◌, ◌++◌, length, take, drop, get_or}
+use Rattle.snippet_grid.proofs.Common.{replicate, Option, None, Some, refl, sym, ap, ◌∙◌, subst, arith, false, inl, inr, All, if◌then◌else◌}
+use Rattle.snippet_grid.proofs.Common.{same_lists, take-append-drop, drop_more, length-append, length-map, length-replicate, get_or-map, get_or-replicate}
+use Rattle.snippet_grid.proofs.Common.{get_or_default, get_or_append_left, get_or-append_right, get_or-drop, length-drop, length-map-range_with_len}
+use Rattle.snippet_grid.proofs.Common.{get_or-map-range_with_len, cases_lt, cases_eq, option_copied, Cell, SPACE, IsRun, IsRow, Precedes, run_chars, run_cell}
+use Rattle.snippet_grid.proofs.Common.{holds, painted_over, shown_cell, cells_to, PrintsStretch, style_of, NoStyle, LevelInner, Run, Style, Stylesheet}
 use Rattle.snippet_grid.proofs.ShownLemmas.{painted-append, All-tail, pick, holds_inside, holds_before, holds-after}
 use Rattle.snippet_grid.proofs.StretchPrinted.{alike, stretch_printed}
 use Rattle.snippet_grid.proofs.WeaveLemmas.{Url, Goes}
-use Rattle.snippet_style.specs.Cell.{Cell, SPACE}
-use Rattle.snippet_grid.specs.Runs.{IsRun, IsRow, Precedes, run_chars, run_cell, holds, painted_over, shown_cell, cells_to}
-use Rattle.snippet_grid.specs.Stretch.{PrintsStretch}
-use Rattle.snippet_style.specs.Stylesheet.{style_of}
-use Rattle.snippet_style.specs.declared.role.ElementStyle.TheVariants.{NoStyle}
-use Rattle.snippet_style.specs.declared.role.LevelInner.{LevelInner}
-use Rattle.snippet_grid.specs.declared.runs.Run.{Run}
-use Rattle.snippet_style.specs.declared.style.Style.{Style}
-use Rattle.snippet_style.specs.declared.stylesheet.Stylesheet.{Stylesheet}
 
 -- a cell that no run holds is as it was before any is painted
 pub painted_unheld : (text : List ℕ) (r c : ℕ) (d : Cell) (runs : List Run) → All (λ x. holds x r c ≡ false) runs → painted_over text r c d runs ≡ d

@@ -1,24 +1,13 @@
 -- Rows that are printed one below another, each by its runs.
-use Rattle.std.proofs.Common.{◌≡◌, ℕ, ◌+◌, ◌<◌, ◌≤◌, List, [], ◌∷◌, ◌++◌, length, map, take, drop, get_or, refl, sym, ap, ◌∙◌, subst, arith, inl, inr, All}
-use Rattle.std.proofs.Common.{encode_utf8}
-use Rattle.std.proofs.lemmas.List.{same_lists, append_assoc, append-nil, take_more, take_all, get_or_default, get_or-take, get_or-drop, length-take}
-use Rattle.std.proofs.lemmas.List.{length-drop}
-use Rattle.std.proofs.lemmas.List.FromFn.{length-map-range_with_len, get_or-map-range_with_len}
-use Rattle.std.proofs.lemmas.Grind.{flat_map-append}
-use Rattle.std.proofs.lemmas.Bool.{cases_lt, cases_eq}
-use Rattle.std.specs.List.{range_with_len, flat_map}
+use Rattle.snippet_grid.proofs.Common.{◌≡◌, ℕ, ◌+◌, ◌<◌, ◌≤◌, List, [], ◌∷◌, ◌++◌, length, map, take, drop, get_or, refl, sym}
+use Rattle.snippet_grid.proofs.Common.{ap, ◌∙◌, subst, arith, inl, inr, All, encode_utf8, same_lists, append_assoc, append-nil, take_more, take_all}
+use Rattle.snippet_grid.proofs.Common.{get_or_default, get_or-take, get_or-drop, length-take, length-drop, length-map-range_with_len, get_or-map-range_with_len}
+use Rattle.snippet_grid.proofs.Common.{flat_map-append, cases_lt, cases_eq, range_with_len, flat_map, row_at, Cell, shown_cell, cells_to, grid_shown, Piece}
+use Rattle.snippet_grid.proofs.Common.{Char, piece_text, PrintsFurther, WeavesRow, WeavesRows, LevelInner, Run, Stylesheet}
 use Rattle.snippet_grid.proofs.StretchLemmas.{stretch, below_take}
 use Rattle.snippet_grid.proofs.PutLemmas.{AreOrdered, rows_rise, split_three, painted_middle}
 use Rattle.snippet_grid.proofs.GridShown.{row_shown, count_shown}
 use Rattle.snippet_grid.proofs.WeaveLemmas.{further-append}
-use Rattle.snippet_grid.specs.Grid.{row_at}
-use Rattle.snippet_style.specs.Cell.{Cell}
-use Rattle.snippet_grid.specs.Runs.{shown_cell, cells_to, grid_shown}
-use Rattle.snippet_grid.specs.Woven.{Piece, Char, piece_text}
-use Rattle.snippet_grid.specs.Weaving.{PrintsFurther, WeavesRow, WeavesRows}
-use Rattle.snippet_style.specs.declared.role.LevelInner.{LevelInner}
-use Rattle.snippet_grid.specs.declared.runs.Run.{Run}
-use Rattle.snippet_style.specs.declared.stylesheet.Stylesheet.{Stylesheet}
 
 -- a first row
 pub rows_one : (sheet : Stylesheet) (level : LevelInner) (old new : List ℕ) (row : List Cell) → WeavesRow sheet level row old new

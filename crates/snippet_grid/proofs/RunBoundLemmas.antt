@@ -1,21 +1,11 @@
 -- The fewest and the most runs of a row's cells, stretch by stretch.
-use Rattle.std.proofs.Common.{◌≡◌, ℕ, zero, suc, ◌+◌, ◌<◌, ◌≤◌, List, [], ◌∷◌, length, map, Bool, true, false, not, ◌&&◌, ◌||◌, if◌then◌else◌, nat_eq, Option}
-use Rattle.std.proofs.Common.{None, Some, refl, sym, ap, ◌∙◌, subst, arith}
-use Rattle.std.proofs.lemmas.Bool.{false≢true}
-use Rattle.std.specs.Cmp.Lexicographic.{same_text}
-use Rattle.std.proofs.lemmas.Cmp.{nat_list_eq_equiv}
-use Rattle.std.specs.List.{range_with_len}
-use Rattle.std.specs.Option.{option_eq}
+use Rattle.snippet_grid.proofs.Common.{◌≡◌, ℕ, zero, suc, ◌+◌, ◌<◌, ◌≤◌, List, [], ◌∷◌, length, map, Bool, true, false, not}
+use Rattle.snippet_grid.proofs.Common.{◌&&◌, ◌||◌, if◌then◌else◌, nat_eq, Option, None, Some, refl, sym, ap, ◌∙◌, subst, arith}
+use Rattle.snippet_grid.proofs.Common.{false≢true, same_text, nat_list_eq_equiv, range_with_len, option_eq, Cell, SPACE, ElementStyle, MainHeaderMsg}
+use Rattle.snippet_grid.proofs.Common.{HeaderMsg, LineAndColumn, Quotation, NoStyle, LineNumber, UnderlinePrimary, LabelPrimary, UnderlineSecondary}
+use Rattle.snippet_grid.proofs.Common.{LabelSecondary, Level, Addition, Removal, LevelInner, Error, Warning, Info, Note, Help, num_cells, Look, look_of}
+use Rattle.snippet_grid.proofs.Common.{same_level, same_role, same_look, goes_on, is_bare, fewest_after, most_after, most_runs}
 use lib.Pointwise.{pointwise}
-use Rattle.snippet_style.specs.Cell.{Cell, SPACE}
-use Rattle.snippet_style.specs.declared.role.ElementStyle.{ElementStyle}
-use Rattle.snippet_style.specs.declared.role.ElementStyle.TheVariants.{MainHeaderMsg, HeaderMsg, LineAndColumn, Quotation, NoStyle, LineNumber}
-use Rattle.snippet_style.specs.declared.role.ElementStyle.TheVariants.{UnderlinePrimary, LabelPrimary, UnderlineSecondary, LabelSecondary, Level, Addition}
-use Rattle.snippet_style.specs.declared.role.ElementStyle.TheVariants.{Removal}
-use Rattle.snippet_style.specs.declared.role.LevelInner.{LevelInner}
-use Rattle.snippet_style.specs.declared.role.LevelInner.TheVariants.{Error, Warning, Info, Note, Help}
-use Rattle.snippet_grid.specs.Calls.{num_cells}
-use Rattle.snippet_grid.specs.RunBounds.{Look, look_of, same_level, same_role, same_look, goes_on, is_bare, fewest_after, most_after, most_runs}
 
 -- ---- what it says that two looks are the same
 

@@ -1,18 +1,13 @@
 -- A grid keeps as many runs as its cells need at least, and no more than they can have.
-use Rattle.std.proofs.Common.{◌≡◌, ℕ, zero, suc, ◌+◌, ◌-◌, ◌<◌, ◌≤◌, List, ◌∷◌, ◌++◌, length, map, take, drop, get_or, false, if◌then◌else◌, Option, None, Some}
-use Rattle.std.proofs.Common.{refl, sym, ap, ◌∙◌, subst, arith, inl, inr, All}
-use Rattle.std.proofs.lemmas.Bool.{cases_Bool, cases_lt, cases_eq}
-use Rattle.std.proofs.lemmas.List.{take-append-drop, drop_more, get_or_default, get_or_past, get_or-drop, length-drop}
-use Rattle.std.specs.List.{AllPairs, range_with_len}
-use Rattle.std.specs.Option.{option_copied}
+use Rattle.snippet_grid.proofs.Common.{◌≡◌, ℕ, zero, suc, ◌+◌, ◌-◌, ◌<◌, ◌≤◌, List, ◌∷◌, ◌++◌, length, map, take, drop}
+use Rattle.snippet_grid.proofs.Common.{get_or, false, if◌then◌else◌, Option, None, Some, refl, sym, ap, ◌∙◌, subst, arith, inl, inr, All}
+use Rattle.snippet_grid.proofs.Common.{cases_Bool, cases_lt, cases_eq, take-append-drop, drop_more, get_or_default, get_or_past, get_or-drop, length-drop}
+use Rattle.snippet_grid.proofs.Common.{AllPairs, range_with_len, option_copied, Cell, SPACE, Look, look_of, goes_on, fewest_after, most_after, fewest_runs}
+use Rattle.snippet_grid.proofs.Common.{most_runs, IsGrid, Precedes, run_cell, holds, shown_cell, grid_shown, Run}
 use Rattle.snippet_grid.proofs.RowWoven.{painted_unheld}
 use Rattle.snippet_grid.proofs.RunBoundLemmas.{cells_at, look_is, fewest_gap, fewest_run, most_gap, most_left, most_run}
 use Rattle.snippet_grid.proofs.RunLemmas.{none}
 use Rattle.snippet_grid.proofs.ShownLemmas.{painted-append, pick, holds_inside, holds_elsewhere, holds_before, holds-after}
-use Rattle.snippet_style.specs.Cell.{Cell, SPACE}
-use Rattle.snippet_grid.specs.RunBounds.{Look, look_of, goes_on, fewest_after, most_after, fewest_runs, most_runs}
-use Rattle.snippet_grid.specs.Runs.{IsGrid, Precedes, run_cell, holds, shown_cell, grid_shown}
-use Rattle.snippet_grid.specs.declared.runs.Run.{Run}
 
 -- the look of a run
 abbrev run_look : Run → Look

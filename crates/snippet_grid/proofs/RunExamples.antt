@@ -1,9 +1,6 @@
 -- How many runs can show small rows, computed, and two counts that none of them has.
-use Rattle.std.proofs.Common.{◌≡◌, ◌≤◌, List, [], ◌∷◌, ◌++◌, codes, refl, arith}
-use Rattle.snippet_grid.specs.Calls.{num_cells}
-use Rattle.snippet_grid.specs.RunBounds.{fewest_runs, most_runs}
-use Rattle.snippet_style.specs.Cell.{Cell, text_cells}
-use Rattle.snippet_style.specs.declared.role.ElementStyle.TheVariants.{LineNumber, NoStyle, Quotation}
+use Rattle.snippet_grid.proofs.Common.{◌≡◌, ◌≤◌, List, [], ◌∷◌, ◌++◌, codes, refl, arith, num_cells, fewest_runs, most_runs, Cell}
+use Rattle.snippet_grid.proofs.Common.{text_cells, LineNumber, NoStyle, Quotation}
 
 -- three words of two roles: `10`, `ab` and `|`
 abbrev words : List (List Cell)

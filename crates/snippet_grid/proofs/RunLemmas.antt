@@ -1,14 +1,10 @@
 -- Runs in a text that grows, and two runs made one.
-use Rattle.std.proofs.Common.{◌≡◌, ℕ, ◌+◌, ◌≤◌, List, ◌++◌, ◌-◌, length, take, drop, sym, ap, ◌∙◌, arith, subst, None}
-use Rattle.std.proofs.lemmas.List.{length-append, length-take, length-drop}
-use Rattle.std.proofs.lemmas.Str.{chars-append}
-use Rattle.std.specs.Option.{option_copied}
-use Rattle.std.specs.Str.{chars, IsUtf8, is_utf8, IsCharBoundary}
+use Rattle.snippet_grid.proofs.Common.{◌≡◌, ℕ, ◌+◌, ◌≤◌, List, ◌++◌, ◌-◌, length, take, drop, sym, ap, ◌∙◌, arith, subst, None}
+use Rattle.snippet_grid.proofs.Common.{length-append, length-take, length-drop, chars-append, option_copied, IsUtf8, is_utf8, IsCharBoundary, IsRun, IsJoined}
+use Rattle.snippet_grid.proofs.Common.{Continues, BeginsWith, run_bytes, run_chars, Run, MainHeaderMsg}
+use Rattle.std.specs.Str.{chars}
 use Rattle.snippet_grid.proofs.StretchLemmas.{stretch, length-stretch_of, stretch_joined, stretch_grown, stretch_added, BeginsWith-append, BeginsWith-le}
 use Rattle.snippet_grid.proofs.StretchLemmas.{front_grown, boundary, IsUtf8-stretch, is_utf8-end, is_utf8-to}
-use Rattle.snippet_grid.specs.Runs.{IsRun, IsJoined, Continues, BeginsWith, run_bytes, run_chars}
-use Rattle.snippet_grid.specs.declared.runs.Run.{Run}
-use Rattle.snippet_style.specs.declared.role.ElementStyle.TheVariants.{MainHeaderMsg}
 
 -- what stands where a list has no run
 abbrev pub none : Run

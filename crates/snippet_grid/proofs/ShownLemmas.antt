@@ -1,19 +1,13 @@
 -- What runs show, when one is added.
-use Rattle.std.proofs.Common.{◌≡◌, ℕ, suc, ◌+◌, ◌-◌, ◌<◌, ◌≤◌, List, [], ◌∷◌, ◌++◌, length, take, set, get_or, refl, sym, ap, ◌∙◌, arith, Bool, true, false}
-use Rattle.std.proofs.Common.{inl, inr, subst, All, Option}
-use Rattle.std.proofs.lemmas.List.{take_all, take_more, take_more_set, length-set, length_push, get_or-set_same, get_or-set_other, get_or_push, get_or_default}
-use Rattle.std.proofs.lemmas.List.{get_or_append_left, get_or-append_right}
-use Rattle.std.proofs.lemmas.List.Elements.{All-take, All-set, All-push}
-use Rattle.std.specs.List.{AllPairs}
-use Rattle.std.proofs.lemmas.Bool.{cases_lt, cases_eq, and_from, and_left, and_right, eq-eqb, ne_eqb, le-leb, lt-leb, lt-ltb, le-ltb}
+use Rattle.snippet_grid.proofs.Common.{◌≡◌, ℕ, suc, ◌+◌, ◌-◌, ◌<◌, ◌≤◌, List, [], ◌∷◌, ◌++◌, length, take, set, get_or}
+use Rattle.snippet_grid.proofs.Common.{refl, sym, ap, ◌∙◌, arith, Bool, true, false, inl, inr, subst, All, Option, take_all, take_more, take_more_set}
+use Rattle.snippet_grid.proofs.Common.{length-set, length_push, get_or-set_same, get_or-set_other, get_or_push, get_or_default, get_or_append_left}
+use Rattle.snippet_grid.proofs.Common.{get_or-append_right, All-take, All-set, All-push, AllPairs, cases_lt, cases_eq, and_from, and_left, and_right, eq-eqb}
+use Rattle.snippet_grid.proofs.Common.{ne_eqb, le-leb, lt-leb, lt-ltb, le-ltb, option_copied, Cell, SPACE, IsRun, IsJoined, Continues, BeginsWith, ShowsMore}
+use Rattle.snippet_grid.proofs.Common.{run_chars, run_cell, holds, painted_over, shown_cell, Precedes, Differ, AddsRun, Run}
 use Rattle.std.specs.Bool.{if◌then◌else◌}
-use Rattle.std.specs.Option.{option_copied}
 use Rattle.std.specs.Str.{chars}
 use Rattle.snippet_grid.proofs.RunLemmas.{run_bytes-grown, IsRun-grown}
-use Rattle.snippet_style.specs.Cell.{Cell, SPACE}
-use Rattle.snippet_grid.specs.Runs.{IsRun, IsJoined, Continues, BeginsWith, ShowsMore, run_chars, run_cell, holds, painted_over, shown_cell, Precedes, Differ}
-use Rattle.snippet_grid.specs.Runs.{AddsRun}
-use Rattle.snippet_grid.specs.declared.runs.Run.{Run}
 
 -- painting two lists of runs is painting one after the other
 pub painted-append : (text : List ℕ) (r c : ℕ) (d : Cell) (xs ys : List Run) → painted_over text r c d (xs ++ ys)

@@ -1,17 +1,11 @@
 -- Spans of a row that runs show.
-use Rattle.std.proofs.Common.{◌≡◌, ℕ, ◌-◌, ◌<◌, ◌≤◌, ◌^◌, List, ◌++◌, length, get_or, replicate, sym, ap, ◌∙◌, arith, true, false, inl, inr, None}
-use Rattle.std.proofs.lemmas.List.{length-replicate, get_or-replicate, get_or_past}
-use Rattle.std.proofs.lemmas.Str.{chars-IsAscii}
-use Rattle.std.proofs.lemmas.Bool.{cases_lt, and_from, and_left, and_right, le-leb, lt-leb, lt-ltb, le-ltb}
-use Rattle.std.specs.Option.{option_copied}
-use Rattle.std.specs.Str.{chars, IsUtf8}
+use Rattle.snippet_grid.proofs.Common.{◌≡◌, ℕ, ◌-◌, ◌<◌, ◌≤◌, ◌^◌, List, ◌++◌, length, get_or, replicate, sym, ap, ◌∙◌}
+use Rattle.snippet_grid.proofs.Common.{arith, true, false, inl, inr, None, length-replicate, get_or-replicate, get_or_past, chars-IsAscii, cases_lt, and_from}
+use Rattle.snippet_grid.proofs.Common.{and_left, and_right, le-leb, lt-leb, lt-ltb, le-ltb, option_copied, IsUtf8, IsBlankRun, is_within, ShowsSpan, Cell}
+use Rattle.snippet_grid.proofs.Common.{SPACE, run_cell, shown_cell, NoStyle, Run}
+use Rattle.std.specs.Str.{chars}
 use Rattle.snippet_grid.proofs.GridShown.{IsWord-pushed}
 use Rattle.snippet_grid.proofs.ShownLemmas.{pick, cell_same}
-use Rattle.snippet_grid.specs.Changes.{IsBlankRun, is_within, ShowsSpan}
-use Rattle.snippet_style.specs.Cell.{Cell, SPACE}
-use Rattle.snippet_grid.specs.Runs.{run_cell, shown_cell}
-use Rattle.snippet_style.specs.declared.role.ElementStyle.TheVariants.{NoStyle}
-use Rattle.snippet_grid.specs.declared.runs.Run.{Run}
 
 -- a column between two bounds is within them
 pub within_yes : (from to c : ℕ) → from ≤ c → c < to → is_within from to c ≡ true

@@ -1,10 +1,6 @@
 -- What is stored after a call that was refused, or that wrote.
-use Rattle.std.proofs.Common.{◌≡◌, ◌∙◌, ℕ, List, ap, length}
+use Rattle.snippet_grid.proofs.Common.{◌≡◌, ◌∙◌, ℕ, List, ap, length, BeginsWith, IsGrid, grid_shown, Stored, stored, Run, Cell}
 use Rattle.snippet_grid.proofs.GridShown.{grid_grown}
-use Rattle.snippet_grid.specs.Runs.{BeginsWith, IsGrid, grid_shown}
-use Rattle.snippet_grid.specs.Stored.{Stored, stored}
-use Rattle.snippet_grid.specs.declared.runs.Run.{Run}
-use Rattle.snippet_style.specs.Cell.{Cell}
 
 -- rows, and a number of runs
 abbrev kept : List (List Cell) → ℕ → Stored

@@ -1,10 +1,8 @@
 -- Stretches of a text that grows at its end.
-use Rattle.std.proofs.Common.{◌≡◌, ℕ, ◌+◌, ◌-◌, ◌<◌, ◌≤◌, List, ◌++◌, length, take, drop, get_or, sym, ap, ◌∙◌, arith, true, subst}
-use Rattle.std.proofs.lemmas.List.{places, same_lists, take-take, take_all, get_or-take, get_or-drop, length-take, length-drop}
-use Rattle.std.proofs.lemmas.Bool.{cases_lt}
-use Rattle.std.proofs.lemmas.Str.{IsUtf8-append, IsUtf8-from_is_utf8, is_utf8-from_IsUtf8, IsCharBoundary-from_take, IsUtf8-between}
-use Rattle.std.specs.Str.{IsUtf8, is_utf8, IsCharBoundary}
-use Rattle.snippet_grid.specs.Runs.{BeginsWith}
+use Rattle.snippet_grid.proofs.Common.{◌≡◌, ℕ, ◌+◌, ◌-◌, ◌<◌, ◌≤◌, List, ◌++◌, length, take, drop, get_or, sym, ap, ◌∙◌}
+use Rattle.snippet_grid.proofs.Common.{arith, true, subst, places, same_lists, take-take, take_all, get_or-take, get_or-drop, length-take, length-drop}
+use Rattle.snippet_grid.proofs.Common.{cases_lt, IsUtf8-append, IsUtf8-from_is_utf8, is_utf8-from_IsUtf8, IsCharBoundary-from_take, IsUtf8-between, IsUtf8}
+use Rattle.snippet_grid.proofs.Common.{is_utf8, IsCharBoundary, BeginsWith}
 
 -- the elements from s to before e
 abbrev pub stretch : {X : Type 0} → List X → ℕ → ℕ → List X

@@ -1,18 +1,9 @@
 -- Cells of one role and one link are printed by their text alone.
-use Rattle.std.proofs.Common.{◌≡◌, ℕ, zero, suc, replicate, ◌+◌, ◌<◌, List, [], ◌∷◌, ◌++◌, length, map, Option, Some, refl, sym, ap, ◌∙◌, subst, arith}
-use Rattle.std.proofs.Common.{encode_utf8, encode_utf8_all}
-use Rattle.std.proofs.lemmas.List.{append_assoc, append-nil, replicate-append-replicate}
+use Rattle.snippet_grid.proofs.Common.{◌≡◌, ℕ, zero, suc, replicate, ◌+◌, ◌<◌, List, [], ◌∷◌, ◌++◌, length, map, Option, Some, refl}
+use Rattle.snippet_grid.proofs.Common.{sym, ap, ◌∙◌, subst, arith, encode_utf8, encode_utf8_all, append_assoc, append-nil, replicate-append-replicate}
+use Rattle.snippet_grid.proofs.Common.{flat_map, Cell, opening, reset, PrintsStretch, Opening, Reset, piece_text, style_of, ElementStyle, LevelInner, Style}
+use Rattle.snippet_grid.proofs.Common.{Stylesheet}
 use Rattle.snippet_grid.proofs.WeaveLemmas.{Url, Goes, cell_printed}
-use Rattle.std.specs.List.{flat_map}
-use Rattle.snippet_style.specs.Cell.{Cell}
-use Rattle.snippet_style.specs.Codes.{opening, reset}
-use Rattle.snippet_grid.specs.Stretch.{PrintsStretch}
-use Rattle.snippet_grid.specs.Woven.{Opening, Reset, piece_text}
-use Rattle.snippet_style.specs.Stylesheet.{style_of}
-use Rattle.snippet_style.specs.declared.role.ElementStyle.{ElementStyle}
-use Rattle.snippet_style.specs.declared.role.LevelInner.{LevelInner}
-use Rattle.snippet_style.specs.declared.style.Style.{Style}
-use Rattle.snippet_style.specs.declared.stylesheet.Stylesheet.{Stylesheet}
 
 -- the cells of these characters, in one role, with one link
 abbrev pub alike : ElementStyle → Option Url → List ℕ → List Cell

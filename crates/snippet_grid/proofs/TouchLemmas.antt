@@ -1,18 +1,13 @@
 -- A put that takes only the runs which it meets: those before the run and after it, in its own row too, stay.
-use Rattle.std.proofs.Common.{◌≡◌, ◌⊎◌, ℕ, suc, ◌+◌, ◌-◌, ◌<◌, ◌≤◌, List, [], ◌∷◌, ◌++◌, length, take, drop, get_or, sym, ap, ◌∙◌, arith, true, false, inl, inr}
-use Rattle.std.proofs.Common.{subst, All, if◌then◌else◌}
-use Rattle.std.proofs.lemmas.List.{get_or_default, get_or-take, get_or-drop, length-append, length-drop}
-use Rattle.std.proofs.lemmas.List.Elements.{All-take, All-drop, All-append, All-cons}
-use Rattle.std.proofs.lemmas.Bool.{cases_lt, cases_eq}
-use Rattle.std.specs.List.{AllPairs}
+use Rattle.snippet_grid.proofs.Common.{◌≡◌, ◌⊎◌, ℕ, suc, ◌+◌, ◌-◌, ◌<◌, ◌≤◌, List, [], ◌∷◌, ◌++◌, length, take, drop}
+use Rattle.snippet_grid.proofs.Common.{get_or, sym, ap, ◌∙◌, arith, true, false, inl, inr, subst, All, if◌then◌else◌, get_or_default, get_or-take}
+use Rattle.snippet_grid.proofs.Common.{get_or-drop, length-append, length-drop, All-take, All-drop, All-append, All-cons, cases_lt, cases_eq, AllPairs, Cell}
+use Rattle.snippet_grid.proofs.Common.{SPACE, IsRun, BeginsWith, ShowsMore, AddsRun, Precedes, Differ, BeginsAfter, BeginsBy, IsClear, Touches, AreTouchedRuns}
+use Rattle.snippet_grid.proofs.Common.{ArePieces, IsPut, EndsBy, run_cell, holds, painted_over, shown_cell, Run}
 use Rattle.snippet_grid.proofs.StretchLemmas.{stretch, below_take, get_or-stretch}
 use Rattle.snippet_grid.proofs.ShownLemmas.{All-IsRun-grown, painted-append, painted-grown, pick, holds_inside, holds_elsewhere, holds_before, holds-after}
 use Rattle.snippet_grid.proofs.PutLemmas.{AreOrdered, AreApart, AllPairs-append, AllPairs-take, AllPairs-drop, split_three, IsRow-stretch, fit-put}
 use Rattle.snippet_grid.proofs.RowWoven.{painted_unheld}
-use Rattle.snippet_style.specs.Cell.{Cell, SPACE}
-use Rattle.snippet_grid.specs.Runs.{IsRun, BeginsWith, ShowsMore, AddsRun, Precedes, Differ, BeginsAfter, BeginsBy, IsClear, Touches, AreTouchedRuns, ArePieces}
-use Rattle.snippet_grid.specs.Runs.{IsPut, EndsBy, run_cell, holds, painted_over, shown_cell}
-use Rattle.snippet_grid.specs.declared.runs.Run.{Run}
 
 -- a run that holds a cell of a row holds nothing before its first cell, after its last, or in other rows
 pub record Held (run : Run) (r c : ℕ) : Type 0 where

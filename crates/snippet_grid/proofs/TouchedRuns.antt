@@ -1,10 +1,7 @@
 -- How many runs of a row have cells before a stretch, and after it.
-use Rattle.std.proofs.Common.{◌≡◌, ℕ, suc, ◌+◌, ◌≤◌, List, [], ◌∷◌, length, get_or, refl, sym, ◌∙◌, arith, inl, inr, All, min, max}
-use Rattle.std.proofs.lemmas.Bool.{cases_lt, lt-ltb, le-ltb}
+use Rattle.snippet_grid.proofs.Common.{◌≡◌, ℕ, suc, ◌+◌, ◌≤◌, List, [], ◌∷◌, length, get_or, refl, sym, ◌∙◌, arith, inl, inr, All}
+use Rattle.snippet_grid.proofs.Common.{min, max, cases_lt, lt-ltb, le-ltb, num_touched, IsRun, IsRow, Precedes, Run}
 use Rattle.snippet_grid.proofs.ShownLemmas.{All-tail, pick}
-use Rattle.snippet_grid.specs.Changes.{num_touched}
-use Rattle.snippet_grid.specs.Runs.{IsRun, IsRow, Precedes}
-use Rattle.snippet_grid.specs.declared.runs.Run.{Run}
 
 num_touched-le : (from to : ℕ) (runs : List Run) → num_touched from to runs ≤ length runs
 num_touched-le from to [] = omega arith

@@ -1,23 +1,10 @@
 -- How a woven text grows by a cell, by a row's end and by a row.
-use Rattle.std.proofs.Common.{◌≡◌, ◌≢◌, ◌⊎◌, ℕ, Bool, true, false, List, [], ◌∷◌, ◌++◌, Option, None, Some, refl, sym, ap, ◌∙◌, inl, inr, subst, nat_eq}
-use Rattle.std.proofs.Common.{encode_utf8, encode_utf8_all}
-use Rattle.std.proofs.lemmas.Bool.{cases_Bool, false≢true}
-use Rattle.std.proofs.lemmas.List.{append_assoc, append-nil}
-use Rattle.std.proofs.lemmas.Grind.{flat_map-append}
-use Rattle.std.proofs.lemmas.Cmp.{nat_list_eq_equiv}
-use Rattle.std.specs.Cmp.Lexicographic.{same_text}
-use Rattle.std.specs.List.{flat_map}
+use Rattle.snippet_grid.proofs.Common.{◌≡◌, ◌≢◌, ◌⊎◌, ℕ, Bool, true, false, List, [], ◌∷◌, ◌++◌, Option, None, Some, refl, sym}
+use Rattle.snippet_grid.proofs.Common.{ap, ◌∙◌, inl, inr, subst, nat_eq, encode_utf8, encode_utf8_all, cases_Bool, false≢true, append_assoc, append-nil}
+use Rattle.snippet_grid.proofs.Common.{flat_map-append, nat_list_eq_equiv, same_text, flat_map, cases_style, reset, Cell, style_of, Piece, Char, Opening, Reset}
+use Rattle.snippet_grid.proofs.Common.{LinkTo, LinkEnd, piece_text, PrintsCells, PrintsRow, PrintsFurther, WeavesRow, LevelInner, Style, Stylesheet}
 use lib.Pointwise.{pointwise}
-use Rattle.snippet_style.proofs.StyleLemmas.{cases_style}
-use Rattle.snippet_style.specs.Codes.{reset}
-use Rattle.snippet_style.specs.Cell.{Cell}
-use Rattle.snippet_style.specs.Stylesheet.{style_of}
 pub use Rattle.snippet_grid.specs.OpenRow.{Completes, Goes}
-use Rattle.snippet_grid.specs.Woven.{Piece, Char, Opening, Reset, LinkTo, LinkEnd, piece_text, PrintsCells, PrintsRow}
-use Rattle.snippet_grid.specs.Weaving.{PrintsFurther, WeavesRow}
-use Rattle.snippet_style.specs.declared.role.LevelInner.{LevelInner}
-use Rattle.snippet_style.specs.declared.style.Style.{Style}
-use Rattle.snippet_style.specs.declared.stylesheet.Stylesheet.{Stylesheet}
 
 -- the address of a link
 abbrev pub Url : Type 0

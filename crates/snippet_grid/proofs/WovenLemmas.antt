@@ -1,35 +1,18 @@
 -- What printed rows are as a woven text: their plain text and their links are the rows' own, whatever the sheet; and
 -- without styles and links the text is the plain text.
-use Rattle.std.proofs.Common.{◌≡◌, ◌≢◌, ℕ, suc, Bool, true, false, if◌then◌else◌, nat_eq, List, [], ◌∷◌, ◌++◌, Option, None, Some, IfSome, All, refl, sym, ap}
-use Rattle.std.proofs.Common.{◌∙◌, inl, inr, subst, encode_utf8, encode_utf8_all}
-use Rattle.std.proofs.lemmas.Bool.{and_parts, cases_Bool, false≢true}
-use Rattle.std.proofs.lemmas.List.Elements.{All-nil, All-cons, All-head, All-tail, All-append}
-use Rattle.std.proofs.lemmas.Grind.{flat_map-append}
-use Rattle.std.proofs.lemmas.Cmp.{nat_list_eq_equiv}
-use Rattle.std.specs.Cmp.Lexicographic.{same_text}
-use Rattle.std.specs.List.{flat_map, slice_index_or}
+use Rattle.snippet_grid.proofs.Common.{◌≡◌, ◌≢◌, ℕ, suc, Bool, true, false, if◌then◌else◌, nat_eq, List, [], ◌∷◌, ◌++◌, Option}
+use Rattle.snippet_grid.proofs.Common.{None, Some, IfSome, All, refl, sym, ap, ◌∙◌, inl, inr, subst, encode_utf8, encode_utf8_all, and_parts, cases_Bool}
+use Rattle.snippet_grid.proofs.Common.{false≢true, All-nil, All-cons, All-head, All-tail, All-append, flat_map-append, nat_list_eq_equiv, same_text, flat_map}
+use Rattle.snippet_grid.proofs.Common.{plain_is_plain, opening, reset, Cell, SPACE, row_text, further_text, plain_text, is_plain_style, style_of, level_style}
+use Rattle.snippet_grid.proofs.Common.{is_plain_sheet, Piece, Char, Opening, Reset, LinkTo, LinkEnd, piece_text, plain_piece, piece_link, next_style, next_link}
+use Rattle.snippet_grid.proofs.Common.{PrintsCells, PrintsRow, Prints, IsStyleOf, IsOfSheet, AreLinksEnded, IsWoven, link_begun, PrintsFurther, PrintsRows}
+use Rattle.snippet_grid.proofs.Common.{WeavesRows, EachCell, links_after, links_of, ElementStyle, MainHeaderMsg, HeaderMsg, LineAndColumn, Quotation, NoStyle}
+use Rattle.snippet_grid.proofs.Common.{LineNumber, UnderlinePrimary, LabelPrimary, UnderlineSecondary, LabelSecondary, Level, Addition, Removal, LevelInner}
+use Rattle.snippet_grid.proofs.Common.{Error, Warning, Info, Note, Help, Style, Stylesheet}
+use Rattle.std.specs.List.{slice_index_or}
 use lib.Pointwise.{pointwise}
-use Rattle.snippet_style.proofs.StyleLemmas.{plain_is_plain}
 use Rattle.snippet_grid.proofs.PrintsPieces.{Prints-from_pieces, PrintsPieces-from_prints}
 use Rattle.snippet_grid.proofs.WeaveLemmas.{Url, none≢some, some_same, is_there}
-use Rattle.snippet_style.specs.Codes.{opening, reset}
-use Rattle.snippet_style.specs.Cell.{Cell, SPACE}
-use Rattle.snippet_grid.specs.Print.{row_text, further_text, plain_text}
-use Rattle.snippet_style.specs.Style.{is_plain_style}
-use Rattle.snippet_style.specs.Stylesheet.{style_of, level_style, is_plain_sheet}
-use Rattle.snippet_grid.specs.Woven.{Piece, Char, Opening, Reset, LinkTo, LinkEnd, piece_text, plain_piece, piece_link, next_style, next_link, PrintsCells}
-use Rattle.snippet_grid.specs.Woven.{PrintsRow, Prints, IsStyleOf, IsOfSheet, AreLinksEnded, IsWoven, link_begun}
-use Rattle.snippet_grid.specs.Weaving.{PrintsFurther, PrintsRows, WeavesRows}
-use Rattle.snippet_grid.specs.Calls.{EachCell}
-use Rattle.snippet_grid.specs.Woven.{links_after, links_of}
-use Rattle.snippet_style.specs.declared.role.ElementStyle.{ElementStyle}
-use Rattle.snippet_style.specs.declared.role.ElementStyle.TheVariants.{MainHeaderMsg, HeaderMsg, LineAndColumn, Quotation, NoStyle, LineNumber}
-use Rattle.snippet_style.specs.declared.role.ElementStyle.TheVariants.{UnderlinePrimary, LabelPrimary, UnderlineSecondary, LabelSecondary, Level, Addition}
-use Rattle.snippet_style.specs.declared.role.ElementStyle.TheVariants.{Removal}
-use Rattle.snippet_style.specs.declared.role.LevelInner.{LevelInner}
-use Rattle.snippet_style.specs.declared.role.LevelInner.TheVariants.{Error, Warning, Info, Note, Help}
-use Rattle.snippet_style.specs.declared.style.Style.{Style}
-use Rattle.snippet_style.specs.declared.stylesheet.Stylesheet.{Stylesheet}
 
 -- the plain pieces are the cells' characters
 cells_plain : (sheet : Stylesheet) (level : LevelInner) (style : Option Style) (link : Option Url) (ps : List Piece) (cells : List Cell)

@@ -1,15 +1,8 @@
 -- The characters of a text: how many there are once it is normalised, and whether there are any.
-use Rattle.std.proofs.Common.{◌≡◌, ◌==◌, false, sym, ap, ◌∙◌, ℕ, ◌<◌, ◌^◌, List, [], length, arith, inl, inr, IsUtf8}
-use Rattle.std.proofs.lemmas.Str.{chars-nil, encodes-chars}
-use Rattle.snippet_text.proofs.NormLemmas.{length-norm}
+use Rattle.snippet_labels.proofs.Common.{◌≡◌, ◌==◌, false, sym, ap, ◌∙◌, ℕ, ◌<◌, ◌^◌, List, [], length, arith, inl, inr, IsUtf8}
+use Rattle.snippet_labels.proofs.Common.{chars-nil, encodes-chars, length-norm, encode_utf8_all, nat_tests, cases_lt, nil_from_length, norm, chars_some}
 use Rattle.std.specs.Str.{chars}
-use Rattle.std.specs.Prelude.{encode_utf8_all}
-use Rattle.std.proofs.lemmas.Bool.Decides.{nat_tests}
-use Rattle.std.proofs.lemmas.Bool.{cases_lt}
-use Rattle.std.proofs.lemmas.List.{nil_from_length}
-use Rattle.snippet_text.specs.Normalized.{norm}
 use Rattle.snippet_style.proofs.CellLemmas.{length-chars_le as length-chars}
-use Rattle.snippet_grid.proofs.GridShown.{chars_some}
 
 -- a text that fits is short once it is normalised
 pub norm_short : (bytes : List ℕ) → length bytes < 2 ^ 56 → length (norm (chars bytes)) < 2 ^ 60

@@ -1,11 +1,7 @@
 -- Words for parts of where labels stand, which proofs cite.
-use Rattle.std.proofs.Common.{◌+◌, ◌-◌, ◌&&◌, ◌||◌, Bool, List, Option, map, not, encode_utf8_all, ℕ}
-use Rattle.std.specs.Option.{option_map_or}
-use Rattle.snippet_text.specs.Normalized.{normalized_chars}
-use Rattle.snippet_parts.specs.declared.entries.LineAnnotation.{LineAnnotation}
-use Rattle.snippet_parts.specs.Least.{greatest}
-use Rattle.snippet_labels.specs.declared.positions.PlacedEntry.{PlacedEntry}
-use Rattle.snippet_labels.specs.Positions.{blocks, has_label, is_start_part, reaches}
+use Rattle.snippet_labels.proofs.Common.{◌+◌, ◌-◌, ◌&&◌, ◌||◌, Bool, List, Option, map, not, ℕ, option_map_or, normalized_chars}
+use Rattle.snippet_labels.proofs.Common.{LineAnnotation, greatest, PlacedEntry, blocks, has_label, is_start_part, reaches}
+use Rattle.std.proofs.Common.{encode_utf8_all}
 
 -- the characters that a label shows: normalised, and none where there is no label
 abbrev pub label_chars : Option (List ℕ) → List ℕ

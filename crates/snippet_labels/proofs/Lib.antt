@@ -1,3 +1,4 @@
+pub mod Common
 pub mod CharLemmas
 pub mod LabelWords
 pub mod OrderLemmas

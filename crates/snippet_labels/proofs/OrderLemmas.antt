@@ -1,20 +1,9 @@
 -- The order that entries are placed in.
-use Rattle.std.proofs.Common.{◌≡◌, ℕ, zero, suc, ◌+◌, ◌<◌, ◌≤◌, ◌==◌, ◌&&◌, ◌||◌, nat_lt, not, Bool, true, false, List, [], ◌∷◌, length, map, get_or}
-use Rattle.std.proofs.Common.{sym, ap, ◌∙◌, subst, arith, inl, inr, nat_cmp, is_lt}
-use Rattle.std.specs.Cmp.{IsStrictWeakOrder}
-use Rattle.std.specs.List.Sorted.{IsSortedBy, IsStableBy, ties}
-use Rattle.std.specs.Ordering.{ordering_then}
-use Rattle.std.specs.declared.cmp.Reverse.{Reverse}
-use Rattle.std.proofs.lemmas.Bool.{cases_lt}
-use Rattle.std.proofs.lemmas.Bool.Decides.{nat_tests}
-use Rattle.std.proofs.lemmas.List.{get_or-map, length-map}
-use Rattle.std.proofs.lemmas.List.Elements.{filter_agree}
-use Rattle.snippet_lines.specs.OrderedBy.{ordered_by}
-use Rattle.snippet_lines.proofs.OrderLemmas.{map-ordered_by, sorted-only}
-use Rattle.snippet_parts.specs.declared.entries.LineAnnotation.{LineAnnotation}
-use Rattle.snippet_labels.specs.declared.positions.PlacedEntry.{PlacedEntry}
-use Rattle.snippet_labels.specs.Positions.{is_placed_before}
-use Rattle.snippet_labels.specs.Placing.{StandsLeft, IsFromRight}
+use Rattle.snippet_labels.proofs.Common.{◌≡◌, ℕ, zero, suc, ◌+◌, ◌<◌, ◌≤◌, ◌==◌, ◌&&◌, ◌||◌, nat_lt, not, Bool, true, false}
+use Rattle.snippet_labels.proofs.Common.{List, [], ◌∷◌, length, map, get_or, sym, ap, ◌∙◌, subst, arith, inl, inr, nat_cmp, is_lt}
+use Rattle.snippet_labels.proofs.Common.{IsStrictWeakOrder, IsSortedBy, IsStableBy, ties, ordering_then, Reverse, cases_lt, nat_tests, get_or-map, length-map}
+use Rattle.snippet_labels.proofs.Common.{filter_agree, ordered_by, map-ordered_by, sorted-only, LineAnnotation, PlacedEntry, is_placed_before, StandsLeft}
+use Rattle.snippet_labels.proofs.Common.{IsFromRight}
 
 -- neighbours that are in an order put the whole list in it
 from_neighbours : (R : LineAnnotation → LineAnnotation → Type 0) → ((a : LineAnnotation) → R a a) → ((a b c : LineAnnotation) → R a b → R b c → R a c)

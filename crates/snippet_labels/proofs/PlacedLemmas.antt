@@ -1,25 +1,12 @@
 -- How the entries of a line are placed, one position after another.
-use Rattle.std.proofs.Common.{◌≡◌, ℕ, suc, ◌+◌, ◌<◌, ◌≤◌, ◌^◌, ◌==◌, ◌&&◌, ◌||◌, cond, nat_lt, not, None, Some, Bool, true, false, List, [], ◌∷◌, ◌++◌}
-use Rattle.std.proofs.Common.{length, map, drop, take}
-use Rattle.std.proofs.Common.{set, get_or, refl, sym, ap, ◌∙◌, subst, arith, All, zero}
-use Rattle.std.specs.List.{list_all, list_any, position, position_or_len, zip}
-use Rattle.std.proofs.lemmas.Bool.{lt-ltb}
-use Rattle.std.proofs.lemmas.Bool.Decides.{nat_tests}
-use Rattle.std.proofs.lemmas.Simd.{map-map}
-use Rattle.std.proofs.lemmas.List.{append_assoc, append-nil, drop_more, drop_all, take_more, take_more_set, take_all, length-map, map_push, get_or-map}
-use Rattle.std.proofs.lemmas.List.Folds.{list_all-map}
-use Rattle.std.specs.List.Sorted.{IsPermutation}
-use Rattle.std.proofs.lemmas.List.Sorted.{All-permutation, IsPermutation-map}
-use Rattle.snippet_lines.specs.OrderedBy.{ordered_by}
-use Rattle.snippet_parts.specs.declared.entries.LineAnnotation.{LineAnnotation}
-use Rattle.snippet_labels.specs.declared.positions.PlacedEntry.{PlacedEntry}
-use Rattle.snippet_labels.specs.Positions.{do_overlap, ends_no_later, has_label, takes_space}
-use Rattle.snippet_labels.specs.Positions.{are_starts, crosses, position_at, position_after, positions, line_positions}
-use Rattle.snippet_labels.specs.Placing.{ArePlaced, IsFromRight, HasItsBytes, HasItsLabel, asks, unplaced}
-use Rattle.snippet_labels.specs.Positions.{is_placed_before, look_counts, looked_after, placed_of}
-use Rattle.snippet_parts.proofs.PartLemmas.{list_any-map}
-use Rattle.std.proofs.lemmas.List.Elements.{All-map}
-use Rattle.snippet_labels.specs.PlacedEntries.{shifted}
+use Rattle.snippet_labels.proofs.Common.{◌≡◌, ℕ, suc, ◌+◌, ◌<◌, ◌≤◌, ◌^◌, ◌==◌, ◌&&◌, ◌||◌, cond, nat_lt, not, None, Some}
+use Rattle.snippet_labels.proofs.Common.{Bool, true, false, List, [], ◌∷◌, ◌++◌, length, map, drop, take, set, get_or, refl, sym, ap, ◌∙◌}
+use Rattle.snippet_labels.proofs.Common.{subst, arith, All, zero, list_all, list_any, position, position_or_len, zip, lt-ltb, nat_tests, map-map, append_assoc}
+use Rattle.snippet_labels.proofs.Common.{append-nil, drop_more, drop_all, take_more, take_more_set, take_all, length-map, map_push, get_or-map, list_all-map}
+use Rattle.snippet_labels.proofs.Common.{IsPermutation, All-permutation, IsPermutation-map, ordered_by, LineAnnotation, PlacedEntry, do_overlap, ends_no_later}
+use Rattle.snippet_labels.proofs.Common.{has_label, takes_space, are_starts, crosses, position_at, position_after, positions, line_positions, ArePlaced}
+use Rattle.snippet_labels.proofs.Common.{IsFromRight, HasItsBytes, HasItsLabel, asks, unplaced, is_placed_before, look_counts, looked_after, placed_of}
+use Rattle.snippet_labels.proofs.Common.{list_any-map, All-map, shifted}
 use Rattle.snippet_labels.proofs.LabelWords.{crowds, flipped, is_start, labelled, placed_at, up_to}
 
 -- the position of an entry whose label could stand after its mark: where a mark is in the way, and where none is

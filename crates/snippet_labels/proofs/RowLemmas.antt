@@ -1,27 +1,13 @@
 -- Entries that need one row: where their labels stand, and their order.
-use Rattle.std.proofs.Common.{◌≡◌, ℕ, zero, suc, ◌+◌, ◌-◌, ◌<◌, ◌≤◌, ◌==◌, ◌&&◌, ◌||◌, cond, nat_le, nat_lt, not, Bool, true, false, List, [], ◌∷◌, ◌++◌}
-use Rattle.std.proofs.Common.{drop, length, map, reverse, get_or, refl, sym, ap, ◌∙◌, subst, arith, All}
-use Rattle.std.specs.List.{list_any, range_with_len}
-use Rattle.std.specs.List.Sorted.{IsPermutation}
-use Rattle.std.proofs.Math.Bool.{and-false}
-use Rattle.std.proofs.lemmas.Bool.{cond-true}
-use Rattle.std.proofs.lemmas.Bool.Decides.{nat_tests}
-use Rattle.std.proofs.lemmas.List.{append_assoc, append-nil, drop_more, get_or-map, length-map, length-reverse, map_push, reverse-append, reverse-reverse}
-use Rattle.std.proofs.lemmas.List.Elements.{All-append, All-cons, All-head, All-nil, All-tail}
-use Rattle.std.proofs.lemmas.List.Folds.{list_any_none}
-use Rattle.std.proofs.lemmas.List.Sorted.{IsPermutation-reverse}
-use Rattle.snippet_lines.specs.OrderedBy.{ordered_by, put_in}
-use Rattle.snippet_parts.proofs.KeptLemmas.{range-pushed}
-use Rattle.snippet_parts.specs.declared.entries.LineAnnotation.{LineAnnotation}
-use Rattle.snippet_parts.specs.declared.entries.LineAnnotationType.{LineAnnotationType}
-use Rattle.snippet_parts.specs.declared.entries.LineAnnotationType.TheVariants.{Singleline, MultilineStart, MultilineEnd, MultilineLine}
-use Rattle.snippet_labels.specs.declared.positions.PlacedEntry.{PlacedEntry}
-use Rattle.snippet_labels.specs.PlacedEntries.{is_end_part}
-use Rattle.snippet_labels.specs.Positions.{are_starts, blocks, crosses}
-use Rattle.snippet_labels.specs.Positions.{do_overlap, ends_no_later, has_label}
-use Rattle.snippet_labels.specs.Positions.{is_placed_before, is_same_place, is_start_part, line_positions}
-use Rattle.snippet_labels.specs.Placing.{ArePlaced, FitsLeftOf, HasItsBytes, HasItsLabel, IsFromRight, StandInRow, StandsLeft, label_reach}
-use Rattle.snippet_labels.specs.Positions.{look_counts, looked_after, position_after, position_at, positions, reaches, takes_space}
+use Rattle.snippet_labels.proofs.Common.{◌≡◌, ℕ, zero, suc, ◌+◌, ◌-◌, ◌<◌, ◌≤◌, ◌==◌, ◌&&◌, ◌||◌, cond, nat_le, nat_lt}
+use Rattle.snippet_labels.proofs.Common.{not, Bool, true, false, List, [], ◌∷◌, ◌++◌, drop, length, map, reverse, get_or, refl, sym, ap, ◌∙◌}
+use Rattle.snippet_labels.proofs.Common.{subst, arith, All, list_any, range_with_len, IsPermutation, and-false, cond-true, nat_tests, append_assoc, append-nil}
+use Rattle.snippet_labels.proofs.Common.{drop_more, get_or-map, length-map, length-reverse, map_push, reverse-append, reverse-reverse, All-append, All-cons}
+use Rattle.snippet_labels.proofs.Common.{All-head, All-nil, All-tail, list_any_none, IsPermutation-reverse, ordered_by, put_in, range-pushed, LineAnnotation}
+use Rattle.snippet_labels.proofs.Common.{LineAnnotationType, Singleline, MultilineStart, MultilineEnd, MultilineLine, PlacedEntry, is_end_part, are_starts}
+use Rattle.snippet_labels.proofs.Common.{blocks, crosses, do_overlap, ends_no_later, has_label, is_placed_before, is_same_place, is_start_part, line_positions}
+use Rattle.snippet_labels.proofs.Common.{ArePlaced, FitsLeftOf, HasItsBytes, HasItsLabel, IsFromRight, StandInRow, StandsLeft, label_reach, look_counts}
+use Rattle.snippet_labels.proofs.Common.{looked_after, position_after, position_at, positions, reaches, takes_space}
 use Rattle.snippet_labels.proofs.PlacedLemmas.{no_position}
 use Rattle.snippet_labels.proofs.LabelWords.{crowds, flipped, up_to}
 

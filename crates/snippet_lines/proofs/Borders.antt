@@ -1,10 +1,7 @@
 -- The last border of characters of a text at a byte or before it.
-use Rattle.std.proofs.Common.{◌≡◌, ℕ, zero, suc, ◌<◌, ◌≤◌, ◌==◌, ◌&&◌, ◌||◌, ltb, true, if◌then◌else◌, List, length, sym, ap, ◌∙◌, arith, inl, inr}
-use Rattle.std.specs.List.{slice_index_or}
-use Rattle.std.specs.Str.{IsCharBoundary}
-use Rattle.std.proofs.lemmas.Bool.{cases_Bool, cases_lt}
-use Rattle.std.proofs.lemmas.Bool.Decides.{nat_tests}
-use Rattle.snippet_lines.specs.Places.{begins_char, border_before, is_border}
+use Rattle.snippet_lines.proofs.Common.{◌≡◌, ℕ, zero, suc, ◌<◌, ◌≤◌, ◌==◌, ◌&&◌, ◌||◌, ltb, true, if◌then◌else◌, List}
+use Rattle.snippet_lines.proofs.Common.{length, sym, ap, ◌∙◌, arith, inl, inr, slice_index_or, IsCharBoundary, cases_Bool, cases_lt, nat_tests}
+use Rattle.snippet_lines.proofs.Common.{begins_char, border_before, is_border}
 
 -- where the byte at a place is this one, a border is told by it
 told : (text : List ℕ) (k b : ℕ) → k ≤ length text → (k < length text → 128 ≤ b → 192 ≤ b)

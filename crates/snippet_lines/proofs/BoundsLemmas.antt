@@ -1,20 +1,11 @@
 -- The line around a byte, by the line feeds next to it.
-use Rattle.std.proofs.Common.{◌≡◌, ◌≢◌, ℕ, zero, suc, ◌+◌, ◌-◌, ◌<◌, ◌≤◌, ◌⊎◌, ◌↔◌, inl, inr, cond, List, [], ◌∷◌, ◌++◌, All, count_by, length, min, take, drop}
-use Rattle.std.proofs.Common.{get_or, refl, sym, ap, subst, ◌∙◌, ⊎_elim, arith, append_assoc}
-use Rattle.std.proofs.lemmas.List.{append-nil, length-append, take_at, drop_at, take-append-drop, drop-drop, length-take-le, length-drop, get_or-take}
-use Rattle.std.proofs.lemmas.List.{get_or-drop, get_or_default, drop_all, drop_more}
-use Rattle.std.specs.Str.{IsUtf8, IsCharBoundary}
-use Rattle.std.proofs.lemmas.Str.{IsCharBoundary-from_drop}
-use Rattle.std.proofs.lemmas.List.Concat.{flat_map-append}
-use Rattle.std.proofs.lemmas.List.Elements.{All-nil, All-cons, All-same, All-take, All-push}
-use Rattle.std.proofs.lemmas.List.Sums.{sum_by-append}
-use Rattle.std.proofs.lemmas.Bool.{cases_lt, eqb-true}
-use Rattle.snippet_lines.specs.declared.lines.EndLine.{EndLine}
-use Rattle.snippet_lines.specs.declared.lines.EndLine.TheVariants.{Eof, Lf, Crlf}
-use Rattle.snippet_lines.specs.Lines.{Line, end_bytes, line_bytes, joined, last_byte, lines_of, source_lines, is_lf, start_of}
-use Rattle.snippet_lines.specs.CutLines.{IsLine, AreLines, AreLinesOf}
-use Rattle.snippet_lines.specs.CutLines.{IsLineWithEnd}
-use Rattle.snippet_lines.specs.Place.{HoldsByte, line_of}
+use Rattle.snippet_lines.proofs.Common.{◌≡◌, ◌≢◌, ℕ, zero, suc, ◌+◌, ◌-◌, ◌<◌, ◌≤◌, ◌⊎◌, ◌↔◌, inl, inr, cond, List}
+use Rattle.snippet_lines.proofs.Common.{[], ◌∷◌, ◌++◌, All, count_by, length, min, take, drop, get_or, refl, sym, ap, subst, ◌∙◌, ⊎_elim}
+use Rattle.snippet_lines.proofs.Common.{arith, append_assoc, append-nil, length-append, take_at, drop_at, take-append-drop, drop-drop, length-take-le}
+use Rattle.snippet_lines.proofs.Common.{length-drop, get_or-take, get_or-drop, get_or_default, drop_all, drop_more, IsUtf8, IsCharBoundary}
+use Rattle.snippet_lines.proofs.Common.{IsCharBoundary-from_drop, flat_map-append, All-nil, All-cons, All-same, All-take, All-push, sum_by-append, cases_lt}
+use Rattle.snippet_lines.proofs.Common.{eqb-true, EndLine, Eof, Lf, Crlf, Line, end_bytes, line_bytes, joined, last_byte, lines_of, source_lines, is_lf}
+use Rattle.snippet_lines.proofs.Common.{start_of, IsLine, AreLines, AreLinesOf, IsLineWithEnd, HoldsByte, line_of}
 use Rattle.snippet_lines.proofs.LinesLemmas.{split_last, joined-lines_of, lines_of-append, length-lines_of, source_lines-some, start_of-end, start_of-le}
 use Rattle.snippet_lines.proofs.LinesLemmas.{start_of-next, joined-source_lines, AreLinesOf-source_lines, IsUtf8-line}
 use Rattle.snippet_lines.proofs.CursorLemmas.{count_by-none}

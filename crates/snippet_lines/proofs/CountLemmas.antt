@@ -1,8 +1,6 @@
 -- What the counts of line feeds in a text's front are.
-use Rattle.std.proofs.Common.{◌≡◌, ◌≤◌, ◌∙◌, ◌-◌, ◌==◌, ap, length, take, min, count_by, List, ℕ, Bool, true, false, cond, refl, arith, ◌+◌}
-use Rattle.std.proofs.lemmas.List.Sums.{sum_by-take-le}
-use Rattle.std.proofs.lemmas.List.{take_min}
-use Rattle.snippet_lines.specs.Lines.{newline_count, is_lf, last_byte}
+use Rattle.snippet_lines.proofs.Common.{◌≡◌, ◌≤◌, ◌∙◌, ◌-◌, ◌==◌, ap, length, take, min, count_by, List, ℕ, Bool, true, false, cond}
+use Rattle.snippet_lines.proofs.Common.{refl, arith, ◌+◌, sum_by-take-le, take_min, newline_count, is_lf, last_byte}
 use mir.Val.{bool_byte}
 
 -- a `bool` as a number

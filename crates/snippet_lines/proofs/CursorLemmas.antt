@@ -1,14 +1,8 @@
 -- What a search for an LF and a look at a line's end say of the lines of a text.
-use Rattle.std.proofs.Common.{◌≡◌, ◌≢◌, ℕ, suc, ◌+◌, ◌-◌, ◌<◌, ◌≤◌, ◌⊎◌, Bool, true, false, cond, List, [], ◌∷◌, ◌++◌, All, count_by, length, take}
-use Rattle.std.proofs.Common.{get_or, refl, sym, ap, subst, ◌∙◌, ⊎_elim, arith}
-use Rattle.std.proofs.lemmas.List.{append-nil, length-append, take_at, length-take-le, get_or-take, get_or_default}
-use Rattle.std.proofs.lemmas.List.Elements.{All-nil, All-push, All-take}
-use Rattle.std.proofs.lemmas.List.Sums.{sum_by-cons}
-use Rattle.std.proofs.lemmas.Bool.{cond-false, false_from_ne_true}
-use Rattle.snippet_lines.specs.declared.lines.EndLine.{EndLine}
-use Rattle.snippet_lines.specs.declared.lines.EndLine.TheVariants.{Eof}
-use Rattle.snippet_lines.specs.Lines.{end_bytes, line_bytes, last_byte, lines_of}
-use Rattle.snippet_lines.specs.CutLines.{IsLine, IsLineWithEnd}
+use Rattle.snippet_lines.proofs.Common.{◌≡◌, ◌≢◌, ℕ, suc, ◌+◌, ◌-◌, ◌<◌, ◌≤◌, ◌⊎◌, Bool, true, false, cond, List, []}
+use Rattle.snippet_lines.proofs.Common.{◌∷◌, ◌++◌, All, count_by, length, take, get_or, refl, sym, ap, subst, ◌∙◌, ⊎_elim, arith, append-nil}
+use Rattle.snippet_lines.proofs.Common.{length-append, take_at, length-take-le, get_or-take, get_or_default, All-nil, All-push, All-take, sum_by-cons}
+use Rattle.snippet_lines.proofs.Common.{cond-false, false_from_ne_true, EndLine, Eof, end_bytes, line_bytes, last_byte, lines_of, IsLine, IsLineWithEnd}
 use Rattle.snippet_lines.proofs.LinesLemmas.{split_last, lines_of-line}
 
 -- a text cut after its first LF

@@ -1,17 +1,9 @@
 -- The line that holds a byte, by the line feeds up to it.
-use Rattle.std.proofs.Common.{◌≡◌, ◌≢◌, ℕ, ◌+◌, ◌-◌, ◌<◌, ◌≤◌, true, false, cond, ltb, List, [], ◌∷◌, ◌++◌, All, length, take, refl, sym, ap, subst, ◌∙◌}
-use Rattle.std.proofs.Common.{arith, count_by, get_or, min, inl, inr, append_assoc}
-use Rattle.std.proofs.lemmas.List.{append-nil, length-append, length-take, length-take-le, take-append-le, take-take, take_all}
-use Rattle.std.proofs.Math.Seq.{take-append-add}
-use Rattle.std.proofs.lemmas.List.Sums.{sum_by-append, sum_by-cons}
-use Rattle.std.proofs.lemmas.List.Elements.{All-take}
-use Rattle.std.proofs.lemmas.Bool.{cases_lt, cond_both, ltb-true, ltb-false, eqb-true}
-use Rattle.snippet_lines.specs.declared.lines.EndLine.{EndLine}
-use Rattle.snippet_lines.specs.declared.lines.EndLine.TheVariants.{Eof, Lf, Crlf}
-use Rattle.snippet_lines.specs.Lines.{Line, line_bytes, joined, last_byte, lines_of, source_lines, is_lf}
-use Rattle.snippet_lines.specs.CutLines.{IsLineWithEnd, AreLines}
-use Rattle.snippet_lines.specs.Lines.{newline_count, start_of}
-use Rattle.snippet_lines.specs.Place.{line_of}
+use Rattle.snippet_lines.proofs.Common.{◌≡◌, ◌≢◌, ℕ, ◌+◌, ◌-◌, ◌<◌, ◌≤◌, true, false, cond, ltb, List, [], ◌∷◌, ◌++◌}
+use Rattle.snippet_lines.proofs.Common.{All, length, take, refl, sym, ap, subst, ◌∙◌, arith, count_by, get_or, min, inl, inr, append_assoc, append-nil}
+use Rattle.snippet_lines.proofs.Common.{length-append, length-take, length-take-le, take-append-le, take-take, take_all, take-append-add, sum_by-append}
+use Rattle.snippet_lines.proofs.Common.{sum_by-cons, All-take, cases_lt, cond_both, ltb-true, ltb-false, eqb-true, EndLine, Eof, Lf, Crlf, Line, line_bytes}
+use Rattle.snippet_lines.proofs.Common.{joined, last_byte, lines_of, source_lines, is_lf, IsLineWithEnd, AreLines, newline_count, start_of, line_of}
 use Rattle.snippet_lines.proofs.LinesLemmas.{split_last, last_byte-push, lines_of-append, length-lines_of, length-source_lines}
 use Rattle.snippet_lines.proofs.LinesLemmas.{ending_newlines}
 use Rattle.snippet_lines.proofs.LinesLemmas.{start_of-zero, length-lines_of-pos, AreLines-lines_of, joined-lines_of, source_lines-some}

@@ -1,3 +1,4 @@
+pub mod Common
 pub mod Borders
 pub mod BoundsLemmas
 pub mod CountLemmas

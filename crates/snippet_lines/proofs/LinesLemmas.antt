@@ -1,19 +1,12 @@
 -- Laws of the cut of a text into lines.
-use Rattle.std.proofs.Common.{◌≡◌, ◌≢◌, ℕ, zero, suc, ◌+◌, ◌-◌, ◌<◌, ◌≤◌, inl, inr, true, false, cond, eqb, List, [], ◌∷◌, ◌++◌, All, length, take, drop}
-use Rattle.std.proofs.Common.{get_or, refl, sym, ap, subst, ◌∙◌, ⊎_elim, arith, add-one, append_assoc, count_by, le_refl, add-zero}
-use Rattle.std.proofs.lemmas.List.{append-nil, length-append, take_at, drop_at, drop_more, get_or_past, get_or_at, take-append-drop, take_more, take_all}
-use Rattle.std.proofs.lemmas.List.{drop-drop}
-use Rattle.std.specs.Str.{IsUtf8}
-use Rattle.std.proofs.lemmas.Str.{IsUtf8-nil, IsUtf8-take, IsUtf8-drop, IsCharBoundary-before_ascii, IsCharBoundary-after_ascii}
-use Rattle.std.proofs.lemmas.List.Sums.{sum_by-cons, count_by-le-length}
-use Rattle.std.proofs.lemmas.List.Concat.{flat_map-append}
-use Rattle.std.proofs.lemmas.List.Elements.{All-same, All-head, All-tail, All-nil, All-cons}
-use Rattle.std.proofs.lemmas.Bool.{cases_lt, cond_both, cond-true, cond-false, eq-eqb, ne_eqb, eqb-true, eqb-false}
-use Rattle.snippet_lines.specs.declared.lines.EndLine.{EndLine}
-use Rattle.snippet_lines.specs.declared.lines.EndLine.TheVariants.{Eof, Lf, Crlf}
-use Rattle.snippet_lines.specs.Lines.{Line, end_bytes, line_bytes, joined, last_byte, line_with_byte, with_first_byte}
-use Rattle.snippet_lines.specs.CutLines.{IsLine, AreLines, IsCutOf, AreLinesOf}
-use Rattle.snippet_lines.specs.Lines.{lines_of, source_lines, is_lf, newline_count, text_at, StandsAt, start_of}
+use Rattle.snippet_lines.proofs.Common.{◌≡◌, ◌≢◌, ℕ, zero, suc, ◌+◌, ◌-◌, ◌<◌, ◌≤◌, inl, inr, true, false, cond, eqb, List, []}
+use Rattle.snippet_lines.proofs.Common.{◌∷◌, ◌++◌, All, length, take, drop, get_or, refl, sym, ap, subst, ◌∙◌, ⊎_elim, arith, add-one}
+use Rattle.snippet_lines.proofs.Common.{append_assoc, count_by, le_refl, add-zero, append-nil, length-append, take_at, drop_at, drop_more, get_or_past}
+use Rattle.snippet_lines.proofs.Common.{get_or_at, take-append-drop, take_more, take_all, drop-drop, IsUtf8, IsUtf8-nil, IsUtf8-take, IsUtf8-drop}
+use Rattle.snippet_lines.proofs.Common.{IsCharBoundary-before_ascii, IsCharBoundary-after_ascii, sum_by-cons, count_by-le-length, flat_map-append, All-same}
+use Rattle.snippet_lines.proofs.Common.{All-head, All-tail, All-nil, All-cons, cases_lt, cond_both, cond-true, cond-false, eq-eqb, ne_eqb, eqb-true, eqb-false}
+use Rattle.snippet_lines.proofs.Common.{EndLine, Eof, Lf, Crlf, Line, end_bytes, line_bytes, joined, last_byte, line_with_byte, with_first_byte, IsLine}
+use Rattle.snippet_lines.proofs.Common.{AreLines, IsCutOf, AreLinesOf, lines_of, source_lines, is_lf, newline_count, text_at, StandsAt, start_of}
 
 -- a byte in front of a text that isn't empty leaves its last byte
 pub last_byte-cons : (b c : ℕ) (bs : List ℕ) → last_byte (b ∷ c ∷ bs) ≡ last_byte (c ∷ bs)

@@ -1,7 +1,5 @@
 -- Tables of starts that aren't those of a source.
-use Rattle.std.proofs.Common.{◌≡◌, ◌≢◌, ℕ, List, [], ◌∷◌, length, ap, sym, ◌∙◌, arith}
-use Rattle.std.specs.Prelude.{codes}
-use Rattle.snippet_lines.specs.Starts.{line_starts}
+use Rattle.snippet_lines.proofs.Common.{◌≡◌, ◌≢◌, ℕ, List, [], ◌∷◌, length, ap, sym, ◌∙◌, arith, codes, line_starts}
 
 -- a table with a line too few: of two lines it has the first alone
 pub line_too_few : (starts : List ℕ) → starts ≡ line_starts (codes "a\nb") → starts ≢ 0 ∷ []

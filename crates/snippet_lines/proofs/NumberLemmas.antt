@@ -1,20 +1,10 @@
 -- The texts of line numbers.
-use Rattle.std.proofs.Common.{inl, inr, ◌≡◌, ℕ, zero, suc, ◌-◌, ◌+◌, ◌^◌, ◌<◌, ◌≤◌, ◌/◌, ◌%◌, List, [], ◌∷◌, ◌++◌, length, replicate, refl, ap, All}
-use Rattle.std.proofs.Common.{chars, ◌∙◌, arith, false}
-use Rattle.std.specs.List.{repeat}
-use Rattle.std.specs.Fmt.{decimal}
-use Rattle.std.proofs.lemmas.Bool.Decides.{nat_tests}
-use Rattle.std.proofs.lemmas.Bool.{cases_lt}
-use Rattle.std.proofs.lemmas.List.{length-append, length-replicate, length_push}
-use Rattle.std.proofs.lemmas.Fmt.{decimal_digit, decimal_step, decimal_by_steps, IsAscii-decimal}
-use Rattle.std.proofs.lemmas.List.Elements.{All-append, All-cons, All-nil, All-push, All-replicate}
-use Rattle.std.proofs.lemmas.Str.{chars-IsAscii, IsAscii-append}
-use Rattle.std.proofs.lemmas.Str.Ascii.{IsAscii-from_all}
-use Rattle.std.specs.Str.{IsAscii}
-use Rattle.snippet_text.specs.Normalized.{is_listed}
-use Rattle.snippet_lines.specs.Number.{number_width, shown_number}
-use Rattle.snippet_lines.specs.declared.number.LineNumbers.{LineNumbers}
-use Rattle.snippet_lines.specs.declared.number.LineNumbers.TheVariants.{Shown, Anonymized, Hidden}
+use Rattle.snippet_lines.proofs.Common.{inl, inr, ◌≡◌, ℕ, zero, suc, ◌-◌, ◌+◌, ◌^◌, ◌<◌, ◌≤◌, ◌/◌, ◌%◌, List, []}
+use Rattle.snippet_lines.proofs.Common.{◌∷◌, ◌++◌, length, replicate, refl, ap, All, ◌∙◌, arith, false, repeat, decimal, nat_tests, cases_lt}
+use Rattle.snippet_lines.proofs.Common.{length-append, length-replicate, length_push, decimal_digit, decimal_step, decimal_by_steps, IsAscii-decimal}
+use Rattle.snippet_lines.proofs.Common.{All-append, All-cons, All-nil, All-push, All-replicate, chars-IsAscii, IsAscii-append, IsAscii-from_all, IsAscii}
+use Rattle.snippet_lines.proofs.Common.{is_listed, number_width, shown_number, LineNumbers, Shown, Anonymized, Hidden}
+use Rattle.std.proofs.Common.{chars}
 
 -- a text of one space, repeated
 pub repeat-one_space : (n : ℕ) → repeat {A = ℕ} n (32 ∷ []) ≡ replicate n 32

@@ -1,11 +1,8 @@
 -- A stable sort has one answer: the list put in order.
-use Rattle.std.proofs.Common.{◌≡◌, suc, ◌+◌, Bool, true, false, cond, not, List, [], ◌∷◌, map, filter, All, get_or, refl, sym, ap, subst, ◌∙◌, ⊎_elim, arith}
-use Rattle.std.proofs.lemmas.Bool.{cases_Bool, cond-true, cond-false, and_from, and_parts, both_ways, false_from_ne_true, not-true, not_from_false}
-use Rattle.std.proofs.lemmas.List.Elements.{All-nil, All-cons, All-head, All-tail}
-use Rattle.std.proofs.lemmas.List.Sorted.{sorted_far}
-use Rattle.std.specs.Cmp.{IsStrictWeakOrder}
-use Rattle.std.specs.List.Sorted.{IsSortedBy, IsStableBy, ties}
-use Rattle.snippet_lines.specs.OrderedBy.{put_in, ordered_by}
+use Rattle.snippet_lines.proofs.Common.{◌≡◌, suc, ◌+◌, Bool, true, false, cond, not, List, [], ◌∷◌, map, filter, All, get_or, refl, sym, ap}
+use Rattle.snippet_lines.proofs.Common.{subst, ◌∙◌, ⊎_elim, arith, cases_Bool, cond-true, cond-false, and_from, and_parts, both_ways}
+use Rattle.snippet_lines.proofs.Common.{false_from_ne_true, not-true, not_from_false, All-nil, All-cons, All-head, All-tail, sorted_far, IsStrictWeakOrder}
+use Rattle.snippet_lines.proofs.Common.{IsSortedBy, IsStableBy, ties, put_in, ordered_by}
 
 -- each later element comes before none that stands earlier
 abbrev pub Rises : {X : Type 0} → (X → X → Bool) → List X → Type 0

@@ -1,19 +1,11 @@
 -- Laws of the line that holds a byte, and of the place of a byte.
-use Rattle.std.proofs.Common.{◌≡◌, ◌≢◌, ℕ, zero, suc, ◌+◌, ◌-◌, ◌<◌, ◌≤◌, true, eqb, ltb, min, List, [], ◌∷◌, ◌++◌, length, take, drop, get_or, refl, sym, ap}
-use Rattle.std.proofs.Common.{subst, ◌∙◌, ⊎_elim, arith, add-zero}
-use Rattle.std.specs.List.{slice_range}
-use Rattle.std.specs.Str.{IsCharBoundary, IsUtf8, chars}
-use Rattle.std.proofs.Math.Seq.{take-add}
-use Rattle.std.proofs.lemmas.List.{get_or-take, get_or-drop, take_min}
-use Rattle.std.proofs.lemmas.Str.{IsUtf8-take, chars-append}
-use Rattle.std.proofs.lemmas.Bool.{cases_lt, cases_order, cond_both, ltb-true, ltb-false, cond-true, cond-false, eq-eqb, ne_eqb}
-use Rattle.snippet_lines.specs.declared.lines.EndLine.{EndLine}
-use Rattle.snippet_lines.specs.declared.lines.EndLine.TheVariants.{Eof, Lf, Crlf}
-use Rattle.snippet_lines.specs.Lines.{Line, line_bytes, source_lines, text_at, start_of, Source}
-use Rattle.snippet_lines.specs.CutLines.{AreLines, AreLinesOf}
-use Rattle.snippet_text.specs.Width.{char_width, width_of}
-use Rattle.snippet_lines.specs.Place.{HoldsByte, line_of, prefix_at, place_of, location_of, steps_after_text, start_location, end_location, locations_of}
-use Rattle.snippet_lines.specs.IsSpan.{IsSpanBorder}
+use Rattle.snippet_lines.proofs.Common.{◌≡◌, ◌≢◌, ℕ, zero, suc, ◌+◌, ◌-◌, ◌<◌, ◌≤◌, true, eqb, ltb, min, List, [], ◌∷◌}
+use Rattle.snippet_lines.proofs.Common.{◌++◌, length, take, drop, get_or, refl, sym, ap, subst, ◌∙◌, ⊎_elim, arith, add-zero, slice_range}
+use Rattle.snippet_lines.proofs.Common.{IsCharBoundary, IsUtf8, take-add, get_or-take, get_or-drop, take_min, IsUtf8-take, chars-append, cases_lt, cases_order}
+use Rattle.snippet_lines.proofs.Common.{cond_both, ltb-true, ltb-false, cond-true, cond-false, eq-eqb, ne_eqb, EndLine, Eof, Lf, Crlf, Line, line_bytes}
+use Rattle.snippet_lines.proofs.Common.{source_lines, text_at, start_of, Source, AreLines, AreLinesOf, char_width, width_of, HoldsByte, line_of, prefix_at}
+use Rattle.snippet_lines.proofs.Common.{place_of, location_of, steps_after_text, start_location, end_location, locations_of, IsSpanBorder}
+use Rattle.std.specs.Str.{chars}
 use Rattle.snippet_lines.proofs.LinesLemmas.{start_of-zero, start_of-cons, start_of-le, start_of-end, start_of-next, AreLinesOf-source_lines}
 use Rattle.snippet_lines.proofs.LinesLemmas.{joined-source_lines, length-source_lines, text_at-stands, text_at-within}
 

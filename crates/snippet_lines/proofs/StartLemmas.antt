@@ -1,15 +1,10 @@
 -- Where the lines of a source start: at its first byte, and after each line feed that doesn't end it.
-use Rattle.std.proofs.Common.{◌≡◌, ℕ, zero, suc, ◌+◌, ◌-◌, ◌<◌, ◌≤◌, cond, eqb, ltb, List, [], ◌∷◌, ◌++◌, length, drop, get_or, refl, sym, ap, subst, ◌∙◌}
-use Rattle.std.proofs.Common.{⊎_elim, arith}
-use Rattle.std.proofs.lemmas.List.{append_assoc, length-append, drop_more, drop_all, nil_from_length}
-use Rattle.std.proofs.lemmas.Bool.{cases_lt, cond_both, cond-true, cond-false, lt-ltb, le-ltb}
-use Rattle.memchr.specs.Find.{is_byte, places, places_from}
-use Rattle.snippet_lines.specs.declared.lines.EndLine.{EndLine}
-use Rattle.snippet_lines.specs.declared.lines.EndLine.TheVariants.{Eof, Lf}
-use Rattle.snippet_lines.specs.Lines.{Line, end_bytes, line_bytes, joined, line_with_byte, with_first_byte, lines_of, source_lines, text_at}
-use Rattle.snippet_lines.specs.CutLines.{IsLine}
+use Rattle.snippet_lines.proofs.Common.{◌≡◌, ℕ, zero, suc, ◌+◌, ◌-◌, ◌<◌, ◌≤◌, cond, eqb, ltb, List, [], ◌∷◌, ◌++◌, length}
+use Rattle.snippet_lines.proofs.Common.{drop, get_or, refl, sym, ap, subst, ◌∙◌, ⊎_elim, arith, length-append, drop_more, drop_all, nil_from_length}
+use Rattle.snippet_lines.proofs.Common.{cases_lt, cond_both, cond-true, cond-false, lt-ltb, le-ltb, is_byte, places, places_from, EndLine, Eof, Lf, Line}
+use Rattle.snippet_lines.proofs.Common.{end_bytes, line_bytes, joined, line_with_byte, with_first_byte, lines_of, source_lines, text_at, IsLine, starts_from}
+use Rattle.std.proofs.lemmas.List.{append_assoc}
 use Rattle.snippet_lines.proofs.LinesLemmas.{line_bytes-line_with_byte, lines_of-joined}
-use Rattle.snippet_lines.specs.Starts.{starts_from}
 
 -- the places of the line feeds of some bytes, of which the first stands at a place
 abbrev feeds : ℕ → List ℕ → List ℕ

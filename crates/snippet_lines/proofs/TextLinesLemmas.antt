@@ -1,11 +1,8 @@
 -- Where lines start and end: between characters.
-use Rattle.std.proofs.Common.{◌≡◌, ℕ, zero, suc, ◌+◌, ◌-◌, ◌<◌, ◌≤◌, ◌==◌, ◌&&◌, ◌||◌, Bool, true, false, Option, List, [], ◌∷◌, ◌++◌, drop, drop-cons, get_or}
-use Rattle.std.proofs.Common.{length, slice_get, refl, sym, ap, subst, ◌∙◌, arith}
-use Rattle.std.proofs.Common.{if◌then◌else◌}
-use Rattle.std.proofs.lemmas.Bool.Decides.{nat_tests}
-use Rattle.std.proofs.lemmas.Str.{IsCharBoundary-after_ascii}
-use Rattle.std.specs.Str.{IsCharBoundary, IsUtf8}
-use Rattle.snippet_lines.specs.TextLines.{begins_with_feed, ends_line, line_length, line_start_after, starts_after}
+use Rattle.snippet_lines.proofs.Common.{◌≡◌, ℕ, zero, suc, ◌+◌, ◌-◌, ◌<◌, ◌≤◌, ◌==◌, ◌&&◌, ◌||◌, Bool, true, false}
+use Rattle.snippet_lines.proofs.Common.{Option, List, [], ◌∷◌, ◌++◌, drop, drop-cons, get_or, length, slice_get, refl, sym, ap, subst, ◌∙◌}
+use Rattle.snippet_lines.proofs.Common.{arith, if◌then◌else◌, nat_tests, IsCharBoundary-after_ascii, IsCharBoundary, IsUtf8, begins_with_feed, ends_line}
+use Rattle.snippet_lines.proofs.Common.{line_length, line_start_after, starts_after}
 
 -- a byte before which a line ends is a line feed or a carriage return
 line_end-small : (b : ℕ) (feed : Bool) → (b == 10 || b == 13 && feed) ≡ true → b ≤ 13

@@ -1,11 +1,7 @@
 -- How a text is walked along, unit by unit.
-use Rattle.std.proofs.Common.{◌≡◌, ℕ, ◌+◌, ◌-◌, ◌<◌, ◌≤◌, ◌==◌, true, false, List, [], ◌∷◌, nat_lt, chars, length, sym, ap, ◌∙◌, arith, if◌then◌else◌}
-use Rattle.std.proofs.lemmas.Bool.Decides.{nat_tests}
-use Rattle.std.proofs.lemmas.Str.{chars-nil}
-use Rattle.std.specs.Char.{len_utf8}
-use Rattle.snippet_lines.specs.Places.{place_from, units_of}
-use Rattle.snippet_lines.specs.declared.clamp.Place.{Place}
-use Rattle.snippet_lines.specs.declared.columns.ColumnUnit.{ColumnUnit}
+use Rattle.snippet_lines.proofs.Common.{◌≡◌, ℕ, ◌+◌, ◌-◌, ◌<◌, ◌≤◌, ◌==◌, true, false, List, [], ◌∷◌, nat_lt, length, sym}
+use Rattle.snippet_lines.proofs.Common.{ap, ◌∙◌, arith, if◌then◌else◌, nat_tests, chars-nil, len_utf8, place_from, units_of, Place, ColumnUnit}
+use Rattle.std.proofs.Common.{chars}
 
 -- before a character that counts more than the units that are left
 pub place_from-here : (unit : ColumnUnit) (at left c : ℕ) (cs rest : List ℕ) → cs ≡ c ∷ rest → left < units_of unit c

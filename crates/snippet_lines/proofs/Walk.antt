@@ -1,11 +1,7 @@
 -- How a line is walked along, byte by byte.
-use Rattle.std.proofs.Common.{◌≡◌, ◌⊎◌, ℕ, suc, arith, ◌+◌, ◌<◌, ◌≤◌, Bool, false, List, ◌∷◌, drop, drop-cons, get_or, length, sym, ap, ◌∙◌, subst, inl, inr}
-use Rattle.std.proofs.Common.{if◌then◌else◌}
-use Rattle.std.specs.Bool.{IsTrue}
-use Rattle.std.specs.Str.{IsCharBoundary, IsUtf8}
-use Rattle.std.proofs.lemmas.Bool.{cases_lt, false≢true}
-use Rattle.std.proofs.lemmas.Str.{IsCharBoundary-start}
-use Rattle.snippet_lines.specs.TextLines.{ends_line, line_length}
+use Rattle.snippet_lines.proofs.Common.{◌≡◌, ◌⊎◌, ℕ, suc, arith, ◌+◌, ◌<◌, ◌≤◌, Bool, false, List, ◌∷◌, drop, drop-cons}
+use Rattle.snippet_lines.proofs.Common.{get_or, length, sym, ap, ◌∙◌, subst, inl, inr, if◌then◌else◌, IsTrue, IsCharBoundary, IsUtf8, cases_lt}
+use Rattle.snippet_lines.proofs.Common.{false≢true, IsCharBoundary-start, ends_line, line_length}
 
 -- where the line doesn't end, it is one byte longer than what comes after this byte
 pub line-next : (bytes : List ℕ) (at : ℕ) → at < length bytes → ends_line (drop at bytes) ≡ false

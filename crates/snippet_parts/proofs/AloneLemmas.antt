@@ -1,25 +1,12 @@
 -- Spans that are all marked on one line alone: it is the only line that is kept, and all entries stand on it.
-use Rattle.std.proofs.Common.{◌≡◌, ℕ, ◌+◌, ◌-◌, ◌<◌, Bool, true, false, ◌&&◌, ◌||◌, cond, not, eqb, leb, List, [], ◌∷◌, ◌++◌, length, map}
-use Rattle.std.proofs.Common.{get_or, inl, inr, refl, sym, ap, ◌∙◌, arith}
-use Rattle.std.specs.List.{All, filter, list_any, range_with_len}
-use Rattle.std.proofs.Math.Bool.{and-false}
-use Rattle.std.proofs.lemmas.Bool.{and_parts, cases_eq, cases_lt, eq-eqb, eqb-true, false≢true, le-leb, lt-leb, ne_eqb}
-use Rattle.std.proofs.lemmas.List.{append-nil}
-use Rattle.std.proofs.lemmas.List.Elements.{All-nil, All-cons, All-head, All-tail, All-filter, All-map, filter-append, filter_agree}
-use Rattle.std.proofs.lemmas.List.Folds.{list_any_none}
-use Rattle.snippet_lines.specs.Lines.{Source, source_lines, text_at}
-use Rattle.snippet_lines.specs.OrderedBy.{ordered_by}
-use Rattle.snippet_lines.specs.declared.place.Loc.{Loc}
-use Rattle.snippet_lines.proofs.PlaceLemmas.{line_of-within}
-use Rattle.snippet_model.specs.declared.snippet.Annotation.{Annotation}
-use Rattle.snippet_parts.specs.declared.entries.LineAnnotation.{LineAnnotation}
-use Rattle.snippet_parts.specs.declared.located.LocatedSpan.{LocatedSpan}
-use Rattle.snippet_parts.specs.Annotated.{KeptLine, annotated_lines, deepest, kept_line, long_parts, long_place, long_spans, made_parts, parts_on, single_part}
-use Rattle.snippet_parts.specs.Depths.{greatest_depth}
-use Rattle.snippet_parts.specs.Kept.{has_bar, keeps, kept_lines}
-use Rattle.snippet_parts.specs.Located.{IsLocated, annotations_of, is_alone_on, is_long_span, is_short_span, short_part, span_entry}
-use Rattle.snippet_parts.specs.Mark.{is_marking, touches}
-use Rattle.snippet_parts.specs.Marked.{first_line, last_line}
+use Rattle.snippet_parts.proofs.Common.{◌≡◌, ℕ, ◌+◌, ◌-◌, ◌<◌, Bool, true, false, ◌&&◌, ◌||◌, cond, not, eqb, leb, List, []}
+use Rattle.snippet_parts.proofs.Common.{◌∷◌, ◌++◌, length, map, get_or, inl, inr, refl, sym, ap, ◌∙◌, arith, All, filter, list_any}
+use Rattle.snippet_parts.proofs.Common.{range_with_len, and-false, and_parts, cases_eq, cases_lt, eq-eqb, eqb-true, false≢true, le-leb, lt-leb, ne_eqb}
+use Rattle.snippet_parts.proofs.Common.{append-nil, All-nil, All-cons, All-head, All-tail, All-filter, All-map, filter-append, filter_agree, list_any_none}
+use Rattle.snippet_parts.proofs.Common.{Source, source_lines, text_at, ordered_by, Loc, line_of-within, Annotation, LineAnnotation, LocatedSpan, KeptLine}
+use Rattle.snippet_parts.proofs.Common.{annotated_lines, deepest, kept_line, long_parts, long_place, long_spans, made_parts, parts_on, single_part}
+use Rattle.snippet_parts.proofs.Common.{greatest_depth, has_bar, keeps, kept_lines, IsLocated, annotations_of, is_alone_on, is_long_span, is_short_span}
+use Rattle.snippet_parts.proofs.Common.{short_part, span_entry, is_marking, touches, first_line, last_line}
 use Rattle.snippet_parts.proofs.KeptLemmas.{lines-split, range-none, range-split}
 use Rattle.snippet_parts.proofs.LocatedLemmas.{long-are, short-parts}
 use Rattle.snippet_parts.proofs.MarkLemmas.{start-line}

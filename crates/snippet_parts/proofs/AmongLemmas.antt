@@ -1,11 +1,9 @@
 -- What stands in a list, and that the least and the greatest number of a list follow from it alone.
-use Rattle.std.proofs.Common.{◌≡◌, ◌∙◌, ◌⊎◌, ℕ, zero, suc, ◌+◌, ◌<◌, ◌≤◌, Bool, true, ◌||◌, List, [], ◌∷◌, ◌++◌, All, Option, Some, None, map, fold, max, min}
-use Rattle.std.proofs.Common.{unwrap_or, refl, sym, ap, subst, inl, inr, arith}
-use Rattle.std.specs.List.{filter, flat_map, list_all, list_any, cons_option, filter_map, range_with_len}
-use Rattle.std.proofs.lemmas.Bool.{cases_Bool, cases_lt, cond-true, cond-false, or_left, or_right, and_parts}
-use Rattle.std.proofs.lemmas.List.Elements.{All-head, All-tail}
-use Rattle.snippet_lines.specs.OrderedBy.{put_in, ordered_by}
-use Rattle.snippet_parts.specs.Least.{least, greatest}
+use Rattle.snippet_parts.proofs.Common.{◌≡◌, ◌∙◌, ◌⊎◌, ℕ, zero, suc, ◌+◌, ◌<◌, ◌≤◌, Bool, true, ◌||◌, List, [], ◌∷◌}
+use Rattle.snippet_parts.proofs.Common.{◌++◌, Option, Some, None, map, fold, max, min, unwrap_or, refl, sym, ap, subst, inl, inr, arith, filter, flat_map}
+use Rattle.snippet_parts.proofs.Common.{list_all, list_any, cons_option, filter_map, range_with_len, cases_Bool, cases_lt, cond-true, cond-false, or_left}
+use Rattle.snippet_parts.proofs.Common.{or_right, and_parts, All-head, All-tail, put_in, ordered_by, least, greatest}
+use Rattle.std.proofs.Common.{All}
 use Rattle.snippet_parts.proofs.LeastLemmas.{least_below}
 
 -- x stands in the list

@@ -1,7 +1,6 @@
 -- Which lines have bars.
-use Rattle.std.proofs.Common.{◌≡◌, ℕ, zero, suc, ◌+◌, ◌-◌, ◌<◌, ◌≤◌, Bool, true, false, ◌||◌, leb, inl, inr, sym, ap, ◌∙◌, arith}
-use Rattle.std.specs.List.{list_any, range_with_len}
-use Rattle.std.proofs.lemmas.Bool.{cases_Bool, cases_lt, or_left, or_right, le-leb, lt-leb}
+use Rattle.snippet_parts.proofs.Common.{◌≡◌, ℕ, zero, suc, ◌+◌, ◌-◌, ◌<◌, ◌≤◌, Bool, true, false, ◌||◌, leb, inl, inr, sym, ap}
+use Rattle.snippet_parts.proofs.Common.{◌∙◌, arith, list_any, range_with_len, cases_Bool, cases_lt, or_left, or_right, le-leb, lt-leb}
 
 -- one of the lines from `from` up to, but not including, `to` passes a test
 pub any-hit : (p : ℕ → Bool) (from n at : ℕ) → from ≤ at → at < from + n → p at ≡ true → list_any p (range_with_len from n) ≡ true

@@ -1,15 +1,8 @@
 -- What is known of the mark of a column.
-use Rattle.std.proofs.Common.{◌≡◌, ℕ, ◌+◌, ◌<◌, ◌≤◌, Option, Some, None, List, [], ◌∷◌, ◌++◌, length, take, get_or, sym, ap, subst, ◌∙◌, ⊎_elim, arith}
-use Rattle.std.specs.List.{All, Contains}
-use Rattle.std.specs.Option.{IfSome, IfNone, option_map}
-use Rattle.std.proofs.lemmas.List.{take_more, take_all}
-use Rattle.std.proofs.lemmas.List.Elements.{All-contains, All-push, Contains-push, Contains-append_left, Contains-push_cases}
-use Rattle.snippet_model.specs.declared.snippet.Annotation.{Annotation}
-use Rattle.snippet_model.specs.declared.snippet.AnnotationKind.{AnnotationKind}
-use Rattle.snippet_model.specs.declared.snippet.AnnotationKind.TheVariants.{Primary, Context}
-use Rattle.snippet_parts.specs.declared.mark.Mark.{Mark}
-use Rattle.snippet_lines.specs.Lines.{Source}
-use Rattle.snippet_parts.specs.Mark.{span_width, IsMarkedAt, IsMarkOf}
+use Rattle.snippet_parts.proofs.Common.{◌≡◌, ℕ, ◌+◌, ◌<◌, ◌≤◌, Option, Some, None, List, [], ◌∷◌, ◌++◌, length, take, get_or}
+use Rattle.snippet_parts.proofs.Common.{sym, ap, subst, ◌∙◌, ⊎_elim, arith, All, Contains, IfSome, IfNone, option_map, take_more, take_all}
+use Rattle.snippet_parts.proofs.Common.{All-contains, All-push, Contains-push, Contains-append_left, Contains-push_cases, Annotation, AnnotationKind, Primary}
+use Rattle.snippet_parts.proofs.Common.{Context, Mark, Source, span_width, IsMarkedAt, IsMarkOf}
 
 -- the mark of column p of line k among some spans is of a span of this width and kind
 pub record IsBest (source : List ℕ) (marks : List Annotation) (k p : ℕ) (best : Mark) : Type 0 where

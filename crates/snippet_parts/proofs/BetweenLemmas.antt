@@ -1,16 +1,9 @@
 -- The lines that are shown: those that are kept, and each single line between two of them.
-use Rattle.std.proofs.Common.{◌≡◌, ℕ, zero, suc, ◌+◌, ◌-◌, ◌<◌, ◌≤◌, Bool, true, false, ◌&&◌, ◌||◌, cond, not, eqb, leb, ltb, Option, Some, None, List, [], ◌∷◌}
-use Rattle.std.proofs.Common.{◌++◌, map, length, inl, inr, refl, sym, ap, subst, ◌∙◌, arith}
-use Rattle.std.specs.List.{All, filter, list_any, range_with_len}
-use Rattle.std.specs.Option.{option_map, option_to_list}
-use Rattle.std.proofs.lemmas.Bool.{cases_Bool, cases_eq, cond-true, cond-false, and_from, or_parts, eq-eqb, ne_eqb, le-leb, lt-ltb}
-use Rattle.snippet_model.specs.declared.snippet.Annotation.{Annotation}
-use Rattle.snippet_parts.specs.Annotated.{KeptLine, annotated_lines, kept_line, parts_on}
-use Rattle.snippet_parts.specs.Between.{lines_between}
-use Rattle.snippet_parts.specs.Kept.{keeps, shown_lines, with_between}
-use Rattle.snippet_lines.specs.Lines.{Source, source_lines, text_at, line_at}
-use Rattle.snippet_parts.specs.Mark.{is_marking, touches}
-use Rattle.snippet_lines.specs.IsSpan.{IsSpan}
+use Rattle.snippet_parts.proofs.Common.{◌≡◌, ℕ, zero, suc, ◌+◌, ◌-◌, ◌<◌, ◌≤◌, Bool, true, false, ◌&&◌, ◌||◌, cond, not, eqb}
+use Rattle.snippet_parts.proofs.Common.{leb, ltb, Option, Some, None, List, [], ◌∷◌, ◌++◌, map, length, inl, inr, refl, sym, ap, subst, ◌∙◌}
+use Rattle.snippet_parts.proofs.Common.{arith, All, filter, list_any, range_with_len, option_map, option_to_list, cases_Bool, cases_eq, cond-true, cond-false}
+use Rattle.snippet_parts.proofs.Common.{and_from, or_parts, eq-eqb, ne_eqb, le-leb, lt-ltb, Annotation, KeptLine, annotated_lines, kept_line, parts_on}
+use Rattle.snippet_parts.proofs.Common.{lines_between, keeps, shown_lines, with_between, Source, source_lines, text_at, line_at, is_marking, touches, IsSpan}
 use Rattle.snippet_parts.proofs.KeptPartLemmas.{none-unkept, unseen-unkept}
 use Rattle.snippet_parts.proofs.ShownLemmas.{same-kept}
 

@@ -1,10 +1,6 @@
 -- Words for what the counted number of a snippet is made of, which proofs cite.
-use Rattle.std.proofs.Common.{◌≡◌, ℕ, ◌+◌, ◌<◌, ◌&&◌, max, not, cond, eqb, List, length, map, take, get_or, sym, ap, ◌∙◌, arith}
-use Rattle.std.specs.Cow.{cow_str_bytes}
-use Rattle.std.proofs.lemmas.List.{map_push, take_more}
-use Rattle.snippet_model.specs.declared.snippet.Snippet.{Snippet}
-use Rattle.snippet_model.specs.declared.snippet.Annotation.{Annotation}
-use Rattle.snippet_parts.specs.Least.{greatest}
+use Rattle.snippet_parts.proofs.Common.{◌≡◌, ℕ, ◌+◌, ◌<◌, ◌&&◌, max, not, cond, eqb, List, length, map, take, get_or, sym, ap, ◌∙◌}
+use Rattle.snippet_parts.proofs.Common.{arith, cow_str_bytes, map_push, take_more, Snippet, Annotation, greatest}
 use Rattle.snippet_parts.proofs.LeastLemmas.{greatest-push}
 
 -- the greatest byte at which an annotation ends, or 0 without annotations

@@ -1,17 +1,12 @@
 -- The depths of spans of several lines: how great they are, where they differ, and the longest chain.
-use Rattle.std.proofs.Common.{◌≡◌, ℕ, zero, suc, ◌+◌, ◌-◌, ◌<◌, ◌≤◌, Bool, true, false, ◌||◌, cond, leb, max, fold, take, drop, add-one, ◌++◌, List, [], ◌∷◌}
-use Rattle.std.proofs.Common.{map, length, get_or, set, inl, inr, refl, sym, ap, subst, ◌∙◌, arith}
-use Rattle.std.specs.List.{All, Contains, list_any}
-use Rattle.std.proofs.lemmas.Bool.{cases_Bool, cases_lt, and_from, and_parts, cond-true, cond-false, both_ways}
-use Rattle.std.proofs.lemmas.List.{take_at, length-map, get_or-map}
-use Rattle.snippet_parts.specs.Least.{greatest}
-use Rattle.snippet_parts.specs.declared.depths.LongExtent.{LongExtent}
-use Rattle.snippet_parts.specs.Depths.{same_place, share_line, places_of, raw_depth, raw_depth_among, greatest_raw_depth, greatest_depth, depth_among}
-use Rattle.snippet_parts.specs.Chains.{SharesWithFirst, IsChainOf, IsLongestChain, raw_depths}
+use Rattle.snippet_parts.proofs.Common.{◌≡◌, ℕ, zero, suc, ◌+◌, ◌-◌, ◌<◌, ◌≤◌, Bool, true, false, ◌||◌, cond, leb, max, fold}
+use Rattle.snippet_parts.proofs.Common.{take, drop, add-one, ◌++◌, List, [], ◌∷◌, map, length, get_or, set, inl, inr, refl, sym, ap, subst, ◌∙◌}
+use Rattle.snippet_parts.proofs.Common.{arith, All, Contains, list_any, cases_Bool, cases_lt, and_from, and_parts, cond-true, cond-false, both_ways, take_at}
+use Rattle.snippet_parts.proofs.Common.{length-map, get_or-map, greatest, LongExtent, same_place, share_line, places_of, raw_depth, raw_depth_among}
+use Rattle.snippet_parts.proofs.Common.{greatest_raw_depth, greatest_depth, depth_among, SharesWithFirst, IsChainOf, IsLongestChain, raw_depths, map-map}
 use Rattle.snippet_parts.proofs.RawDepthLemmas.{among_after, among-most, among-new, any-at, fold-max, greatest-bound, greatest-is, length-raw_depths}
 use Rattle.snippet_parts.proofs.RawDepthLemmas.{places-bound, raw_depths-are, same-true}
 use Rattle.snippet_parts.proofs.DepthSearchLemmas.{near_max-after, no_place, raw_depth-near, raw_depth-some}
-use Rattle.std.proofs.lemmas.Simd.{map-map}
 
 -- ---- depths
 

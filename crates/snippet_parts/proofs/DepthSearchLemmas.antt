@@ -1,14 +1,9 @@
 -- The search for the raw depth of a place, from the last place on.
-use Rattle.std.proofs.Common.{◌≡◌, ℕ, zero, suc, ◌+◌, ◌-◌, ◌<◌, ◌≤◌, Bool, true, false, ◌||◌, cond, leb, max, take, drop, List, [], ◌∷◌, length, get_or, set}
-use Rattle.std.proofs.Common.{inl, inr, refl, sym, ap, subst, ◌∙◌, arith}
-use Rattle.std.specs.List.{All, list_any}
-use Rattle.std.specs.List.Sorted.{IsNonDecreasingBy}
-use Rattle.std.proofs.lemmas.Bool.{cases_Bool, le-leb, lt-leb, and_from, and_right, or_left, or_right, or_cases, cond-true, cond-false, both_ways}
-use Rattle.std.proofs.lemmas.Bool.{false_from_ne_true}
-use Rattle.std.proofs.lemmas.List.{drop_more, drop_all, get_or-take, get_or-drop, take_rest, drop-set, length-take-le, length-drop, get_or_default}
-use Rattle.snippet_parts.specs.declared.depths.LongExtent.{LongExtent}
-use Rattle.snippet_parts.specs.Depths.{same_place, share_line, places_of, raw_depth, raw_depth_among}
-use Rattle.snippet_parts.specs.Chains.{raw_depths}
+use Rattle.snippet_parts.proofs.Common.{◌≡◌, ℕ, zero, suc, ◌+◌, ◌-◌, ◌<◌, ◌≤◌, Bool, true, false, ◌||◌, cond, leb, max, take}
+use Rattle.snippet_parts.proofs.Common.{drop, List, [], ◌∷◌, length, get_or, set, inl, inr, refl, sym, ap, subst, ◌∙◌, arith, All, list_any}
+use Rattle.snippet_parts.proofs.Common.{IsNonDecreasingBy, cases_Bool, le-leb, lt-leb, and_from, and_right, or_left, or_right, or_cases, cond-true, cond-false}
+use Rattle.snippet_parts.proofs.Common.{both_ways, false_from_ne_true, drop_more, drop_all, get_or-take, get_or-drop, take_rest, drop-set, length-take-le}
+use Rattle.snippet_parts.proofs.Common.{length-drop, get_or_default, LongExtent, same_place, share_line, places_of, raw_depth, raw_depth_among, raw_depths}
 use Rattle.snippet_parts.proofs.RawDepthLemmas.{among_after, among-new, length-raw_depths, places-again, places-new, same-true}
 
 -- ---- the search for a raw depth

@@ -1,41 +1,19 @@
 -- What is known of the entries of the lines that are kept or shown, for those who draw them.
-use Rattle.std.proofs.Common.{◌≡◌, ℕ, ◌+◌, ◌-◌, ◌*◌, ◌^◌, ◌<◌, ◌≤◌, Bool, true, false, ◌&&◌, cond, not, add-zero, eqb, leb, ltb, max, Option, Some, None}
-use Rattle.std.proofs.Common.{List, [], ◌∷◌, ◌++◌, map, length, get_or, inl, inr, refl, sym, ap, subst, ◌∙◌, arith}
-use Rattle.std.specs.List.{All, Contains, count_by, filter, list_all, list_any}
-use Rattle.std.specs.Option.{IfSome, option_map}
-use Rattle.std.specs.Cow.{cow_str_bytes}
-use Rattle.std.specs.Str.{IsUtf8}
-use Rattle.std.proofs.Math.Nat.{zero-add}
-use Rattle.std.proofs.lemmas.Bool.{cases_Bool, cond-true, cond-false, or_cases, and_parts, and_from, and_right, le-leb, eqb-true, le-ltb, ne_eqb, not-true}
-use Rattle.std.proofs.lemmas.Bool.{both_ways}
-use Rattle.std.proofs.lemmas.List.{append-nil}
-use Rattle.std.proofs.lemmas.List.Elements.{All-nil, All-cons, All-head, All-tail, All-same, All-weaker, All-filter, All-contains, filter-append, filter_agree}
-use Rattle.std.proofs.lemmas.List.Folds.{list_all_at}
-use Rattle.std.proofs.lemmas.List.Sums.{sum_by-cons, sum_by-append}
-use Rattle.snippet_model.specs.declared.snippet.Annotation.{Annotation}
-use Rattle.snippet_model.specs.declared.snippet.AnnotationKind.{AnnotationKind}
-use Rattle.snippet_model.specs.Fits.{AnnotationFits, TextFits}
-use Rattle.snippet_parts.specs.declared.entries.LineAnnotation.{LineAnnotation}
-use Rattle.snippet_parts.specs.declared.depths.LongExtent.{LongExtent}
-use Rattle.snippet_parts.specs.declared.entries.AnnotatedLineInfo.{AnnotatedLineInfo}
-use Rattle.snippet_lines.specs.declared.place.Loc.{Loc}
-use Rattle.snippet_parts.specs.Annotated.{KeptLine, kept_line, is_long, long_entry, long_place}
-use Rattle.snippet_parts.specs.Annotated.{long_spans, long_parts, depth_of, deepest, single_part, made_parts, parts_on}
-use Rattle.snippet_parts.specs.LongSpans.{bar_lines}
-use Rattle.snippet_parts.specs.Depths.{same_place, depth_among, greatest_depth}
-use Rattle.snippet_parts.specs.EntryBounds.{AllEntries, HasCharacterRoom, HasColumnRoom, HasShortLabel, HasDepthWithin}
-use Rattle.snippet_parts.specs.OnLine.{seen_kept, is_untouched}
-use Rattle.snippet_lines.specs.Lines.{Source}
-use Rattle.snippet_parts.specs.Located.{HasTextLabel}
-use Rattle.snippet_parts.specs.Mark.{is_marking, is_single_line, touches, is_marked_on, is_wide, start_column, span_width}
-use Rattle.snippet_parts.specs.Marked.{first_line, last_line}
-use Rattle.snippet_parts.specs.Entries.{is_single_part, is_wide_entry}
-use Rattle.snippet_lines.specs.Place.{locations_of, place_of}
-use Rattle.snippet_lines.specs.IsSpan.{IsSpan}
+use Rattle.snippet_parts.proofs.Common.{◌≡◌, ℕ, ◌+◌, ◌-◌, ◌*◌, ◌^◌, ◌<◌, ◌≤◌, Bool, true, false, ◌&&◌, cond, not}
+use Rattle.snippet_parts.proofs.Common.{add-zero, eqb, leb, ltb, max, Option, Some, None, List, [], ◌∷◌, ◌++◌, map, length, get_or, inl, inr, refl}
+use Rattle.snippet_parts.proofs.Common.{sym, ap, subst, ◌∙◌, arith, All, Contains, count_by, filter, list_all, list_any, IfSome, option_map}
+use Rattle.snippet_parts.proofs.Common.{cow_str_bytes, IsUtf8, zero-add, cases_Bool, cond-true, cond-false, or_cases, and_parts, and_from, and_right, le-leb}
+use Rattle.snippet_parts.proofs.Common.{eqb-true, le-ltb, ne_eqb, not-true, both_ways, append-nil, All-nil, All-cons, All-head, All-tail, All-same, All-weaker}
+use Rattle.snippet_parts.proofs.Common.{All-filter, All-contains, filter-append, filter_agree, list_all_at, sum_by-cons, sum_by-append, Annotation}
+use Rattle.snippet_parts.proofs.Common.{AnnotationKind, AnnotationFits, LineAnnotation, LongExtent, AnnotatedLineInfo, Loc, KeptLine, kept_line, is_long}
+use Rattle.snippet_parts.proofs.Common.{long_entry, long_place, long_spans, long_parts, depth_of, deepest, single_part, made_parts, parts_on, bar_lines}
+use Rattle.snippet_parts.proofs.Common.{same_place, depth_among, greatest_depth, AllEntries, HasCharacterRoom, HasColumnRoom, HasShortLabel, HasDepthWithin}
+use Rattle.snippet_parts.proofs.Common.{seen_kept, is_untouched, Source, HasTextLabel, is_marking, is_single_line, touches, is_marked_on, is_wide, start_column}
+use Rattle.snippet_parts.proofs.Common.{span_width, first_line, last_line, is_single_part, is_wide_entry, locations_of, place_of, IsSpan, length-text_at-source}
+use Rattle.snippet_model.specs.Fits.{TextFits}
 use Rattle.snippet_parts.proofs.DepthLemmas.{depths-within}
 use Rattle.snippet_parts.proofs.RawDepthLemmas.{same-true}
 use Rattle.snippet_parts.proofs.KeptPartLemmas.{lines_ordered}
-use Rattle.snippet_lines.proofs.LinesLemmas.{length-text_at-source}
 use Rattle.snippet_parts.proofs.MarkLemmas.{start-line, end-line, start_column-from, end_column-from, entry_of-line, eqb-shift}
 use Rattle.snippet_parts.proofs.PartLemmas.{HoldsOfSpan, IsBarLine, bar_lines-stand, filter-none, longs-all, made-all}
 use Rattle.snippet_parts.proofs.PlaceBounds.{start-column-bound, end-column-bound, start-character-bound, end-character-bound}

@@ -1,28 +1,13 @@
 -- The entries of spans, in the order made.
-use Rattle.std.proofs.Common.{None, ◌≡◌, ℕ, ◌+◌, ◌-◌, ◌<◌, ◌≤◌, Bool, true, false, ◌&&◌, ◌||◌, cond, not, eqb, leb, ltb, min, List, [], ◌∷◌, ◌++◌}
-use Rattle.std.proofs.Common.{map, length, take, drop, get_or, inl, inr, refl, sym, ap, ◌∙◌, arith}
-use Rattle.std.specs.List.{All, filter, list_any, range_with_len}
-use Rattle.std.proofs.lemmas.Bool.{cases_Bool, cases_lt, le-leb, le-ltb, lt-leb, cond-true, cond-false, and_parts, both_ways, eq-eqb, ne_eqb}
-use Rattle.std.proofs.lemmas.Bool.{false_from_ne_true}
-use Rattle.std.proofs.lemmas.List.{append_assoc, append-nil, map-append}
-use Rattle.std.proofs.lemmas.List.{map_more, drop-map, take-map, drop_more, length-map, get_or-map}
-use Rattle.std.proofs.lemmas.List.Elements.{filter-append}
-use Rattle.std.proofs.lemmas.List.FromFn.{map-range_with_len_more}
-use Rattle.snippet_parts.specs.declared.entries.LineAnnotation.{LineAnnotation}
-use Rattle.snippet_parts.specs.Annotated.{span_parts, long_parts, long_place, promoted}
-use Rattle.snippet_model.specs.AnnotationKind.{is_primary}
-use Rattle.snippet_parts.specs.Depths.{same_place, depth_among}
-use Rattle.snippet_parts.specs.declared.depths.LongExtent.{LongExtent}
-use Rattle.snippet_model.specs.declared.snippet.AnnotationKind.{AnnotationKind}
-use Rattle.snippet_model.specs.declared.snippet.AnnotationKind.TheVariants.{Primary, Context, Visible}
-use Rattle.std.specs.List.Sorted.{IsNonDecreasingBy}
-use Rattle.snippet_parts.specs.Kept.{has_bar, is_trivial_line}
-use Rattle.snippet_lines.specs.Lines.{Source}
-use Rattle.snippet_parts.specs.LongSpans.{bar_lines, seen_long, HasFit}
-use Rattle.snippet_parts.specs.declared.long_spans.LongSpan.{LongSpan}
-use Rattle.snippet_lines.specs.declared.place.Loc.{Loc}
+use Rattle.snippet_parts.proofs.Common.{None, ◌≡◌, ℕ, ◌+◌, ◌-◌, ◌<◌, ◌≤◌, Bool, true, false, ◌&&◌, ◌||◌, cond, not, eqb, leb}
+use Rattle.snippet_parts.proofs.Common.{ltb, min, List, [], ◌∷◌, ◌++◌, map, length, take, drop, get_or, inl, inr, refl, sym, ap, ◌∙◌, arith}
+use Rattle.snippet_parts.proofs.Common.{All, filter, list_any, range_with_len, cases_Bool, cases_lt, le-leb, le-ltb, lt-leb, cond-true, cond-false, and_parts}
+use Rattle.snippet_parts.proofs.Common.{both_ways, eq-eqb, ne_eqb, false_from_ne_true, append-nil, map-append, map_more, drop-map, take-map, drop_more}
+use Rattle.snippet_parts.proofs.Common.{length-map, get_or-map, filter-append, map-range_with_len_more, LineAnnotation, span_parts, long_parts, long_place}
+use Rattle.snippet_parts.proofs.Common.{promoted, is_primary, same_place, depth_among, LongExtent, AnnotationKind, Primary, Context, Visible, IsNonDecreasingBy}
+use Rattle.snippet_parts.proofs.Common.{has_bar, is_trivial_line, Source, bar_lines, seen_long, HasFit, LongSpan, Loc, map-map}
+use Rattle.std.proofs.lemmas.List.{append_assoc}
 use Rattle.snippet_parts.proofs.RawDepthLemmas.{same-true}
-use Rattle.std.proofs.lemmas.Simd.{map-map}
 use Rattle.snippet_parts.proofs.KeptLemmas.{after-least, range-all, range-none, range-split}
 use Rattle.snippet_parts.proofs.PartLemmas.{list_any-map}
 use Rattle.snippet_parts.proofs.PartWords.{is_promoted, stands_among}

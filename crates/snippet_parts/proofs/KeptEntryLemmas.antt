@@ -1,18 +1,9 @@
 -- Lines that are given their entries one by one.
-use Rattle.std.proofs.Common.{◌≡◌, ◌≢◌, ℕ, ◌+◌, ◌-◌, ◌<◌, ◌≤◌, Bool, Err, nat_cmp, true, false, List, [], ◌∷◌, ◌++◌, cond, eqb, map}
-use Rattle.std.proofs.Common.{length, take, drop, get_or, set, inl, inr, sym, ap, subst, ◌∙◌, arith}
-use Rattle.std.specs.List.{All, AllPairs, filter, range_with_len}
-use Rattle.std.specs.List.Sorted.{IsBinarySearchResult}
-use Rattle.std.proofs.lemmas.List.FromFn.{length-range_with_len, get_or-range_with_len}
-use Rattle.std.proofs.lemmas.List.Kept.{AllPairs-filter}
-use Rattle.std.proofs.lemmas.List.Sorted.{searched}
-use Rattle.std.proofs.lemmas.Bool.{cases_eq, cases_lt, eq-eqb, ne_eqb}
-use Rattle.std.proofs.lemmas.List.{append-nil, ext_get_or, get_or-map, get_or-set_same, get_or-set_other, length-map, length-set, places, same_lists}
-use Rattle.std.proofs.lemmas.List.Elements.{filter-append}
-use Rattle.snippet_lines.specs.Lines.{Source}
-use Rattle.snippet_parts.specs.declared.entries.LineAnnotation.{LineAnnotation}
-use Rattle.snippet_parts.specs.Annotated.{KeptLine}
-use Rattle.snippet_parts.specs.KeptEntries.{line_with}
+use Rattle.snippet_parts.proofs.Common.{◌≡◌, ◌≢◌, ℕ, ◌+◌, ◌-◌, ◌<◌, ◌≤◌, Bool, Err, nat_cmp, true, false, List, [], ◌∷◌}
+use Rattle.snippet_parts.proofs.Common.{◌++◌, cond, eqb, map, length, take, drop, get_or, set, inl, inr, sym, ap, subst, ◌∙◌, arith, All, AllPairs}
+use Rattle.snippet_parts.proofs.Common.{filter, range_with_len, IsBinarySearchResult, length-range_with_len, get_or-range_with_len, AllPairs-filter, searched}
+use Rattle.snippet_parts.proofs.Common.{cases_eq, cases_lt, eq-eqb, ne_eqb, append-nil, ext_get_or, get_or-map, get_or-set_same, get_or-set_other, length-map}
+use Rattle.snippet_parts.proofs.Common.{length-set, places, same_lists, filter-append, Source, LineAnnotation, KeptLine, line_with}
 
 -- an entry that stands on line k comes after its others
 one_more : (s : Source) (seen : List ℕ) (parts : List LineAnnotation) (p : LineAnnotation) (k : ℕ) → s.first + k ≡ p.start.line

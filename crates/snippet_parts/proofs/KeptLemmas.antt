@@ -1,27 +1,14 @@
 -- Which lines are kept.
-use Rattle.std.proofs.Common.{◌≡◌, ℕ, zero, suc, ◌+◌, ◌-◌, ◌^◌, ◌<◌, ◌≤◌, Bool, true, false, ◌&&◌, ◌||◌, cond, not, eqb, leb, ltb, min, max, List}
-use Rattle.std.proofs.Common.{[], ◌∷◌, ◌++◌, length, take, get_or, inl, inr, ◌⊎◌, Result, Ok, Err, nat_cmp, refl, sym, ap, subst, ◌∙◌, arith}
-use Rattle.std.specs.List.{All, filter, list_any, range_with_len}
-use Rattle.std.specs.List.Sorted.{IsNonDecreasingBy, IsBinarySearchResult, IsPermutation}
-use Rattle.std.specs.Result.{is_ok}
-use Rattle.std.proofs.Math.Bool.{and-false, and-true, or-false}
-use Rattle.std.proofs.lemmas.Bool.{cases_Bool, cases_lt, cases_eq, or_from, le-leb, le-ltb, lt-leb, eq-eqb, ne_eqb, eqb-true, or_left, or_right}
-use Rattle.std.proofs.lemmas.List.{append-nil, take_more, take_all, get_or-take, length-take}
-use Rattle.std.proofs.lemmas.List.Elements.{All-nil, All-cons, All-head, All-tail, All-filter, All-from_get_or, All-weaker, filter-append, filter_agree}
-use Rattle.std.proofs.lemmas.List.Folds.{list_any_more, list_any_at, list_any_none}
-use Rattle.std.proofs.lemmas.List.FromFn.{length-range_with_len, get_or-range_with_len}
-use Rattle.std.proofs.lemmas.List.Kept.{IsNonDecreasingBy-filter}
-use Rattle.std.proofs.lemmas.List.Sorted.{list_any-IsPermutation, searched}
-use Rattle.std.proofs.lemmas.Map.Views.{any-filter_same}
+use Rattle.snippet_parts.proofs.Common.{◌≡◌, ℕ, zero, suc, ◌+◌, ◌-◌, ◌^◌, ◌<◌, ◌≤◌, Bool, true, false, ◌&&◌, ◌||◌, cond}
+use Rattle.snippet_parts.proofs.Common.{not, eqb, leb, ltb, min, max, List, [], ◌∷◌, ◌++◌, length, take, get_or, inl, inr, ◌⊎◌, Result, Ok, Err}
+use Rattle.snippet_parts.proofs.Common.{nat_cmp, refl, sym, ap, subst, ◌∙◌, arith, All, filter, list_any, range_with_len, IsNonDecreasingBy}
+use Rattle.snippet_parts.proofs.Common.{IsBinarySearchResult, IsPermutation, is_ok, and-false, and-true, or-false, cases_Bool, cases_lt, cases_eq, or_from}
+use Rattle.snippet_parts.proofs.Common.{le-leb, le-ltb, lt-leb, eq-eqb, ne_eqb, eqb-true, or_left, or_right, append-nil, take_more, take_all, get_or-take}
+use Rattle.snippet_parts.proofs.Common.{length-take, All-nil, All-cons, All-head, All-tail, All-filter, All-from_get_or, All-weaker, filter-append}
+use Rattle.snippet_parts.proofs.Common.{filter_agree, list_any_more, list_any_at, list_any_none, length-range_with_len, get_or-range_with_len}
+use Rattle.snippet_parts.proofs.Common.{IsNonDecreasingBy-filter, list_any-IsPermutation, searched, any-filter_same, Annotation, Stretch, has_bar, keeps}
+use Rattle.snippet_parts.proofs.Common.{is_marking, touches, first_line, last_line, source_lines, line_of-within, holds_line, is_held, is_seen}
 use Rattle.snippet_parts.proofs.PartLemmas.{All-range}
-use Rattle.snippet_model.specs.declared.snippet.Annotation.{Annotation}
-use Rattle.snippet_parts.specs.declared.kept.Stretch.{Stretch}
-use Rattle.snippet_parts.specs.Kept.{has_bar, keeps}
-use Rattle.snippet_parts.specs.Mark.{is_marking, touches}
-use Rattle.snippet_parts.specs.Marked.{first_line, last_line}
-use Rattle.snippet_lines.specs.Lines.{source_lines}
-use Rattle.snippet_lines.proofs.PlaceLemmas.{line_of-within}
-use Rattle.snippet_parts.specs.LineStretches.{holds_line, is_held, is_seen}
 
 -- ---- which lines a span keeps
 

@@ -1,22 +1,12 @@
 -- Entries stand on lines that are kept.
-use Rattle.std.proofs.Common.{◌≡◌, ℕ, ◌+◌, ◌-◌, ◌≤◌, Bool, true, false, ◌&&◌, ◌||◌, not, eqb, leb, ltb, min, List, [], inl, inr, refl, ap, subst, ◌∙◌, arith}
-use Rattle.std.specs.List.{All, Contains, list_any, range_with_len}
-use Rattle.std.proofs.lemmas.Bool.{and_from, and_parts, or_left, or_right, eq-eqb, le-leb, ne_eqb, both_ways, false_from_ne_true}
-use Rattle.std.proofs.lemmas.List.Elements.{All-contains, All-weaker, All-contains_itself}
-use Rattle.std.proofs.lemmas.List.Folds.{list_any_at, list_any_none}
-use Rattle.snippet_model.specs.declared.snippet.Annotation.{Annotation}
-use Rattle.snippet_model.specs.declared.snippet.AnnotationKind.{AnnotationKind}
-use Rattle.snippet_parts.specs.declared.entries.LineAnnotation.{LineAnnotation}
-use Rattle.snippet_parts.specs.Annotated.{is_long, long_entry, depth_of, single_part, made_parts, parts_on}
-use Rattle.snippet_parts.specs.LongSpans.{bar_lines}
-use Rattle.snippet_parts.specs.Kept.{has_bar, is_trivial_line, keeps}
-use Rattle.snippet_lines.specs.Lines.{Source, source_lines}
-use Rattle.snippet_parts.specs.Mark.{is_marking, touches}
-use Rattle.snippet_parts.specs.Marked.{first_line, last_line}
-use Rattle.snippet_lines.specs.IsSpan.{IsSpan}
+use Rattle.snippet_parts.proofs.Common.{◌≡◌, ℕ, ◌+◌, ◌-◌, ◌≤◌, Bool, true, false, ◌&&◌, ◌||◌, not, eqb, leb, ltb, min, List, []}
+use Rattle.snippet_parts.proofs.Common.{inl, inr, refl, ap, subst, ◌∙◌, arith, All, Contains, list_any, range_with_len, and_from, and_parts, or_left}
+use Rattle.snippet_parts.proofs.Common.{or_right, eq-eqb, le-leb, ne_eqb, both_ways, false_from_ne_true, All-contains, All-weaker, All-contains_itself}
+use Rattle.snippet_parts.proofs.Common.{list_any_at, list_any_none, Annotation, AnnotationKind, LineAnnotation, is_long, long_entry, depth_of, single_part}
+use Rattle.snippet_parts.proofs.Common.{made_parts, parts_on, bar_lines, has_bar, is_trivial_line, keeps, Source, source_lines, is_marking, touches, first_line}
+use Rattle.snippet_parts.proofs.Common.{last_line, IsSpan, line_of-mono, line_of-within}
 use Rattle.snippet_parts.proofs.MarkLemmas.{start-line, end-line, entry_of-line}
 use Rattle.snippet_parts.proofs.PartLemmas.{HoldsOfSpan, IsBarLine, bar_lines-stand, filter-none, made-all}
-use Rattle.snippet_lines.proofs.PlaceLemmas.{line_of-mono, line_of-within}
 use Rattle.snippet_parts.proofs.PartWords.{is_short}
 
 -- a test that one of some passes

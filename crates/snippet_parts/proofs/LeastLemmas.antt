@@ -1,10 +1,7 @@
 -- Lemmas on the least and the greatest of some numbers.
-use Rattle.std.proofs.Common.{◌≡◌, ℕ, ◌≤◌, min, max, List, [], ◌∷◌, ◌++◌, Option, Some, All, refl, sym, ap}
-use Rattle.std.proofs.Common.{◌∙◌, arith, unwrap_or, append_assoc}
-use Rattle.std.specs.Option.{option_map_or}
-use Rattle.std.proofs.lemmas.List.Sums.{fold_push}
-use Rattle.std.proofs.lemmas.List.Elements.{All-nil, All-cons}
-use Rattle.snippet_parts.specs.Least.{least, greatest}
+use Rattle.snippet_parts.proofs.Common.{◌≡◌, ℕ, ◌≤◌, min, max, List, [], ◌∷◌, ◌++◌, Option, Some, refl, sym, ap, ◌∙◌, arith}
+use Rattle.snippet_parts.proofs.Common.{unwrap_or, append_assoc, option_map_or, fold_push, All-nil, All-cons, least, greatest}
+use Rattle.std.proofs.Common.{All}
 
 -- one more number
 pub least-push : (ns : List ℕ) (n : ℕ) → least (ns ++ n ∷ []) ≡ Some (option_map_or (λ m. min m n) (least ns) n)

@@ -1,3 +1,4 @@
+pub mod Common
 pub mod AloneLemmas
 pub mod AmongLemmas
 pub mod BarLemmas

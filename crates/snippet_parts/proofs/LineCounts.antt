@@ -1,28 +1,12 @@
 -- How many entries stand on a line: no more than there are spans.
-use Rattle.std.proofs.Common.{◌≡◌, ℕ, zero, suc, ◌+◌, ◌-◌, ◌<◌, ◌≤◌, ◌==◌, ◌&&◌, Bool, true, false, cond, not, min, List, [], ◌∷◌, ◌++◌, map, length}
-use Rattle.std.proofs.Common.{inl, inr, refl, sym, ap, subst, ◌∙◌, arith}
-use Rattle.std.specs.List.{All, count_by, filter, list_any, range_with_len}
-use Rattle.std.proofs.Math.Nat.{zero-add}
-use Rattle.std.proofs.lemmas.Bool.{and_parts, cases_Bool, cases_lt, cond-true, cond-false, eq-eqb, ne_eqb, not-true}
-use Rattle.std.proofs.lemmas.List.{length-map, map-append}
-use Rattle.std.proofs.lemmas.List.Elements.{All-head, All-map, All-tail, All-weaker}
-use Rattle.std.proofs.lemmas.List.Sums.{count_by-le-length, length-filter, sum_by-append, sum_by-cons}
-use Rattle.snippet_lines.specs.Lines.{Source}
-use Rattle.snippet_lines.specs.OrderedBy.{ordered_by, put_in}
-use Rattle.snippet_lines.specs.IsSpan.{IsSpan}
-use Rattle.snippet_model.specs.declared.snippet.Annotation.{Annotation}
-use Rattle.snippet_model.specs.declared.snippet.AnnotationKind.TheVariants.{Primary}
-use Rattle.snippet_parts.specs.declared.entries.LineAnnotation.{LineAnnotation}
-use Rattle.snippet_parts.specs.declared.depths.LongExtent.{LongExtent}
-use Rattle.snippet_parts.specs.declared.entries.LineAnnotationType.TheVariants.{MultilineEnd, Singleline}
-use Rattle.snippet_parts.specs.Annotated.{bar_part, end_part, is_long, long_entry, long_parts, long_place}
-use Rattle.snippet_parts.specs.LongSpans.{bar_lines}
-use Rattle.snippet_parts.specs.Annotated.{long_spans, made_parts, parts_on, promoted, single_part, span_parts}
-use Rattle.snippet_parts.specs.Annotated.{start_part}
-use Rattle.snippet_parts.specs.Depths.{depth_among}
-use Rattle.snippet_parts.specs.Kept.{has_bar, is_trivial_line}
-use Rattle.snippet_parts.specs.Mark.{is_marking, is_single_line}
-use Rattle.snippet_parts.specs.Marked.{first_line, last_line}
+use Rattle.snippet_parts.proofs.Common.{◌≡◌, ℕ, zero, suc, ◌+◌, ◌-◌, ◌<◌, ◌≤◌, ◌==◌, ◌&&◌, Bool, true, false, cond, not, min}
+use Rattle.snippet_parts.proofs.Common.{List, [], ◌∷◌, ◌++◌, map, length, inl, inr, refl, sym, ap, subst, ◌∙◌, arith, All, count_by, filter}
+use Rattle.snippet_parts.proofs.Common.{list_any, range_with_len, zero-add, and_parts, cases_Bool, cases_lt, cond-true, cond-false, eq-eqb, ne_eqb, not-true}
+use Rattle.snippet_parts.proofs.Common.{length-map, map-append, All-head, All-map, All-tail, All-weaker, count_by-le-length, length-filter, sum_by-append}
+use Rattle.snippet_parts.proofs.Common.{sum_by-cons, Source, ordered_by, put_in, IsSpan, Annotation, Primary, LineAnnotation, LongExtent, MultilineEnd}
+use Rattle.snippet_parts.proofs.Common.{Singleline, bar_part, end_part, is_long, long_entry, long_parts, long_place, bar_lines, long_spans, made_parts}
+use Rattle.snippet_parts.proofs.Common.{parts_on, promoted, single_part, span_parts, start_part, depth_among, has_bar, is_trivial_line, is_marking}
+use Rattle.snippet_parts.proofs.Common.{is_single_line, first_line, last_line}
 use Rattle.snippet_parts.proofs.EntryFacts.{count-map}
 use Rattle.snippet_parts.proofs.KeptPartLemmas.{lines_ordered}
 use Rattle.snippet_parts.proofs.MarkLemmas.{end-line, start-line}

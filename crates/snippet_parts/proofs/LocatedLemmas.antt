@@ -1,24 +1,9 @@
 -- Spans with their places: what is known of the annotations that they are.
-use Rattle.std.proofs.Common.{◌+◌, ◌≡◌, ℕ, ◌<◌, ◌≤◌, ◌^◌, Bool, true, false, ◌&&◌, not, cond, eqb, List, [], ◌∷◌, map, refl, sym, ap, ◌∙◌, subst, arith, max}
-use Rattle.std.specs.List.{All, filter}
-use Rattle.std.specs.Option.{option_map}
-use Rattle.std.specs.Cow.{cow_str_bytes}
-use Rattle.std.proofs.lemmas.Bool.{ne_eqb}
-use Rattle.std.proofs.lemmas.List.Elements.{All-head, All-tail}
-use Rattle.snippet_lines.specs.Lines.{Source, source_lines}
-use Rattle.snippet_lines.proofs.PlaceLemmas.{line_of-mono, line_of-within}
-use Rattle.snippet_lines.specs.OrderedBy.{ordered_by}
-use Rattle.snippet_lines.specs.declared.place.Loc.{Loc}
-use Rattle.snippet_model.specs.declared.snippet.Annotation.{Annotation}
-use Rattle.snippet_parts.specs.declared.entries.LineAnnotation.{LineAnnotation}
-use Rattle.snippet_parts.specs.declared.entries.LineAnnotationType.TheVariants.{Singleline}
-use Rattle.snippet_parts.specs.Annotated.{single_part, long_entry, is_long, long_spans}
-use Rattle.snippet_parts.specs.Mark.{is_marking}
-use Rattle.snippet_parts.specs.Marked.{first_line, last_line}
-use Rattle.snippet_parts.specs.declared.located.LocatedSpan.{LocatedSpan}
-use Rattle.snippet_parts.specs.declared.long_spans.LongSpan.{LongSpan}
-use Rattle.snippet_parts.specs.Located.{AreBars, IsLocated, annotations_of, is_short_span, is_long_span, span_entry, short_part}
-use Rattle.snippet_parts.specs.LongSpans.{seen_long, HasFit}
+use Rattle.snippet_parts.proofs.Common.{◌+◌, ◌≡◌, ℕ, ◌<◌, ◌≤◌, ◌^◌, Bool, true, false, ◌&&◌, not, cond, eqb, List, [], ◌∷◌}
+use Rattle.snippet_parts.proofs.Common.{map, refl, sym, ap, ◌∙◌, subst, arith, max, All, filter, option_map, cow_str_bytes, ne_eqb, All-head, All-tail}
+use Rattle.snippet_parts.proofs.Common.{Source, source_lines, line_of-mono, line_of-within, ordered_by, Loc, Annotation, LineAnnotation, Singleline}
+use Rattle.snippet_parts.proofs.Common.{single_part, long_entry, is_long, long_spans, is_marking, first_line, last_line, LocatedSpan, LongSpan, AreBars}
+use Rattle.snippet_parts.proofs.Common.{IsLocated, annotations_of, is_short_span, is_long_span, span_entry, short_part, seen_long, HasFit}
 use Rattle.snippet_parts.proofs.LongLemmas.{fit-long}
 use Rattle.snippet_parts.proofs.PartWords.{is_short, stands_before}
 

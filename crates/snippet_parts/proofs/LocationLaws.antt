@@ -1,28 +1,12 @@
 -- The place that the head of a primary snippet names, in words of its spans.
-use Rattle.std.proofs.Common.{◌≡◌, ℕ, suc, ◌+◌, ◌<◌, ◌≤◌, Bool, true, false, ◌&&◌, ◌||◌, cond, not, eqb, min, Option, Some, None, List, [], ◌∷◌, map, get_or}
-use Rattle.std.proofs.Common.{inl, inr, refl, sym, ap, subst, ◌∙◌, arith}
-use Rattle.std.specs.List.{All, Contains, filter, list_any}
-use Rattle.std.specs.Option.{IsSomeAnd, is_some, option_map, option_map_or, option_or}
-use Rattle.std.proofs.lemmas.Bool.{cases_Bool, cases_lt, cond-true, cond-false, and_from, and_left, and_parts, false_from_ne_true, both_ways, eq-eqb, eqb-true}
-use Rattle.std.proofs.lemmas.List.Elements.{All-head, All-tail, All-contains, All-contains_itself, All-filter, Contains-get_or, filter_passes}
-use Rattle.std.proofs.lemmas.Simd.{map-map}
-use Rattle.snippet_model.specs.declared.snippet.Annotation.{Annotation}
-use Rattle.snippet_model.specs.declared.snippet.AnnotationKind.{AnnotationKind}
-use Rattle.snippet_model.specs.declared.snippet.AnnotationKind.TheVariants.{Primary, Context, Visible}
-use Rattle.snippet_lines.specs.Lines.{Source}
-use Rattle.snippet_lines.specs.Place.{locations_of}
-use Rattle.snippet_lines.specs.IsSpan.{IsSpan}
-use Rattle.snippet_parts.specs.declared.entries.LineAnnotation.{LineAnnotation}
-use Rattle.snippet_parts.specs.declared.location.Location.{Location}
-use Rattle.snippet_parts.specs.Annotated.{KeptLine, annotated_lines, is_long, kept_line, parts_on, single_part}
-use Rattle.snippet_model.specs.AnnotationKind.{is_primary}
-use Rattle.snippet_parts.specs.Entries.{Ascends}
-use Rattle.snippet_parts.specs.OnLine.{is_untouched}
-use Rattle.snippet_parts.specs.Kept.{kept_lines}
-use Rattle.snippet_parts.specs.Mark.{is_marking, is_marked_on, is_single_line, touches}
-use Rattle.snippet_parts.specs.Marked.{first_line}
-use Rattle.snippet_parts.specs.Least.{least}
-use Rattle.snippet_parts.specs.Location.{primary_place, start_at, IsLocation}
+use Rattle.snippet_parts.proofs.Common.{◌≡◌, ℕ, suc, ◌+◌, ◌<◌, ◌≤◌, Bool, true, false, ◌&&◌, ◌||◌, cond, not, eqb, min, Option}
+use Rattle.snippet_parts.proofs.Common.{Some, None, List, [], ◌∷◌, map, get_or, inl, inr, refl, sym, ap, subst, ◌∙◌, arith, All, Contains, filter}
+use Rattle.snippet_parts.proofs.Common.{list_any, IsSomeAnd, is_some, option_map, option_map_or, option_or, cases_Bool, cases_lt, cond-true, cond-false}
+use Rattle.snippet_parts.proofs.Common.{and_from, and_left, and_parts, false_from_ne_true, both_ways, eq-eqb, eqb-true, All-head, All-tail, All-contains}
+use Rattle.snippet_parts.proofs.Common.{All-contains_itself, All-filter, Contains-get_or, filter_passes, map-map, Annotation, AnnotationKind, Primary, Context}
+use Rattle.snippet_parts.proofs.Common.{Visible, Source, locations_of, IsSpan, LineAnnotation, Location, KeptLine, annotated_lines, is_long, kept_line}
+use Rattle.snippet_parts.proofs.Common.{parts_on, single_part, is_primary, Ascends, is_untouched, kept_lines, is_marking, is_marked_on, is_single_line, touches}
+use Rattle.snippet_parts.proofs.Common.{first_line, least, primary_place, start_at, IsLocation}
 use Rattle.snippet_parts.proofs.EntryFacts.{filter-filter, untouched-parts}
 use Rattle.snippet_parts.proofs.KeptPartLemmas.{any-member}
 use Rattle.snippet_parts.proofs.LocationWords.{start_columns, primary_parts, all_parts, choice_place, first_place, filter-true, primary-is}

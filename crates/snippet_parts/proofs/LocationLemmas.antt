@@ -1,17 +1,7 @@
 -- The place that the head of a snippet names, line by line and span by span.
-use Rattle.std.proofs.Common.{◌≡◌, ℕ, ◌+◌, ◌<◌, Bool, true, false, min, Option, Some, List, [], ◌∷◌, ◌++◌, map, length, take, drop, get_or}
-use Rattle.std.proofs.Common.{sym, ap, ◌∙◌}
-use Rattle.std.specs.List.{filter}
-use Rattle.std.specs.Option.{option_map_or}
-use Rattle.std.proofs.lemmas.Bool.{cond-true, cond-false}
-use Rattle.std.proofs.lemmas.List.{append-nil, map_push, take_more}
-use Rattle.std.proofs.lemmas.List.Elements.{filter-append}
-use Rattle.snippet_model.specs.declared.snippet.Annotation.{Annotation}
-use Rattle.snippet_parts.specs.declared.entries.AnnotatedLineInfo.{AnnotatedLineInfo}
-use Rattle.snippet_parts.specs.declared.location.Location.{Location}
-use Rattle.snippet_parts.specs.Annotated.{KeptLine}
-use Rattle.snippet_parts.specs.OnLine.{seen_kept}
-use Rattle.snippet_parts.specs.Least.{least}
+use Rattle.snippet_parts.proofs.Common.{◌≡◌, ℕ, ◌+◌, ◌<◌, Bool, true, false, min, Option, Some, List, [], ◌∷◌, ◌++◌, map, length}
+use Rattle.snippet_parts.proofs.Common.{take, drop, get_or, sym, ap, ◌∙◌, filter, option_map_or, cond-true, cond-false, append-nil, map_push, take_more}
+use Rattle.snippet_parts.proofs.Common.{filter-append, Annotation, AnnotatedLineInfo, Location, KeptLine, seen_kept, least}
 use Rattle.snippet_parts.proofs.LeastLemmas.{least-push}
 use Rattle.snippet_parts.proofs.LocationWords.{first_place}
 

@@ -1,14 +1,7 @@
 -- Words for what the places that heads name are made of, which proofs cite.
-use Rattle.std.proofs.Common.{◌≡◌, ℕ, ◌+◌, true, Option, Some, None, List, [], ◌∷◌, ◌++◌, map, refl, sym, ap, ◌∙◌}
-use Rattle.std.specs.List.{cons_option, filter, filter_map, slice_get}
-use Rattle.std.specs.Option.{option_map, option_or}
-use Rattle.std.proofs.lemmas.List.{append-nil}
-use Rattle.snippet_model.specs.AnnotationKind.{is_primary}
-use Rattle.snippet_parts.specs.declared.entries.LineAnnotation.{LineAnnotation}
-use Rattle.snippet_parts.specs.declared.location.Location.{Location}
-use Rattle.snippet_parts.specs.Annotated.{KeptLine}
-use Rattle.snippet_parts.specs.Least.{least}
-use Rattle.snippet_parts.specs.Location.{least_place, primary_place, secondary_place}
+use Rattle.snippet_parts.proofs.Common.{◌≡◌, ℕ, ◌+◌, true, Option, Some, None, List, [], ◌∷◌, ◌++◌, map, refl, sym, ap, ◌∙◌}
+use Rattle.snippet_parts.proofs.Common.{cons_option, filter, filter_map, slice_get, option_map, option_or, append-nil, is_primary, LineAnnotation, Location}
+use Rattle.snippet_parts.proofs.Common.{KeptLine, least, least_place, primary_place, secondary_place}
 
 -- the columns at which some entries start: characters, counted from 1
 abbrev pub start_columns : List LineAnnotation → List ℕ

@@ -1,24 +1,11 @@
 -- Spans of several lines, in their order.
-use Rattle.std.proofs.Common.{◌≡◌, ℕ, ◌-◌, ◌^◌, ◌<◌, ◌≤◌, Bool, true, false, ◌&&◌, ◌||◌, not, eqb, ltb, List, map, get_or, inl, inr, ap, subst, ◌∙◌, arith}
-use Rattle.std.specs.Cmp.{IsStrictWeakOrder}
-use Rattle.std.specs.List.Sorted.{IsNonDecreasingBy, IsSortedBy}
-use Rattle.std.specs.Ordering.{is_lt, ordering_then, nat_cmp}
-use Rattle.std.proofs.lemmas.Bool.Decides.{nat_tests}
-use Rattle.snippet_parts.specs.declared.entries.LineAnnotation.{LineAnnotation}
-use Rattle.snippet_parts.specs.declared.long_spans.LongSpan.{LongSpan}
-use Rattle.snippet_parts.specs.Annotated.{long_entry, is_long}
-use Rattle.snippet_lines.specs.OrderedBy.{ordered_by}
-use Rattle.snippet_parts.specs.Located.{AreBars}
-use Rattle.snippet_parts.specs.LongSpans.{seen_long, HasFit}
-use Rattle.snippet_lines.specs.Lines.{Source, source_lines}
-use Rattle.snippet_parts.specs.Mark.{is_marking}
-use Rattle.snippet_parts.specs.Marked.{first_line, last_line}
-use Rattle.snippet_model.specs.declared.snippet.Annotation.{Annotation}
-use Rattle.std.proofs.lemmas.Bool.{cases_eq, cases_lt, eqb-false, ltb-false, not-true, and_parts, or_parts}
+use Rattle.snippet_parts.proofs.Common.{◌≡◌, ℕ, ◌-◌, ◌^◌, ◌<◌, ◌≤◌, Bool, true, false, ◌&&◌, ◌||◌, not, eqb, ltb, List, map}
+use Rattle.snippet_parts.proofs.Common.{get_or, inl, inr, ap, subst, ◌∙◌, arith, IsStrictWeakOrder, IsNonDecreasingBy, IsSortedBy, is_lt, ordering_then}
+use Rattle.snippet_parts.proofs.Common.{nat_tests, LineAnnotation, LongSpan, long_entry, is_long, ordered_by, AreBars, seen_long, HasFit, Source, source_lines}
+use Rattle.snippet_parts.proofs.Common.{is_marking, first_line, last_line, Annotation, cases_eq, cases_lt, eqb-false, ltb-false, not-true, and_parts, or_parts}
+use Rattle.snippet_parts.proofs.Common.{line_of-mono, line_of-within, map-ordered_by, sorted_far}
+use Rattle.std.specs.Ordering.{nat_cmp}
 use Rattle.snippet_parts.proofs.MarkLemmas.{start-line, end-line}
-use Rattle.snippet_lines.proofs.PlaceLemmas.{line_of-mono, line_of-within}
-use Rattle.snippet_lines.proofs.OrderLemmas.{map-ordered_by}
-use Rattle.std.proofs.lemmas.List.Sorted.{sorted_far}
 use Rattle.snippet_parts.proofs.PartWords.{stands_before}
 
 -- which of two spans of several lines comes first

@@ -1,20 +1,9 @@
 -- The entries of spans of several lines: one stands where each of them starts, and none before.
-use Rattle.std.proofs.Common.{◌≡◌, ℕ, ◌+◌, ◌-◌, ◌<◌, ◌≤◌, Bool, true, false, ◌||◌, ◌&&◌, List, [], ◌∷◌, ◌++◌, ◌⊎◌, inl, inr, refl, sym, ap, subst, ◌∙◌, arith}
-use Rattle.std.specs.List.{All, list_any}
-use Rattle.std.proofs.lemmas.Bool.{cases_Bool, cond-false, cond_both, and_from, and_parts, or_right, both_ways}
-use Rattle.std.proofs.lemmas.List.Elements.{All-nil, All-append, All-weaker}
-use Rattle.snippet_model.specs.AnnotationKind.{is_primary}
-use Rattle.snippet_model.specs.declared.snippet.AnnotationKind.{AnnotationKind}
-use Rattle.snippet_model.specs.declared.snippet.AnnotationKind.TheVariants.{Primary, Context, Visible}
-use Rattle.snippet_lines.specs.declared.place.Loc.{Loc}
-use Rattle.snippet_lines.specs.Lines.{Source}
-use Rattle.snippet_lines.specs.Place.{start_location}
-use Rattle.snippet_parts.specs.declared.entries.LineAnnotation.{LineAnnotation}
-use Rattle.snippet_parts.specs.declared.depths.LongExtent.{LongExtent}
-use Rattle.snippet_parts.specs.declared.entries.LineAnnotationType.TheVariants.{Singleline, MultilineEnd}
-use Rattle.snippet_parts.specs.Annotated.{long_place, long_parts, promoted, span_parts, start_part, bar_part, end_part}
-use Rattle.snippet_parts.specs.LongSpans.{bar_lines}
-use Rattle.snippet_parts.specs.Depths.{depth_among, same_place}
+use Rattle.snippet_parts.proofs.Common.{◌≡◌, ℕ, ◌+◌, ◌-◌, ◌<◌, ◌≤◌, Bool, true, false, ◌||◌, ◌&&◌, List, [], ◌∷◌}
+use Rattle.snippet_parts.proofs.Common.{◌++◌, ◌⊎◌, inl, inr, refl, sym, ap, subst, ◌∙◌, arith, All, list_any, cases_Bool, cond-false, cond_both}
+use Rattle.snippet_parts.proofs.Common.{and_from, and_parts, or_right, both_ways, All-nil, All-append, All-weaker, is_primary, AnnotationKind, Primary, Context}
+use Rattle.snippet_parts.proofs.Common.{Visible, Loc, Source, start_location, LineAnnotation, LongExtent, Singleline, MultilineEnd, long_place, long_parts}
+use Rattle.snippet_parts.proofs.Common.{promoted, span_parts, start_part, bar_part, end_part, bar_lines, depth_among, same_place}
 use Rattle.snippet_parts.proofs.AmongLemmas.{Among, among_left, among_right, any_among, any_cases, append_cases}
 use Rattle.snippet_parts.proofs.PartLemmas.{HoldsOfSpan, IsBarLine, bar_lines-stand, span-all}
 use Rattle.snippet_parts.proofs.RawDepthLemmas.{same-refl, same-true}

@@ -1,13 +1,8 @@
 -- What is known of the lines and columns of spans, and of the lines that they are marked on.
-use Rattle.std.proofs.Common.{◌≡◌, ℕ, ◌+◌, true, false, ◌&&◌, eqb, refl, ap, ◌∙◌, arith}
-use Rattle.std.proofs.lemmas.Bool.{cond_both, eqb-true, eq-eqb, ne_eqb, and_from, and_parts, false_from_ne_true}
-use Rattle.snippet_model.specs.declared.snippet.Annotation.{Annotation}
-use Rattle.snippet_lines.specs.declared.place.Loc.{Loc}
-use Rattle.snippet_lines.specs.Lines.{Source, source_lines}
-use Rattle.snippet_lines.specs.Place.{line_of, location_of, place_of, start_location, end_location, locations_of}
-use Rattle.snippet_parts.specs.Marked.{first_line, last_line}
-use Rattle.snippet_parts.specs.Mark.{is_marking, is_marked_on}
-use Rattle.snippet_lines.proofs.PlaceLemmas.{start_location-line, start_location-column, end_location-line, end_location_column}
+use Rattle.snippet_parts.proofs.Common.{◌≡◌, ℕ, ◌+◌, true, false, ◌&&◌, eqb, refl, ap, ◌∙◌, arith, cond_both, eqb-true, eq-eqb, ne_eqb}
+use Rattle.snippet_parts.proofs.Common.{and_from, and_parts, false_from_ne_true, Annotation, Loc, Source, source_lines, line_of, location_of, place_of}
+use Rattle.snippet_parts.proofs.Common.{start_location, end_location, locations_of, first_line, last_line, is_marking, is_marked_on, start_location-line}
+use Rattle.snippet_parts.proofs.Common.{start_location-column, end_location-line, end_location_column}
 use Rattle.snippet_parts.proofs.PartWords.{entry_of}
 
 -- ---- the locations of a span

@@ -1,34 +1,15 @@
 -- The place that the head of a primary snippet names is that of a byte: the first one at which a span starts that names it.
-use Rattle.std.proofs.Common.{◌≡◌, ℕ, ◌+◌, ◌-◌, ◌<◌, ◌≤◌, Bool, true, false, cond, not, eqb, ltb, min, Option, Some, None, List, [], ◌∷◌, ◌++◌, map, length}
-use Rattle.std.proofs.Common.{take, drop, chars, ◌⊎◌, inl, inr, refl, sym, ap, subst, ◌∙◌, arith}
-use Rattle.std.specs.List.{All, Contains, filter}
-use Rattle.std.specs.Option.{IfSome, option_map, option_map_or, option_or}
-use Rattle.std.specs.Str.{IsUtf8}
-use Rattle.std.proofs.Math.Seq.{take-add}
-use Rattle.std.proofs.lemmas.Bool.{cases_Bool, cases_eq, cases_lt, and_from, and_parts, eq-eqb, eqb-true, le-ltb, lt-ltb}
-use Rattle.std.proofs.lemmas.List.{length-append, take_all}
-use Rattle.std.proofs.lemmas.Str.{IsUtf8-take, chars-append}
-use Rattle.snippet_model.specs.AnnotationKind.{is_primary}
-use Rattle.snippet_model.specs.declared.snippet.Annotation.{Annotation}
-use Rattle.snippet_model.specs.declared.snippet.AnnotationKind.{AnnotationKind}
-use Rattle.snippet_model.specs.declared.snippet.AnnotationKind.TheVariants.{Primary, Context, Visible}
-use Rattle.snippet_lines.specs.declared.place.Loc.{Loc}
-use Rattle.snippet_lines.specs.Lines.{Line, Source, source_lines, start_of, text_at}
-use Rattle.snippet_lines.specs.Place.{line_of, location_of, place_of, prefix_at, start_location, steps_after_text}
-use Rattle.snippet_lines.specs.IsSpan.{IsSpan, IsSpanBorder}
-use Rattle.snippet_lines.proofs.LinesLemmas.{IsUtf8-text_at}
-use Rattle.snippet_lines.proofs.PlaceLemmas.{IsCharBoundary-prefix, line_of-mono, line_of-within, locations_of-start, place_of-character, start_location-line}
-use Rattle.snippet_parts.specs.declared.entries.LineAnnotation.{LineAnnotation}
-use Rattle.snippet_parts.specs.declared.location.Location.{Location}
-use Rattle.snippet_parts.specs.Annotated.{KeptLine, annotated_lines, is_long, kept_line, long_entry, long_parts, long_place}
-use Rattle.snippet_parts.specs.Annotated.{long_spans, made_parts, parts_on, single_part}
-use Rattle.snippet_parts.specs.Kept.{kept_lines}
-use Rattle.snippet_parts.specs.Entries.{Ascends}
-use Rattle.snippet_parts.specs.Location.{primary_place}
-use Rattle.snippet_parts.specs.NamingStart.{marked_starts, naming_start, place_at, primary_starts}
-use Rattle.snippet_parts.specs.Mark.{is_marking, is_single_line}
-use Rattle.snippet_parts.specs.Marked.{first_line, last_line}
-use Rattle.snippet_parts.specs.Least.{least}
+use Rattle.snippet_parts.proofs.Common.{◌≡◌, ℕ, ◌+◌, ◌-◌, ◌<◌, ◌≤◌, Bool, true, false, cond, not, eqb, ltb, min, Option, Some, None}
+use Rattle.snippet_parts.proofs.Common.{List, [], ◌∷◌, ◌++◌, map, length, take, drop, ◌⊎◌, inl, inr, refl, sym, ap, subst, ◌∙◌, arith}
+use Rattle.snippet_parts.proofs.Common.{All, Contains, filter, IfSome, option_map, option_map_or, option_or, IsUtf8, take-add, cases_Bool, cases_eq, cases_lt}
+use Rattle.snippet_parts.proofs.Common.{and_from, and_parts, eq-eqb, eqb-true, le-ltb, lt-ltb, length-append, take_all, IsUtf8-take, chars-append, is_primary}
+use Rattle.snippet_parts.proofs.Common.{Annotation, AnnotationKind, Primary, Context, Visible, Loc, Line, Source, source_lines, start_of, text_at, line_of}
+use Rattle.snippet_parts.proofs.Common.{location_of, place_of, prefix_at, start_location, steps_after_text, IsSpan, IsSpanBorder, IsUtf8-text_at}
+use Rattle.snippet_parts.proofs.Common.{IsCharBoundary-prefix, line_of-mono, line_of-within, locations_of-start, place_of-character, start_location-line}
+use Rattle.snippet_parts.proofs.Common.{LineAnnotation, Location, KeptLine, annotated_lines, is_long, kept_line, long_entry, long_parts, long_place, long_spans}
+use Rattle.snippet_parts.proofs.Common.{made_parts, parts_on, single_part, kept_lines, Ascends, primary_place, marked_starts, naming_start, place_at}
+use Rattle.snippet_parts.proofs.Common.{primary_starts, is_marking, is_single_line, first_line, last_line, least}
+use Rattle.std.proofs.Common.{chars}
 use Rattle.snippet_parts.proofs.AmongLemmas.{Among, all_among, among_filter, among_in_order, among_left, among_map, among_right, append_cases, filter_cases}
 use Rattle.snippet_parts.proofs.AmongLemmas.{in_order_cases, least-among, least_le, map_cases}
 use Rattle.snippet_parts.proofs.KeptPartLemmas.{lines_ordered}

@@ -1,38 +1,19 @@
 -- What stands on a line that is kept: of each span that begins or ends there an entry.
-use Rattle.std.proofs.Common.{◌≡◌, ℕ, ◌+◌, ◌-◌, ◌⊎◌, Bool, true, false, ◌||◌, not, eqb, leb, List, [], ◌∷◌, ◌++◌, map, length, get_or, inl, inr, refl, sym, ap}
-use Rattle.std.proofs.Common.{subst, ◌∙◌, arith}
-use Rattle.std.specs.List.{All, Contains, filter, list_any}
-use Rattle.std.proofs.lemmas.Bool.{and_parts, cases_Bool, cond_both, eqb-true, eq-eqb, leb-true}
-use Rattle.std.proofs.lemmas.List.{get_or-map, length-map}
-use Rattle.std.proofs.lemmas.Simd.{map-map}
-use Rattle.std.proofs.lemmas.List.Elements.{All-head, All-tail, All-map, All-contains, Contains-append_left, Contains-append_right, filter-append}
-use Rattle.snippet_model.specs.declared.snippet.Annotation.{Annotation}
-use Rattle.snippet_model.specs.declared.snippet.AnnotationKind.TheVariants.{Primary}
-use Rattle.snippet_parts.specs.declared.entries.LineAnnotation.{LineAnnotation}
-use Rattle.snippet_parts.specs.declared.depths.LongExtent.{LongExtent}
-use Rattle.snippet_parts.specs.declared.entries.AnnotatedLineInfo.{AnnotatedLineInfo}
-use Rattle.snippet_parts.specs.declared.entries.LineAnnotationType.TheVariants.{Singleline, MultilineStart, MultilineEnd}
-use Rattle.snippet_lines.specs.declared.place.Loc.{Loc}
-use Rattle.snippet_parts.specs.Annotated.{KeptLine, kept_line, annotated_lines, is_long, long_entry, long_place, long_spans, long_parts, depth_of, single_part}
-use Rattle.snippet_parts.specs.Annotated.{start_part, end_part, span_parts, parts_on, promoted}
-use Rattle.snippet_lines.specs.OrderedBy.{put_in, ordered_by}
-use Rattle.snippet_parts.specs.Depths.{depth_among, same_place}
-use Rattle.snippet_parts.specs.Entries.{Ascends}
-use Rattle.snippet_parts.specs.Kept.{kept_lines}
-use Rattle.snippet_lines.specs.Lines.{Source}
-use Rattle.snippet_parts.specs.Mark.{is_marking, touches}
-use Rattle.snippet_parts.specs.Marked.{first_line, last_line}
-use Rattle.snippet_parts.specs.OnLine.{numbers_of_lines, AreEntriesOn, seen_kept}
-use Rattle.snippet_lines.specs.Place.{locations_of, start_location, end_location, location_of}
-use Rattle.snippet_lines.specs.IsSpan.{IsSpan}
-use Rattle.snippet_parts.specs.LineStretches.{is_seen}
+use Rattle.snippet_parts.proofs.Common.{◌≡◌, ℕ, ◌+◌, ◌-◌, ◌⊎◌, Bool, true, false, ◌||◌, not, eqb, leb, List, [], ◌∷◌, ◌++◌}
+use Rattle.snippet_parts.proofs.Common.{map, length, get_or, inl, inr, refl, sym, ap, subst, ◌∙◌, arith, All, Contains, filter, list_any, and_parts}
+use Rattle.snippet_parts.proofs.Common.{cases_Bool, cond_both, eqb-true, eq-eqb, leb-true, get_or-map, length-map, map-map, All-head, All-tail, All-map}
+use Rattle.snippet_parts.proofs.Common.{All-contains, Contains-append_left, Contains-append_right, filter-append, Annotation, Primary, LineAnnotation}
+use Rattle.snippet_parts.proofs.Common.{LongExtent, AnnotatedLineInfo, Singleline, MultilineStart, MultilineEnd, Loc, KeptLine, kept_line, annotated_lines}
+use Rattle.snippet_parts.proofs.Common.{is_long, long_entry, long_place, long_spans, long_parts, depth_of, single_part, start_part, end_part, span_parts}
+use Rattle.snippet_parts.proofs.Common.{parts_on, promoted, put_in, ordered_by, depth_among, same_place, Ascends, kept_lines, Source, is_marking, touches}
+use Rattle.snippet_parts.proofs.Common.{first_line, last_line, numbers_of_lines, AreEntriesOn, seen_kept, locations_of, start_location, end_location}
+use Rattle.snippet_parts.proofs.Common.{location_of, IsSpan, is_seen, line_of-within}
 use Rattle.snippet_parts.proofs.RawDepthLemmas.{same-true, same-refl}
 use Rattle.snippet_parts.proofs.EntryFacts.{each-line, entries-parts_on, longs-off, singles-on}
 use Rattle.snippet_parts.proofs.KeptPartLemmas.{any-member, keeps-unmarked}
 use Rattle.snippet_parts.proofs.MarkLemmas.{start-line, end-line}
 use Rattle.snippet_parts.proofs.PartLemmas.{All-order}
 use Rattle.snippet_parts.proofs.ShownFacts.{contains-cases, contains-filter, contains-here, contains-there, first_kept, last_kept, span-kept, kept-ascends}
-use Rattle.snippet_lines.proofs.PlaceLemmas.{line_of-within}
 use Rattle.snippet_parts.proofs.StartByte.{start_byte as start-byte}
 use Rattle.snippet_parts.proofs.LongStarts.{promoted-start, promoted-end}
 use Rattle.snippet_parts.proofs.PartWords.{is_promoted, is_short, long_places, stands_among, stands_before}

@@ -1,24 +1,11 @@
 -- What holds of each entry that is made: of those of each span.
-use Rattle.std.proofs.Common.{◌≡◌, ℕ, ◌+◌, ◌-◌, ◌<◌, ◌≤◌, Bool, true, false, ◌&&◌, not, eqb, ltb, min, List, [], ◌∷◌, ◌++◌, map, get_or, ◌⊎◌, inl, inr, ◌||◌}
-use Rattle.std.proofs.Common.{refl, ap, arith}
-use Rattle.std.specs.List.{All, Contains, filter, list_any, range_with_len}
-use Rattle.std.proofs.lemmas.Bool.{cond_both, and_parts, eqb-true, or_cases}
-use Rattle.std.proofs.lemmas.List.Elements.{All-nil, All-cons, All-head, All-tail, All-append, All-map, All-weaker, All-contains_itself}
-use Rattle.std.proofs.lemmas.List.FromFn.{length-range_with_len, get_or-range_with_len}
-use Rattle.snippet_model.specs.declared.snippet.Annotation.{Annotation}
-use Rattle.snippet_model.specs.declared.snippet.AnnotationKind.{AnnotationKind}
-use Rattle.snippet_model.specs.declared.snippet.AnnotationKind.TheVariants.{Primary}
-use Rattle.snippet_parts.specs.declared.entries.LineAnnotation.{LineAnnotation}
-use Rattle.snippet_parts.specs.declared.depths.LongExtent.{LongExtent}
-use Rattle.snippet_parts.specs.declared.entries.LineAnnotationType.TheVariants.{Singleline, MultilineEnd}
-use Rattle.snippet_parts.specs.Annotated.{is_long, long_entry, long_place, long_spans, depth_of, single_part}
-use Rattle.snippet_parts.specs.Annotated.{start_part, bar_part, end_part, span_parts, long_parts, made_parts, promoted}
-use Rattle.snippet_parts.specs.LongSpans.{bar_lines}
-use Rattle.snippet_lines.specs.OrderedBy.{ordered_by}
-use Rattle.snippet_parts.specs.Depths.{depth_among, same_place}
-use Rattle.snippet_parts.specs.Kept.{has_bar, is_trivial_line}
-use Rattle.snippet_lines.specs.Lines.{Source}
-use Rattle.snippet_lines.proofs.OrderLemmas.{All-put_in}
+use Rattle.snippet_parts.proofs.Common.{◌≡◌, ℕ, ◌+◌, ◌-◌, ◌<◌, ◌≤◌, Bool, true, false, ◌&&◌, not, eqb, ltb, min, List, []}
+use Rattle.snippet_parts.proofs.Common.{◌∷◌, ◌++◌, map, get_or, ◌⊎◌, inl, inr, ◌||◌, refl, ap, arith, All, Contains, filter, list_any}
+use Rattle.snippet_parts.proofs.Common.{range_with_len, cond_both, and_parts, eqb-true, or_cases, All-nil, All-cons, All-head, All-tail, All-append, All-map}
+use Rattle.snippet_parts.proofs.Common.{All-weaker, All-contains_itself, length-range_with_len, get_or-range_with_len, Annotation, AnnotationKind, Primary}
+use Rattle.snippet_parts.proofs.Common.{LineAnnotation, LongExtent, Singleline, MultilineEnd, is_long, long_entry, long_place, long_spans, depth_of}
+use Rattle.snippet_parts.proofs.Common.{single_part, start_part, bar_part, end_part, span_parts, long_parts, made_parts, promoted, bar_lines, ordered_by}
+use Rattle.snippet_parts.proofs.Common.{depth_among, same_place, has_bar, is_trivial_line, Source, All-put_in}
 pub use Rattle.snippet_lines.proofs.OrderLemmas.{filter-none}
 use Rattle.snippet_parts.proofs.PartWords.{is_promoted, is_short, long_places, stands_before}
 

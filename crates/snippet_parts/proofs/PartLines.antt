@@ -1,10 +1,8 @@
 -- The lines of a part of a source that begins and ends where lines do.
-use Rattle.std.proofs.Common.{◌≡◌, ℕ, zero, suc, ◌+◌, ◌-◌, ◌<◌, ◌≤◌, List, [], ◌∷◌, inl, inr, length, take, drop, refl, sym, ap, ◌∙◌, ⊎_elim, arith}
-use Rattle.std.proofs.lemmas.List.{drop_at, length-drop, length-take, take-append-drop, take_at}
-use Rattle.std.proofs.lemmas.List.Concat.{flat_map-append}
-use Rattle.snippet_lines.specs.Lines.{Line, line_bytes, joined, source_lines, start_of}
-use Rattle.snippet_lines.specs.CutLines.{AreLines, AreLinesOf}
-use Rattle.snippet_lines.proofs.LinesLemmas.{AreLinesOf-source_lines, joined-source_lines, source_lines-only}
+use Rattle.snippet_parts.proofs.Common.{◌≡◌, ℕ, zero, suc, ◌+◌, ◌-◌, ◌<◌, ◌≤◌, List, [], ◌∷◌, inl, inr, length, take, drop}
+use Rattle.snippet_parts.proofs.Common.{refl, sym, ap, ◌∙◌, ⊎_elim, arith, drop_at, length-drop, length-take, take-append-drop, take_at}
+use Rattle.snippet_parts.proofs.Common.{flat_map-append, Line, line_bytes, joined, source_lines, start_of, AreLines, AreLinesOf, AreLinesOf-source_lines}
+use Rattle.snippet_parts.proofs.Common.{joined-source_lines, source_lines-only}
 use Rattle.snippet_parts.proofs.TableLemmas.{start_of-drop}
 
 AreLines-drop : (n : ℕ) (ls : List Line) → AreLines ls → AreLines (drop n ls)

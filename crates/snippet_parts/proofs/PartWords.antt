@@ -1,14 +1,6 @@
 -- Words for parts of what the entries of spans are made of, which proofs cite.
-use Rattle.std.proofs.Common.{◌&&◌, ◌||◌, eqb, ltb, Bool, List, ℕ, map}
-use Rattle.std.specs.List.{list_any}
-use Rattle.snippet_model.specs.AnnotationKind.{is_primary}
-use Rattle.snippet_model.specs.declared.snippet.Annotation.{Annotation}
-use Rattle.snippet_lines.specs.Lines.{Source}
-use Rattle.snippet_parts.specs.declared.entries.LineAnnotation.{LineAnnotation}
-use Rattle.snippet_parts.specs.declared.depths.LongExtent.{LongExtent}
-use Rattle.snippet_parts.specs.Annotated.{long_place, long_spans, single_part}
-use Rattle.snippet_parts.specs.Depths.{same_place}
-use Rattle.snippet_parts.specs.Mark.{is_marking, is_single_line}
+use Rattle.snippet_parts.proofs.Common.{◌&&◌, ◌||◌, eqb, ltb, Bool, List, ℕ, map, list_any, is_primary, Annotation, Source, LineAnnotation}
+use Rattle.snippet_parts.proofs.Common.{LongExtent, long_place, long_spans, single_part, same_place, is_marking, is_single_line}
 
 -- the entry of an annotation that stands on one line
 abbrev pub entry_of : Source → Annotation → LineAnnotation

@@ -1,14 +1,8 @@
 -- How far right a span starts and ends at most, in columns and in characters.
-use Rattle.std.proofs.Common.{ℕ, ◌+◌, ◌-◌, ◌*◌, ◌≤◌, eqb, ltb, cond, List, length, arith}
-use Rattle.std.proofs.lemmas.Bool.{cond_both}
-use Rattle.std.proofs.lemmas.List.{length-take}
-use Rattle.snippet_style.proofs.CellLemmas.{length-chars_le}
-use Rattle.snippet_text.proofs.WidthBounds.{width_of-chars}
-use Rattle.snippet_lines.specs.declared.place.Loc.{Loc}
-use Rattle.snippet_lines.specs.Lines.{Source, source_lines, text_at, start_of}
-use Rattle.snippet_lines.specs.Place.{line_of, prefix_at, place_of, location_of, steps_after_text, start_location, end_location, locations_of}
-use Rattle.snippet_lines.proofs.LinesLemmas.{length-text_at-source}
-use Rattle.snippet_lines.proofs.PlaceLemmas.{start_location-column, place_of-column}
+use Rattle.snippet_parts.proofs.Common.{ℕ, ◌+◌, ◌-◌, ◌*◌, ◌≤◌, eqb, ltb, cond, List, length, arith, cond_both, length-take, length-chars_le}
+use Rattle.snippet_parts.proofs.Common.{width_of-chars, Loc, Source, source_lines, text_at, start_of, line_of, prefix_at, place_of, location_of}
+use Rattle.snippet_parts.proofs.Common.{steps_after_text, start_location, end_location, locations_of, length-text_at-source, start_location-column}
+use Rattle.snippet_parts.proofs.Common.{place_of-column}
 
 -- the columns before a byte
 place-column : (source : List ℕ) (b : ℕ) → (place_of source b).column ≤ 4 * length source

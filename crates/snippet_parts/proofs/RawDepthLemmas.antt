@@ -1,12 +1,9 @@
 -- Places of spans of several lines, and their raw depths.
-use Rattle.std.proofs.Common.{◌≡◌, ℕ, zero, suc, ◌+◌, ◌<◌, ◌≤◌, true, false, ◌&&◌, cond, eqb, max, fold, List, [], ◌∷◌, map, length, get_or, inl, inr}
-use Rattle.std.proofs.Common.{refl, sym, ap, subst, ◌∙◌, arith}
-use Rattle.std.specs.List.{list_any}
-use Rattle.std.proofs.lemmas.Bool.{cases_Bool, eqb-true, eq-eqb, and_from, and_parts, or_left, or_right, cond-true, cond-false, both_ways, false_from_ne_true}
-use Rattle.snippet_parts.specs.Least.{greatest}
-use Rattle.snippet_parts.specs.declared.depths.LongExtent.{LongExtent}
-use Rattle.snippet_parts.specs.Depths.{same_place, share_line, places_of, raw_depth, raw_depth_among, greatest_raw_depth, greatest_depth}
-use Rattle.snippet_parts.specs.Chains.{raw_depths}
+use Rattle.snippet_parts.proofs.Common.{◌≡◌, ℕ, zero, suc, ◌+◌, ◌<◌, ◌≤◌, true, false, ◌&&◌, cond, eqb, max, fold, List, []}
+use Rattle.snippet_parts.proofs.Common.{◌∷◌, map, length, get_or, inl, inr, refl, sym, ap, subst, ◌∙◌, arith, list_any, cases_Bool, eqb-true}
+use Rattle.snippet_parts.proofs.Common.{eq-eqb, and_from, and_parts, or_left, or_right, cond-true, cond-false, both_ways, false_from_ne_true, greatest}
+use Rattle.snippet_parts.proofs.Common.{LongExtent, same_place, share_line, places_of, raw_depth, raw_depth_among, greatest_raw_depth, greatest_depth}
+use Rattle.snippet_parts.proofs.Common.{raw_depths}
 
 -- ---- places
 

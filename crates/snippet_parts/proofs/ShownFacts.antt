@@ -1,18 +1,10 @@
 -- What is known of the lines that are kept, and of those that are shown: their order, and which are among them.
-use Rattle.std.proofs.Common.{◌≡◌, ℕ, zero, suc, ◌+◌, ◌-◌, ◌<◌, ◌≤◌, Bool, true, ◌||◌, not, eqb, List, [], ◌∷◌, length, get_or, ◌⊎◌, inl, inr, refl, sym, ap}
-use Rattle.std.proofs.Common.{subst, ◌∙◌, arith}
-use Rattle.std.specs.List.{All, Contains, filter, list_any, range_with_len}
-use Rattle.std.proofs.lemmas.Bool.{cond-true, cond_both, eqb-true, or_right}
-use Rattle.std.proofs.lemmas.List.FromFn.{length-range_with_len, get_or-range_with_len}
-use Rattle.snippet_model.specs.declared.snippet.Annotation.{Annotation}
-use Rattle.snippet_parts.specs.Entries.{Ascends}
-use Rattle.snippet_parts.specs.Kept.{keeps, kept_lines, shown_lines, with_between}
-use Rattle.snippet_lines.specs.Lines.{source_lines}
-use Rattle.snippet_parts.specs.Marked.{first_line, last_line}
-use Rattle.snippet_lines.specs.IsSpan.{IsSpan}
+use Rattle.snippet_parts.proofs.Common.{◌≡◌, ℕ, zero, suc, ◌+◌, ◌-◌, ◌<◌, ◌≤◌, Bool, true, ◌||◌, not, eqb, List, [], ◌∷◌}
+use Rattle.snippet_parts.proofs.Common.{length, get_or, ◌⊎◌, inl, inr, refl, sym, ap, subst, ◌∙◌, arith, All, Contains, filter, list_any}
+use Rattle.snippet_parts.proofs.Common.{range_with_len, cond-true, cond_both, eqb-true, or_right, length-range_with_len, get_or-range_with_len, Annotation}
+use Rattle.snippet_parts.proofs.Common.{Ascends, keeps, kept_lines, shown_lines, with_between, source_lines, first_line, last_line, IsSpan, line_of-within}
 use Rattle.snippet_parts.proofs.BetweenLemmas.{rest_between, between-rest}
 use Rattle.snippet_parts.proofs.KeptPartLemmas.{any-member, keeps-first, keeps-last}
-use Rattle.snippet_lines.proofs.PlaceLemmas.{line_of-within}
 
 -- ---- order
 

@@ -1,17 +1,9 @@
 -- The lines that are kept, each with its entries.
-use Rattle.std.proofs.Common.{◌≡◌, ℕ, zero, suc, ◌+◌, ◌-◌, ◌<◌, ◌≤◌, Bool, true, false, ◌||◌, eqb, List, [], ◌∷◌, ◌++◌, map, length}
-use Rattle.std.proofs.Common.{take, drop, get_or, inl, inr, refl, sym, ap, ◌∙◌, arith, leb, ltb}
-use Rattle.std.specs.List.{Contains, filter, list_any, range_with_len}
-use Rattle.std.specs.List.Sorted.{IsPartitionPoint}
-use Rattle.std.proofs.lemmas.Bool.{cases_Bool, cases_lt, or_left, or_right, cond-true, cond-false, eq-eqb, ne_eqb, leb-true, leb-false, ltb-true, ltb-false}
-use Rattle.std.proofs.lemmas.List.{map-id}
-use Rattle.std.proofs.lemmas.List.FromFn.{map-range_with_len_more}
-use Rattle.snippet_model.specs.declared.snippet.Annotation.{Annotation}
-use Rattle.snippet_parts.specs.declared.entries.LineAnnotation.{LineAnnotation}
-use Rattle.snippet_parts.specs.Annotated.{is_long, long_entry, long_place, long_spans, depth_of, KeptLine}
-use Rattle.snippet_lines.specs.OrderedBy.{put_in, ordered_by}
-use Rattle.snippet_lines.specs.Lines.{Source}
-use Rattle.snippet_parts.specs.Depths.{same_place, share_line}
+use Rattle.snippet_parts.proofs.Common.{◌≡◌, ℕ, zero, suc, ◌+◌, ◌-◌, ◌<◌, ◌≤◌, Bool, true, false, ◌||◌, eqb, List, [], ◌∷◌}
+use Rattle.snippet_parts.proofs.Common.{◌++◌, map, length, take, drop, get_or, inl, inr, refl, sym, ap, ◌∙◌, arith, leb, ltb, Contains, filter}
+use Rattle.snippet_parts.proofs.Common.{list_any, range_with_len, IsPartitionPoint, cases_Bool, cases_lt, or_left, or_right, cond-true, cond-false, eq-eqb}
+use Rattle.snippet_parts.proofs.Common.{ne_eqb, leb-true, leb-false, ltb-true, ltb-false, map-id, map-range_with_len_more, Annotation, LineAnnotation, is_long}
+use Rattle.snippet_parts.proofs.Common.{long_entry, long_place, long_spans, depth_of, KeptLine, put_in, ordered_by, Source, same_place, share_line}
 use Rattle.snippet_parts.proofs.DepthLemmas.{distinct-places}
 use Rattle.snippet_parts.proofs.RawDepthLemmas.{same-refl}
 use Rattle.snippet_parts.proofs.PartLemmas.{list_any-map}

@@ -1,11 +1,9 @@
 -- Lines that are shown, one after the other.
-use Rattle.std.proofs.Common.{◌≡◌, ℕ, ◌+◌, ◌<◌, Bool, true, false, not, arith, cond, drop, List, [], ◌∷◌, ◌++◌, get_or, length, take, All, sym, ap, ◌∙◌}
-use Rattle.std.proofs.lemmas.List.{append-nil, drop-map, get_or-map, length-map, map-append, map_push, take_more}
-use Rattle.std.proofs.lemmas.List.Elements.{All-cons, All-head, All-nil, All-tail, filter-append}
+use Rattle.snippet_parts.proofs.Common.{◌≡◌, ℕ, ◌+◌, ◌<◌, Bool, true, false, not, arith, cond, drop, List, [], ◌∷◌, ◌++◌, get_or}
+use Rattle.snippet_parts.proofs.Common.{length, take, sym, ap, ◌∙◌, append-nil, drop-map, get_or-map, length-map, map-append, map_push, take_more}
+use Rattle.snippet_parts.proofs.Common.{All-cons, All-head, All-nil, All-tail, filter-append, AnnotatedLineInfo, ShownLine, infos_of, kept_of}
+use Rattle.std.proofs.Common.{All}
 use Rattle.std.specs.Prelude.{filter}
-use Rattle.snippet_parts.specs.declared.entries.AnnotatedLineInfo.{AnnotatedLineInfo}
-use Rattle.snippet_parts.specs.declared.shown_line.ShownLine.{ShownLine}
-use Rattle.snippet_parts.specs.ShownLines.{infos_of, kept_of}
 
 -- one more line
 pub infos_of-push : (lines : List ShownLine) (line : ShownLine) → infos_of (lines ++ line ∷ []) ≡ infos_of lines ++ line.info ∷ []

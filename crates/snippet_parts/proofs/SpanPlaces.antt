@@ -1,9 +1,6 @@
 -- Where a span starts and ends, from the locations of its two bytes.
-use Rattle.std.proofs.Common.{◌≡◌, ℕ, ◌+◌, ◌==◌, false, cond, sym, ap, ◌∙◌, arith}
-use Rattle.std.proofs.lemmas.Bool.{cond-false, cond-true, eq-eqb}
-use Rattle.snippet_lines.specs.Lines.{Source}
-use Rattle.snippet_lines.specs.Place.{end_location, location_of, locations_of, start_location, steps_after_text}
-use Rattle.snippet_lines.specs.declared.place.Loc.{Loc}
+use Rattle.snippet_parts.proofs.Common.{◌≡◌, ℕ, ◌+◌, ◌==◌, false, cond, sym, ap, ◌∙◌, arith, cond-false, cond-true, eq-eqb, Source}
+use Rattle.snippet_parts.proofs.Common.{end_location, location_of, locations_of, start_location, steps_after_text, Loc}
 
 -- a location that is a character further on, and one that is a column further on too
 abbrev pub next_char : Loc → ℕ → Loc

@@ -1,10 +1,5 @@
 -- The byte at which the entry of a span starts.
-use Rattle.std.proofs.Common.{◌≡◌}
-use Rattle.std.proofs.Common.{refl}
-use Rattle.snippet_model.specs.declared.snippet.Annotation.{Annotation}
-use Rattle.snippet_parts.specs.Annotated.{long_entry}
-use Rattle.snippet_lines.specs.Lines.{Source}
-use Rattle.snippet_lines.specs.Place.{location_of, locations_of, start_location}
+use Rattle.snippet_parts.proofs.Common.{◌≡◌, refl, Annotation, long_entry, Source, location_of, locations_of, start_location}
 
 -- the start of a span, by its byte
 pub start_byte : (s : Source) (a : Annotation) → (long_entry s a).start.byte ≡ a.span.start

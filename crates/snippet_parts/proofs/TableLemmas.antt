@@ -1,27 +1,13 @@
 -- What the table of a source's lines says of each of them.
-use Rattle.std.proofs.Common.{◌≡◌, ℕ, zero, suc, ◌+◌, ◌-◌, ◌<◌, ◌≤◌, ◌&&◌, cond, leb, ltb, min, take, drop, List, [], ◌∷◌, ◌++◌, map, length}
-use Rattle.std.proofs.Common.{inl, inr, true, false, Some, None}
-use Rattle.std.proofs.Common.{get_or, refl, sym, ap, subst, ◌∙◌, arith}
-use Rattle.std.proofs.lemmas.List.{map_push, length-append, length-drop, length-take, take-take, take_all}
-use Rattle.std.proofs.Math.Seq.{take-add}
-use Rattle.std.proofs.lemmas.List.Concat.{flat_map-append}
-use Rattle.std.proofs.lemmas.Bool.{cases_lt, leb-true, leb-false, le-leb, lt-ltb, and_from, cond-true}
-use Rattle.std.specs.List.{HoldsAt, range_with_len}
-use Rattle.std.proofs.lemmas.List.FromFn.{map-range_with_len_more}
-use Rattle.std.specs.List.Sorted.{IsNonDecreasingBy, IsPartitionPoint}
-use Rattle.snippet_parts.specs.declared.source_map.LineInfo.{LineInfo}
-use Rattle.snippet_lines.specs.Lines.{Line, line_bytes, joined, source_lines, text_at, start_of, newline_count, line_at, StandsAt, Source}
-use Rattle.snippet_text.specs.Width.{width_of}
-use Rattle.snippet_lines.specs.declared.place.Loc.{Loc}
-use Rattle.snippet_lines.specs.Place.{HoldsByte, line_of, place_of, prefix_at, location_of, steps_after_text}
-use Rattle.snippet_lines.specs.IsSpan.{IsSpanBorder}
-use Rattle.std.specs.Str.{IsCharBoundary, IsUtf8, chars}
-use Rattle.snippet_parts.specs.LineTable.{LineEntry, IsLineTable, table_entry, entry_at}
-use Rattle.snippet_lines.specs.Starts.{starts_from, line_starts}
-use Rattle.snippet_text.specs.TextBounds.{TextFits}
-use Rattle.snippet_style.specs.Bounds.{HasNext}
-use Rattle.snippet_lines.proofs.LinesLemmas.{start_of-zero, start_of-cons, start_of-end, start_of-le, joined-source_lines, length-source_lines, text_at-stands}
-use Rattle.snippet_lines.proofs.PlaceLemmas.{line_of-is, line_of-within, HoldsByte-source, start_of-inside, text_at-end, IsCharBoundary-prefix}
+use Rattle.snippet_parts.proofs.Common.{◌≡◌, ℕ, zero, suc, ◌+◌, ◌-◌, ◌<◌, ◌≤◌, ◌&&◌, cond, leb, ltb, min, take, drop, List, []}
+use Rattle.snippet_parts.proofs.Common.{◌∷◌, ◌++◌, map, length, inl, inr, true, false, Some, None, get_or, refl, sym, ap, subst, ◌∙◌, arith}
+use Rattle.snippet_parts.proofs.Common.{map_push, length-append, length-drop, length-take, take-take, take_all, take-add, flat_map-append, cases_lt, leb-true}
+use Rattle.snippet_parts.proofs.Common.{leb-false, le-leb, lt-ltb, and_from, cond-true, HoldsAt, range_with_len, map-range_with_len_more, IsNonDecreasingBy}
+use Rattle.snippet_parts.proofs.Common.{IsPartitionPoint, LineInfo, Line, line_bytes, joined, source_lines, text_at, start_of, newline_count, line_at, StandsAt}
+use Rattle.snippet_parts.proofs.Common.{Source, width_of, Loc, HoldsByte, line_of, place_of, prefix_at, location_of, steps_after_text, IsSpanBorder}
+use Rattle.snippet_parts.proofs.Common.{IsCharBoundary, IsUtf8, chars, LineEntry, IsLineTable, table_entry, entry_at, starts_from, line_starts, TextFits}
+use Rattle.snippet_parts.proofs.Common.{HasNext, start_of-zero, start_of-cons, start_of-end, start_of-le, joined-source_lines, length-source_lines}
+use Rattle.snippet_parts.proofs.Common.{text_at-stands, line_of-is, line_of-within, HoldsByte-source, start_of-inside, text_at-end, IsCharBoundary-prefix}
 
 same_entry : (text : List ℕ) (number start next number' start' next' : ℕ) → number ≡ number' → start ≡ start' → next ≡ next'
     → ◌≡◌ {A = LineEntry} (record { text = text; number = number; start = start; next = next })

@@ -1,14 +1,9 @@
 -- Why a line needn't be read further to know whether it says little.
-use Rattle.std.proofs.Common.{◌≡◌, ℕ, suc, ◌+◌, ◌<◌, Bool, true, false, ◌&&◌, ◌||◌, cond, not, eqb, List, [], ◌∷◌, ◌++◌, length, drop, get_or, reverse, inl}
-use Rattle.std.proofs.Common.{inr, ◌⊎◌, refl, sym, ap, subst, ◌∙◌, arith}
-use Rattle.std.specs.Char.{is_whitespace}
-use Rattle.std.specs.Str.{drop_trailing_whitespace, skip_leading_whitespace}
-use Rattle.std.proofs.lemmas.Bool.{cases_Bool, or_cases, cond-true, cond-false, eqb-true, ne_eqb}
-use Rattle.std.proofs.lemmas.List.{drop_more, drop_all, reverse-append}
-use Rattle.snippet_parts.specs.declared.trivial_lines.Seen.{Seen}
-use Rattle.snippet_parts.specs.declared.trivial_lines.Seen.TheVariants.{Nothing, Bracket, Slash, Slashes, Comment, Telling}
-use Rattle.snippet_parts.specs.Kept.{is_bracket, is_comment, is_trivial}
-use Rattle.snippet_parts.specs.Trivial.{step, is_trivial_whole}
+use Rattle.snippet_parts.proofs.Common.{◌≡◌, ℕ, suc, ◌+◌, ◌<◌, Bool, true, false, ◌&&◌, ◌||◌, cond, not, eqb, List, [], ◌∷◌}
+use Rattle.snippet_parts.proofs.Common.{◌++◌, length, drop, get_or, reverse, inl, inr, ◌⊎◌, refl, sym, ap, subst, ◌∙◌, arith, is_whitespace}
+use Rattle.snippet_parts.proofs.Common.{drop_trailing_whitespace, skip_leading_whitespace, cases_Bool, or_cases, cond-true, cond-false, eqb-true, ne_eqb}
+use Rattle.snippet_parts.proofs.Common.{drop_more, drop_all, reverse-append, Seen, Nothing, Bracket, Slash, Slashes, Comment, Telling, is_bracket, is_comment}
+use Rattle.snippet_parts.proofs.Common.{is_trivial, step, is_trivial_whole}
 
 -- a text without the whitespace that it ends with
 without_tail : List ℕ → List ℕ

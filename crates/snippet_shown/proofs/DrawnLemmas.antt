@@ -1,39 +1,15 @@
 -- How wide the rows of titles and messages are.
-use Rattle.std.proofs.Common.{◌≡◌, ℕ, zero, suc, ◌+◌, ◌-◌, ◌<◌, ◌≤◌, ◌==◌, ◌||◌, ◌&&◌, nat_le, Bool, true, false, List, [], ◌∷◌, ◌++◌, All, length, map}
-use Rattle.std.proofs.Common.{replicate, refl, sym, ap}
-use Rattle.std.proofs.Common.{◌∙◌, subst, arith}
-use Rattle.std.proofs.Common.{chars, cond, if◌then◌else◌}
-use Rattle.std.specs.List.{list_any, onto_first, slice_split}
-use Rattle.std.proofs.lemmas.Bool.{false≢true}
-use Rattle.std.proofs.lemmas.Bool.Decides.{nat_tests}
-use Rattle.std.proofs.lemmas.List.Elements.{All-append, All-cons, All-head, All-map, All-nil, All-replicate, All-tail, All-weaker}
-use Rattle.std.proofs.lemmas.List.Splits.{length-slice_split, slice_split-cons_no, slice_split-cons_yes}
-use Rattle.std.proofs.lemmas.List.Sums.{sum_by-append, sum_by-cons}
-use Rattle.snippet_grid.proofs.RowLemmas.{row_text-text_cells}
-use Rattle.snippet_grid.specs.Layout.{separator_cell}
-use Rattle.snippet_grid.specs.Print.{row_text}
-use Rattle.snippet_model.proofs.RowLemmas.{each_fails}
-use Rattle.snippet_model.specs.Heading.{Heading}
-use Rattle.snippet_style.specs.Cell.{SPACE, text_cells}
-use Rattle.snippet_style.specs.Glyphs.{note_sign_of}
-use Rattle.snippet_style.specs.declared.glyphs.DecorStyle.{DecorStyle}
-use Rattle.snippet_style.specs.declared.glyphs.DecorStyle.TheVariants.{Ascii, Unicode}
-use Rattle.snippet_style.specs.declared.role.ElementStyle.TheVariants.{LineNumber}
-use Rattle.snippet_text.proofs.NormLemmas.{width_of-norm}
-use Rattle.snippet_text.proofs.WidthLemmas.{unicode_width}
-use Rattle.snippet_text.specs.Normalized.{has_control_picture, is_bidirectional_control, is_listed, norm, shown}
-use Rattle.snippet_text.specs.Width.{char_width, width_of}
-use Rattle.snippet_titles.proofs.SplitLemmas.{lines_at-after}
-use Rattle.snippet_titles.proofs.TextLemmas.{row_text-append, row_text-spaces}
-use Rattle.snippet_titles.specs.HeadingRows.{heading_label_text, heading_lines, indent_cells, label_width, note_bar_of, sign_cells}
-use Rattle.snippet_titles.specs.ShownHeading.{heading_texts, texts_below}
-use Rattle.snippet_titles.specs.declared.style.MessageContext.{MessageContext}
-use Rattle.snippet_titles.specs.declared.style.TitleStyle.TheVariants.{Message, Title}
-use Rattle.snippet_titles.proofs.FreeLemmas.{IsUnlisted, indent-all, label-all}
-use Rattle.snippet_shown.specs.Letters.{Letter, first_place, is_code, is_feed, letter, letter_width, letters, letters_of, place_after}
-use Rattle.snippet_shown.specs.WrapLaws.{AreRowsWithin, AreWithin, columns_of, lines_in}
-use Rattle.snippet_shown.specs.declared.wrap.code.Place.{Place}
-use Rattle.snippet_shown.specs.declared.wrap.code.Place.TheVariants.{Untrusted, Outside, Escape, Bracket, Command, CommandEscape}
+use Rattle.snippet_shown.proofs.Common.{◌≡◌, ℕ, zero, suc, ◌+◌, ◌-◌, ◌<◌, ◌≤◌, ◌==◌, ◌||◌, ◌&&◌, nat_le, Bool, true}
+use Rattle.snippet_shown.proofs.Common.{false, List, [], ◌∷◌, ◌++◌, All, length, map, replicate, refl, sym, ap, ◌∙◌, subst, arith, chars, cond}
+use Rattle.snippet_shown.proofs.Common.{if◌then◌else◌, list_any, onto_first, slice_split, false≢true, nat_tests, All-append, All-cons, All-head}
+use Rattle.snippet_shown.proofs.Common.{All-map, All-nil, All-replicate, All-tail, All-weaker, length-slice_split, slice_split-cons_no, slice_split-cons_yes}
+use Rattle.snippet_shown.proofs.Common.{sum_by-append, sum_by-cons, row_text-text_cells, separator_cell, row_text, each_fails, Heading, SPACE, text_cells}
+use Rattle.snippet_shown.proofs.Common.{note_sign_of, DecorStyle, Ascii, Unicode, LineNumber, width_of-norm, unicode_width, has_control_picture}
+use Rattle.snippet_shown.proofs.Common.{is_bidirectional_control, is_listed, norm, shown, char_width, width_of, lines_at-after, row_text-append}
+use Rattle.snippet_shown.proofs.Common.{row_text-spaces, heading_label_text, heading_lines, indent_cells, label_width, note_bar_of, sign_cells, heading_texts}
+use Rattle.snippet_shown.proofs.Common.{texts_below, MessageContext, Message, Title, IsUnlisted, indent-all, label-all, Letter, first_place, is_code, is_feed}
+use Rattle.snippet_shown.proofs.Common.{letter, letter_width, letters, letters_of, place_after, AreRowsWithin, AreWithin, columns_of, lines_in, Place}
+use Rattle.snippet_shown.proofs.Common.{Untrusted, Outside, Escape, Bracket, Command, CommandEscape}
 
 -- ---- what a row begins with
 

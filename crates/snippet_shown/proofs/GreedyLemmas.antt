@@ -1,18 +1,9 @@
 -- Where the rows of a text that is wrapped end.
-use Rattle.std.proofs.Common.{◌≡◌, ℕ, ◌+◌, ◌-◌, ◌<◌, ◌≤◌, nat_le, true, false, List, [], ◌∷◌, ◌++◌, Option, None, Some, filter}
-use Rattle.std.proofs.Common.{inl, inr, refl, sym, ap, ◌∙◌, subst, arith, drop, get_or, is_some, unwrap_or}
-use Rattle.std.proofs.lemmas.Bool.{false≢true}
-use Rattle.std.proofs.lemmas.Bool.Decides.{nat_tests}
-use Rattle.std.proofs.lemmas.List.Elements.{All-cons, All-nil}
-use Rattle.std.proofs.lemmas.List.Sums.{sum_by-cons}
-use Rattle.snippet_text.specs.Width.{char_width}
-use Rattle.snippet_text.proofs.WidthBounds.{char_width-bound}
-use Rattle.snippet_shown.specs.Letters.{Letter, is_blank, is_feed, letter_width}
-use Rattle.snippet_shown.specs.Wrapped.{at_blank, columns_ahead, ended, feed, in_word, inside_after, kept, next_width, row_start, rows, shown_at}
-use Rattle.snippet_shown.specs.WrapLaws.{IsRowEnd, columns_from, columns_of, is_gap, is_inside}
-use Rattle.snippet_shown.specs.declared.wrap.row.Stage.{Stage}
-use Rattle.snippet_shown.specs.declared.wrap.row.Stage.TheVariants.{Indentation, Gap, Word}
-use Rattle.snippet_shown.specs.declared.wrap.row.Step.{Step}
+use Rattle.snippet_shown.proofs.Common.{◌≡◌, ℕ, ◌+◌, ◌-◌, ◌<◌, ◌≤◌, nat_le, true, false, List, [], ◌∷◌, ◌++◌, Option, None}
+use Rattle.snippet_shown.proofs.Common.{Some, filter, inl, inr, refl, sym, ap, ◌∙◌, subst, arith, drop, get_or, is_some, unwrap_or, false≢true}
+use Rattle.snippet_shown.proofs.Common.{nat_tests, All-cons, All-nil, sum_by-cons, char_width, char_width-bound, Letter, is_blank, is_feed, letter_width}
+use Rattle.snippet_shown.proofs.Common.{at_blank, columns_ahead, ended, feed, in_word, inside_after, kept, next_width, row_start, rows, shown_at, IsRowEnd}
+use Rattle.snippet_shown.proofs.Common.{columns_from, columns_of, is_gap, is_inside, Stage, Indentation, Gap, Word, Step}
 use Rattle.snippet_shown.proofs.LawLemmas.{before-blank, before-code, before-word, code-width, columns_left, either-step, gap_of_blank, keep-own}
 use Rattle.snippet_shown.proofs.LawLemmas.{left-same, next-own, next-same, next-word-columns, next_columns, next_within, own-width, row_at}
 use Rattle.snippet_shown.proofs.PlaceLemmas.{step-cases}

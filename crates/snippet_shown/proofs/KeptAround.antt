@@ -1,29 +1,14 @@
 -- Which lines a snippet keeps with the lines around those that it kept, and that what stands on its lines stays.
-use Rattle.std.proofs.Common.{◌≡◌, ◌∙◌, ℕ, ◌+◌, ◌-◌, ◌<◌, ◌≤◌, Bool, true, false, ◌&&◌, ◌||◌, eqb, leb, cond, min, List, [], ◌∷◌, ◌++◌, map, length, inl}
-use Rattle.std.proofs.Common.{inr, arith, zero, suc, refl, sym, ap, ap₂, subst, append-nil}
-use Rattle.std.proofs.lemmas.Bool.{and_parts, cases_lt, eqb-true, false≢true, le-leb, leb-true, lt-leb, or_cases, or_left, or_right}
-use Rattle.std.proofs.lemmas.List.Elements.{All-head, All-tail, filter-append}
-use Rattle.std.proofs.lemmas.List.Folds.{list_any-append}
-use Rattle.std.specs.Bool.{⊤}
-use Rattle.std.specs.Cow.{cow_str_bytes}
-use Rattle.std.specs.List.{All, filter, list_any, range_with_len}
-use Rattle.snippet_lines.specs.OrderedBy.{ordered_by}
-use Rattle.std.specs.declared.ops.Range.{Range}
-use Rattle.snippet_lines.specs.Lines.{Source, source_lines}
-use Rattle.snippet_model.specs.Source.{SourceSeen}
-use Rattle.snippet_model.specs.declared.snippet.Annotation.{Annotation}
-use Rattle.snippet_model.specs.declared.snippet.Snippet.{Snippet}
-use Rattle.snippet_parts.proofs.KeptLemmas.{among-kept, kept-within}
-use Rattle.snippet_parts.specs.declared.entries.LineAnnotation.{LineAnnotation}
-use Rattle.snippet_parts.specs.Annotated.{is_long, long_entry, long_parts, long_place, made_parts, single_part}
-use Rattle.snippet_parts.specs.Kept.{has_bar, keeps, kept_lines}
-use Rattle.snippet_parts.specs.Mark.{touches}
-use Rattle.snippet_parts.specs.Marked.{first_line, last_line}
-use Rattle.snippet_parts.specs.Numbered.{numbered_source}
+use Rattle.snippet_shown.proofs.Common.{◌≡◌, ◌∙◌, ℕ, ◌+◌, ◌-◌, ◌<◌, ◌≤◌, Bool, true, false, ◌&&◌, ◌||◌, eqb, leb, cond}
+use Rattle.snippet_shown.proofs.Common.{min, List, [], ◌∷◌, ◌++◌, map, length, inl, inr, arith, zero, suc, refl, sym, ap, ap₂, subst, append-nil}
+use Rattle.snippet_shown.proofs.Common.{and_parts, cases_lt, eqb-true, false≢true, le-leb, leb-true, lt-leb, or_cases, or_left, or_right, All-head, All-tail}
+use Rattle.snippet_shown.proofs.Common.{filter-append, list_any-append, ⊤, cow_str_bytes, list_any, range_with_len, ordered_by, Range, Source, source_lines}
+use Rattle.snippet_shown.proofs.Common.{SourceSeen, Annotation, Snippet, among-kept, kept-within, LineAnnotation, is_long, long_entry, long_parts, long_place}
+use Rattle.snippet_shown.proofs.Common.{made_parts, single_part, has_bar, keeps, kept_lines, touches, first_line, last_line, numbered_source, context_spans}
+use Rattle.snippet_shown.proofs.Common.{is_line_near, lines_around, reach_after, span_around, spans_around, visible_mark, IsSnippetWithContext}
+use Rattle.snippet_shown.proofs.Common.{KeepsLinesAround, is_short, stands_before}
+use Rattle.std.specs.List.{All, filter}
 use Rattle.snippet_shown.proofs.SpanLemmas.{around-first, around-last}
-use Rattle.snippet_shown.specs.Context.{context_spans, is_line_near, lines_around, reach_after, span_around, spans_around, visible_mark}
-use Rattle.snippet_shown.specs.WithContext.{IsSnippetWithContext, KeepsLinesAround}
-use Rattle.snippet_parts.proofs.PartWords.{is_short, stands_before}
 
 -- ---- the line of a range
 

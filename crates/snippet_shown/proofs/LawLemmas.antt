@@ -1,23 +1,10 @@
 -- What follows of a text that is wrapped.
-use Rattle.std.proofs.Common.{◌≡◌, ℕ, ◌+◌, ◌-◌, ◌≤◌, ◌||◌, ◌&&◌, nat_le, Bool, true, false, List, [], ◌∷◌, ◌++◌, Option, None, Some}
-use Rattle.std.proofs.Common.{All}
-use Rattle.std.proofs.Common.{filter, ◌⊎◌, inl, inr, refl, sym, ap, ◌∙◌, arith, if◌then◌else◌, unwrap_or}
-use Rattle.std.specs.List.{Contains}
-use Rattle.std.proofs.lemmas.Bool.{false≢true}
-use Rattle.std.proofs.lemmas.Bool.Decides.{nat_tests}
-use Rattle.std.proofs.lemmas.List.Elements.{All-cons, All-contains_itself, All-head, All-nil, All-tail, All-weaker}
-use Rattle.std.proofs.lemmas.List.Elements.{filter-append}
-use Rattle.snippet_text.specs.Width.{char_width}
-use Rattle.snippet_text.proofs.WidthBounds.{char_width-bound}
-use Rattle.snippet_shown.specs.Letters.{Letter, is_before_word, is_blank, is_feed, letter_width}
-use Rattle.snippet_shown.specs.Wrapped.{at_blank, columns_ahead, ended, ends_ahead, feed, in_word, inside_after, kept, next_width, row_start, rows}
-use Rattle.snippet_shown.specs.Asked.{lines_fit}
-use Rattle.snippet_shown.specs.Wrapped.{shown_at, shown_by, step}
-use Rattle.snippet_shown.specs.WrapLaws.{IsAmong, is_gap, is_inside}
-use Rattle.snippet_shown.specs.declared.wrap.row.Row.{Row}
-use Rattle.snippet_shown.specs.declared.wrap.row.Stage.{Stage}
-use Rattle.snippet_shown.specs.declared.wrap.row.Stage.TheVariants.{Indentation, Gap, Word}
-use Rattle.snippet_shown.specs.declared.wrap.row.Step.{Step}
+use Rattle.snippet_shown.proofs.Common.{◌≡◌, ℕ, ◌+◌, ◌-◌, ◌≤◌, ◌||◌, ◌&&◌, nat_le, Bool, true, false, List, [], ◌∷◌}
+use Rattle.snippet_shown.proofs.Common.{◌++◌, Option, None, Some, All, filter, ◌⊎◌, inl, inr, refl, sym, ap, ◌∙◌, arith, if◌then◌else◌}
+use Rattle.snippet_shown.proofs.Common.{unwrap_or, Contains, false≢true, nat_tests, All-cons, All-contains_itself, All-head, All-nil, All-tail, All-weaker}
+use Rattle.snippet_shown.proofs.Common.{filter-append, char_width, char_width-bound, Letter, is_before_word, is_blank, is_feed, letter_width, at_blank}
+use Rattle.snippet_shown.proofs.Common.{columns_ahead, ended, ends_ahead, feed, in_word, inside_after, kept, next_width, row_start, rows, lines_fit, shown_at}
+use Rattle.snippet_shown.proofs.Common.{shown_by, step, IsAmong, is_gap, is_inside, Row, Stage, Indentation, Gap, Word, Step}
 use Rattle.snippet_shown.proofs.PlaceLemmas.{step-cases}
 use Rattle.snippet_shown.proofs.StepLemmas.{fit-rest, lines_fit-feed, lines_fit-next}
 

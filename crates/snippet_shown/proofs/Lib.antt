@@ -1,3 +1,4 @@
+pub mod Common
 pub mod LineFeedLemmas
 pub mod SpanLemmas
 pub mod KeptAround

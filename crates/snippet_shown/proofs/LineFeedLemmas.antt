@@ -1,11 +1,9 @@
 -- What showing line feeds makes of a text.
-use Rattle.std.proofs.Common.{◌≡◌, ℕ, ◌==◌, chars, encode_utf8, encode_utf8_all, Bool, true, false, if◌then◌else◌, List, [], ◌∷◌, ◌++◌, map, refl, sym, ap, ◌∙◌}
-use Rattle.std.specs.List.{list_any}
-use Rattle.std.specs.Str.{IsUtf8}
-use Rattle.std.proofs.lemmas.Str.{chars_from_encodes, encodes-append}
-use Rattle.std.proofs.lemmas.List.{append-nil, map-id}
-use Rattle.std.proofs.lemmas.Bool.{false≢true}
-use Rattle.snippet_shown.specs.LineFeeds.{picture_of, with_line_feeds_shown}
+use Rattle.snippet_shown.proofs.Common.{◌≡◌, ℕ, ◌==◌, chars, encode_utf8_all, Bool, true, false, if◌then◌else◌, List, [], ◌∷◌, ◌++◌}
+use Rattle.snippet_shown.proofs.Common.{map, refl, sym, ap, ◌∙◌, list_any, IsUtf8, chars_from_encodes, encodes-append, map-id, false≢true, picture_of}
+use Rattle.snippet_shown.proofs.Common.{with_line_feeds_shown}
+use Rattle.std.proofs.Common.{encode_utf8}
+use Rattle.std.proofs.lemmas.List.{append-nil}
 
 -- one more character
 pub shown-push : (cs : List ℕ) (c : ℕ) → with_line_feeds_shown (cs ++ c ∷ []) ≡ with_line_feeds_shown cs ++ picture_of c ∷ []

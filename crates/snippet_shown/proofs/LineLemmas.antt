@@ -1,21 +1,10 @@
 -- The lines of a text that is wrapped: how wide they are, and which are empty.
-use Rattle.std.proofs.Common.{◌≡◌, ℕ, ◌+◌, ◌-◌, ◌<◌, ◌≤◌, nat_le, Bool, true, false, List, [], ◌∷◌, ◌++◌, Option, None, Some, length}
-use Rattle.std.proofs.Common.{filter, refl, sym, ap, ◌∙◌, subst, arith, is_some, if◌then◌else◌, unwrap_or}
-use Rattle.std.specs.List.{onto_first}
-use Rattle.std.proofs.lemmas.Bool.{false≢true}
-use Rattle.std.proofs.lemmas.Bool.Decides.{nat_tests}
-use Rattle.std.proofs.lemmas.List.Elements.{All-cons, All-head, All-nil, All-tail}
-use Rattle.std.proofs.lemmas.List.Splits.{length-slice_split, slice_split-cons_no, slice_split-cons_yes}
-use Rattle.std.proofs.lemmas.List.Sums.{sum_by-cons}
-use Rattle.snippet_text.specs.Width.{char_width}
-use Rattle.snippet_text.proofs.WidthBounds.{char_width-bound}
-use Rattle.snippet_shown.specs.Letters.{Letter, is_before_word, is_feed, letter_width}
-use Rattle.snippet_shown.specs.Wrapped.{at_blank, columns_ahead, ended, in_word, kept, next_width, row_start, rows, shown_at}
-use Rattle.snippet_shown.specs.Asked.{lines_fit}
-use Rattle.snippet_shown.specs.WrapLaws.{AreWithin, columns_of, empty_lines, is_empty, lines_in}
-use Rattle.snippet_shown.specs.declared.wrap.row.Stage.{Stage}
-use Rattle.snippet_shown.specs.declared.wrap.row.Stage.TheVariants.{Indentation, Gap, Word}
-use Rattle.snippet_shown.specs.declared.wrap.row.Step.{Step}
+use Rattle.snippet_shown.proofs.Common.{◌≡◌, ℕ, ◌+◌, ◌-◌, ◌<◌, ◌≤◌, nat_le, Bool, true, false, List, [], ◌∷◌, ◌++◌, Option}
+use Rattle.snippet_shown.proofs.Common.{None, Some, length, filter, refl, sym, ap, ◌∙◌, subst, arith, is_some, if◌then◌else◌, unwrap_or, onto_first}
+use Rattle.snippet_shown.proofs.Common.{false≢true, nat_tests, All-cons, All-head, All-nil, All-tail, length-slice_split, slice_split-cons_no}
+use Rattle.snippet_shown.proofs.Common.{slice_split-cons_yes, sum_by-cons, char_width, char_width-bound, Letter, is_before_word, is_feed, letter_width}
+use Rattle.snippet_shown.proofs.Common.{at_blank, columns_ahead, ended, in_word, kept, next_width, row_start, rows, shown_at, lines_fit, AreWithin, columns_of}
+use Rattle.snippet_shown.proofs.Common.{empty_lines, is_empty, lines_in, Stage, Indentation, Gap, Word, Step}
 use Rattle.snippet_shown.proofs.LawLemmas.{before-blank, either-step, next-feed, next-same, next_columns, next_within, row_at}
 use Rattle.snippet_shown.proofs.PlaceLemmas.{step-cases}
 use Rattle.snippet_shown.proofs.StepLemmas.{fit-rest, lines_fit-feed, lines_fit-next}

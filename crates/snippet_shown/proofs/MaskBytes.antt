@@ -1,13 +1,8 @@
 -- Masking keeps the places of bytes: each character has as many, and those of ASCII stay.
-use Rattle.std.proofs.Common.{◌≡◌, ℕ, ◌+◌, ◌/◌, ◌%◌, ◌<◌, ◌≤◌, nat_lt, chars, encode_utf8_all, Bool, true, false, List, [], ◌∷◌, ◌++◌}
-use Rattle.std.proofs.Common.{arith, refl, subst, sym, ◌∙◌, if◌then◌else◌}
+use Rattle.snippet_shown.proofs.Common.{◌≡◌, ℕ, ◌+◌, ◌/◌, ◌%◌, ◌<◌, ◌≤◌, nat_lt, chars, encode_utf8_all, Bool, true, false, List}
+use Rattle.snippet_shown.proofs.Common.{[], ◌∷◌, ◌++◌, arith, refl, subst, sym, ◌∙◌, if◌then◌else◌, IsUtf8, mod-lt, nat_tests}
+use Rattle.snippet_shown.proofs.Common.{encodes-chars, is_masked, IsAligned, byte_class, mask_of, masked}
 use Rattle.std.specs.Char.{encode_utf8}
-use Rattle.std.specs.Str.{IsUtf8}
-use Rattle.std.proofs.Math.Nat.{mod-lt}
-use Rattle.std.proofs.lemmas.Bool.Decides.{nat_tests}
-use Rattle.std.proofs.lemmas.Str.{encodes-chars}
-use Rattle.snippet_lines.specs.Controls.{is_masked}
-use Rattle.snippet_shown.specs.Masked.{IsAligned, byte_class, mask_of, masked}
 
 -- ---- one character
 

@@ -1,12 +1,9 @@
 -- What masking makes of a text, character by character.
-use Rattle.std.proofs.Common.{◌≡◌, ℕ, chars, encode_utf8, encode_utf8_all, Bool, false, if◌then◌else◌, nat_lt, List, [], ◌∷◌, ◌++◌, map, refl, sym, ap, ◌∙◌}
-use Rattle.std.proofs.Common.{arith}
-use Rattle.std.specs.List.{list_any}
-use Rattle.std.specs.Str.{IsUtf8}
-use Rattle.std.proofs.lemmas.Str.{chars_from_encodes, encodes-append}
-use Rattle.std.proofs.lemmas.List.{append-nil, map-id}
-use Rattle.snippet_lines.specs.Controls.{is_masked}
-use Rattle.snippet_shown.specs.Masked.{mask_of, masked}
+use Rattle.snippet_shown.proofs.Common.{◌≡◌, ℕ, chars, encode_utf8_all, Bool, false, if◌then◌else◌, nat_lt, List, [], ◌∷◌, ◌++◌, map}
+use Rattle.snippet_shown.proofs.Common.{refl, sym, ap, ◌∙◌, arith, list_any, IsUtf8, chars_from_encodes, encodes-append, map-id, is_masked, mask_of}
+use Rattle.snippet_shown.proofs.Common.{masked}
+use Rattle.std.proofs.Common.{encode_utf8}
+use Rattle.std.proofs.lemmas.List.{append-nil}
 
 -- one more character
 pub masked-push : (cs : List ℕ) (c : ℕ) → masked (cs ++ c ∷ []) ≡ masked cs ++ mask_of c ∷ []

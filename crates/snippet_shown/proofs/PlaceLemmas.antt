@@ -1,14 +1,8 @@
 -- What is shown of a character, by its kind; and that no code is torn.
-use Rattle.std.proofs.Common.{◌≡◌, ℕ, ◌==◌, ◌||◌, Bool, true, false, List, [], ◌∷◌, ◌++◌, ◌⊎◌, inl, inr, refl, sym, ap, ◌∙◌, not}
-use Rattle.std.proofs.Common.{if◌then◌else◌}
-use Rattle.std.proofs.lemmas.Bool.{false≢true}
-use Rattle.snippet_text.specs.Width.{char_width}
-use Rattle.snippet_shown.specs.Letters.{Letter, is_blank, is_code, is_feed, letter, letters, place_after}
-use Rattle.snippet_shown.specs.Wrapped.{at_blank, feed, in_word, kept, row_start, rows, shown_by, step}
-use Rattle.snippet_shown.specs.declared.wrap.code.Place.{Place}
-use Rattle.snippet_shown.specs.declared.wrap.code.Place.TheVariants.{Untrusted, Outside, Escape, Bracket, Command, CommandEscape}
-use Rattle.snippet_shown.specs.declared.wrap.row.Row.{Row}
-use Rattle.snippet_shown.specs.declared.wrap.row.Step.{Step}
+use Rattle.snippet_shown.proofs.Common.{◌≡◌, ℕ, ◌==◌, ◌||◌, Bool, true, false, List, [], ◌∷◌, ◌++◌, ◌⊎◌, inl, inr, refl, sym}
+use Rattle.snippet_shown.proofs.Common.{ap, ◌∙◌, not, if◌then◌else◌, false≢true, char_width, Letter, is_blank, is_code, is_feed, letter, letters}
+use Rattle.snippet_shown.proofs.Common.{place_after, at_blank, feed, in_word, kept, row_start, rows, shown_by, step, Place, Untrusted, Outside, Escape, Bracket}
+use Rattle.snippet_shown.proofs.Common.{Command, CommandEscape, Row, Step}
 use Rattle.snippet_shown.proofs.StepLemmas.{spelled}
 
 -- ---- kinds

@@ -1,7 +1,5 @@
 -- Lists that are made one after the other.
-use Rattle.std.proofs.Common.{◌≡◌, ◌∙◌, List, [], ◌∷◌, ◌++◌, map, sym, subst}
-use Rattle.std.specs.List.{AllZip}
-use Rattle.std.proofs.lemmas.List.{map-id}
+use Rattle.snippet_shown.proofs.Common.{◌≡◌, ◌∙◌, List, [], ◌∷◌, ◌++◌, map, sym, subst, AllZip, map-id}
 
 -- one more pair
 both_more : {X : Type 0} (P : X → X → Type 0) (xs ys : List X) (x y : X) → AllZip P xs ys → P x y → AllZip P (xs ++ x ∷ []) (ys ++ y ∷ [])

@@ -1,28 +1,13 @@
 -- The spans around lines: they are spans of the source, and reach from one line to another.
-use Rattle.std.proofs.Common.{◌≡◌, ◌≢◌, ◌∙◌, ℕ, zero, suc, ◌+◌, ◌-◌, ◌<◌, ◌≤◌, ltb, min, List, [], ◌∷◌, ◌++◌, length, take, drop, get_or, inl, inr, arith}
-use Rattle.std.proofs.Common.{All, map, true, refl, sym, ap, ap₂, subst, append-nil, append_assoc}
-use Rattle.std.proofs.lemmas.Bool.{cases_lt, cond-true, cond-false, lt-ltb, le-ltb}
-use Rattle.std.proofs.lemmas.List.{drop-map, drop_all, get_or-drop, get_or-map, get_or-take, length-map}
-use Rattle.std.proofs.lemmas.List.Elements.{All-cons, All-head, All-nil, All-tail}
-use Rattle.std.proofs.lemmas.Str.{IsCharBoundary-before_ascii, IsCharBoundary-end}
-use Rattle.std.specs.Str.{IsCharBoundary, IsUtf8}
-use Rattle.snippet_lines.proofs.BoundsLemmas.{IsCharBoundary-start_of, line_bytes-slice}
-use Rattle.snippet_lines.proofs.LinesLemmas.{AreLinesOf-source_lines, joined-source_lines, last_byte-push, start_of-end, start_of-le, start_of-next}
-use Rattle.snippet_lines.proofs.PlaceLemmas.{HoldsByte-source, line_of-is, line_of-start, start_of-inside}
-use Rattle.snippet_lines.specs.Lines.{Line, Source, last_byte, line_bytes, source_lines, start_of}
-use Rattle.snippet_lines.specs.CutLines.{AreLines, AreLinesOf}
-use Rattle.snippet_lines.specs.declared.lines.EndLine.{EndLine}
-use Rattle.snippet_lines.specs.declared.lines.EndLine.TheVariants.{Eof, Lf, Crlf}
-use Rattle.snippet_lines.specs.Place.{HoldsByte, line_of}
-use Rattle.snippet_lines.specs.Starts.{line_starts}
-use Rattle.snippet_model.specs.declared.snippet.Annotation.{Annotation}
-use Rattle.snippet_parts.proofs.TableLemmas.{length-starts_from, starts_from-at}
-use Rattle.snippet_parts.specs.Annotated.{KeptLine, annotated_lines, kept_line}
-use Rattle.snippet_parts.specs.OnLine.{seen_kept}
-use Rattle.snippet_parts.specs.Kept.{kept_lines}
-use Rattle.snippet_parts.specs.declared.entries.AnnotatedLineInfo.{AnnotatedLineInfo}
-use Rattle.snippet_shown.specs.Context.{close_of, reach_after, span_around, spans_around}
-use Rattle.snippet_shown.specs.WithContext.{HoldsSpan}
+use Rattle.snippet_shown.proofs.Common.{◌≡◌, ◌≢◌, ◌∙◌, ℕ, zero, suc, ◌+◌, ◌-◌, ◌<◌, ◌≤◌, ltb, min, List, [], ◌∷◌}
+use Rattle.snippet_shown.proofs.Common.{◌++◌, length, take, drop, get_or, inl, inr, arith, All, map, true, refl, sym, ap, ap₂, subst, append-nil}
+use Rattle.snippet_shown.proofs.Common.{append_assoc, cases_lt, cond-true, cond-false, lt-ltb, le-ltb, drop-map, drop_all, get_or-drop, get_or-map, get_or-take}
+use Rattle.snippet_shown.proofs.Common.{length-map, All-cons, All-head, All-nil, All-tail, IsCharBoundary-before_ascii, IsCharBoundary-end, IsCharBoundary}
+use Rattle.snippet_shown.proofs.Common.{IsUtf8, IsCharBoundary-start_of, line_bytes-slice, AreLinesOf-source_lines, joined-source_lines, last_byte-push}
+use Rattle.snippet_shown.proofs.Common.{start_of-end, start_of-le, start_of-next, HoldsByte-source, line_of-is, line_of-start, start_of-inside, Line, Source}
+use Rattle.snippet_shown.proofs.Common.{last_byte, line_bytes, source_lines, start_of, AreLines, AreLinesOf, EndLine, Eof, Lf, Crlf, HoldsByte, line_of}
+use Rattle.snippet_shown.proofs.Common.{line_starts, Annotation, length-starts_from, starts_from-at, KeptLine, annotated_lines, kept_line, seen_kept}
+use Rattle.snippet_shown.proofs.Common.{kept_lines, AnnotatedLineInfo, close_of, reach_after, span_around, spans_around, HoldsSpan}
 
 -- ---- where a line closes
 

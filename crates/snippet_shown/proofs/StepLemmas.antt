@@ -1,20 +1,10 @@
 -- What is ahead in a line, and what is shown, found character by character.
-use Rattle.std.proofs.Common.{◌≡◌, ℕ, ◌+◌, ◌-◌, ◌<◌, ◌≤◌, ◌==◌, ◌&&◌, nat_le, Bool, true, false, List, [], ◌∷◌, ◌++◌, Option, None, Some}
-use Rattle.std.proofs.Common.{length, map}
-use Rattle.std.proofs.Common.{refl, sym, ap, ◌∙◌, arith, chars, encode_utf8_all, unwrap_or}
-use Rattle.std.specs.Option.{option_map}
-use Rattle.std.specs.Str.{IsUtf8}
-use Rattle.std.proofs.lemmas.Bool.{eqb-true, false≢true}
-use Rattle.std.proofs.lemmas.Bool.Decides.{nat_tests}
-use Rattle.std.proofs.lemmas.List.{append-nil, append_assoc, nil_from_length}
-use Rattle.std.proofs.lemmas.Str.{chars-nil, chars_from_encodes, encodes-append}
-use Rattle.snippet_text.specs.Width.{char_width}
-use Rattle.snippet_shown.specs.Letters.{Letter, is_before_word, is_feed, letter, letter_width, letters, place_after}
-use Rattle.snippet_shown.specs.Wrapped.{columns_ahead, ends_ahead, inside_after, next_width, rows, shown_at, step}
-use Rattle.snippet_shown.specs.Asked.{lines_fit}
-use Rattle.snippet_shown.specs.declared.wrap.code.Place.{Place}
-use Rattle.snippet_shown.specs.declared.wrap.row.Row.{Row}
-use Rattle.snippet_shown.specs.declared.wrap.row.Step.{Step}
+use Rattle.snippet_shown.proofs.Common.{◌≡◌, ℕ, ◌+◌, ◌-◌, ◌<◌, ◌≤◌, ◌==◌, ◌&&◌, nat_le, Bool, true, false, List, []}
+use Rattle.snippet_shown.proofs.Common.{◌∷◌, ◌++◌, Option, None, Some, length, map, refl, sym, ap, ◌∙◌, arith, chars, encode_utf8_all}
+use Rattle.snippet_shown.proofs.Common.{unwrap_or, option_map, IsUtf8, eqb-true, false≢true, nat_tests, nil_from_length, chars-nil, chars_from_encodes}
+use Rattle.snippet_shown.proofs.Common.{encodes-append, char_width, Letter, is_before_word, is_feed, letter, letter_width, letters, place_after, columns_ahead}
+use Rattle.snippet_shown.proofs.Common.{ends_ahead, inside_after, next_width, rows, shown_at, step, lines_fit, Place, Row, Step}
+use Rattle.std.proofs.lemmas.List.{append-nil, append_assoc}
 
 -- a character that is no line feed
 like_either : (c : ℕ) (feed : Bool) → (c == 10) ≡ feed → (c ≡ 10 → ⊥) → (c == 10) ≡ false

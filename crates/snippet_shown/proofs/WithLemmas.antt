@@ -1,14 +1,7 @@
 -- A snippet with the lines around those that it keeps, where lines are folded and where they aren't.
-use Rattle.std.proofs.Common.{◌≡◌, ◌∙◌, ℕ, ◌++◌, true, false, All, List, [], map, refl, sym, ap, subst, append-nil}
-use Rattle.std.proofs.lemmas.Bool.{cond-false}
-use Rattle.std.proofs.lemmas.List.Elements.{All-nil}
-use Rattle.std.specs.Cow.{cow_str_bytes}
-use Rattle.std.specs.declared.ops.Range.{Range}
-use Rattle.snippet_model.specs.declared.snippet.Annotation.{Annotation}
-use Rattle.snippet_model.specs.declared.snippet.Snippet.{Snippet}
-use Rattle.snippet_parts.specs.Kept.{kept_lines}
-use Rattle.snippet_shown.specs.Context.{context_spans, spans_around, visible_mark}
-use Rattle.snippet_shown.specs.WithContext.{HoldsSpan, IsSnippetWithContext}
+use Rattle.snippet_shown.proofs.Common.{◌≡◌, ◌∙◌, ℕ, ◌++◌, true, false, All, List, [], map, refl, sym, ap, subst, append-nil, cond-false}
+use Rattle.snippet_shown.proofs.Common.{All-nil, cow_str_bytes, Range, Annotation, Snippet, kept_lines, context_spans, spans_around, visible_mark, HoldsSpan}
+use Rattle.snippet_shown.proofs.Common.{IsSnippetWithContext}
 
 -- where lines aren't folded no span is added
 unfolded-spans : (before after : ℕ) (s : Snippet Annotation) → s.fold ≡ false → context_spans before after s ≡ []

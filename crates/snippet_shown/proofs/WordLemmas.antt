@@ -1,16 +1,9 @@
 -- The words of a text that is wrapped.
-use Rattle.std.proofs.Common.{◌≡◌, ℕ, ◌+◌, ◌-◌, ◌<◌, ◌≤◌, nat_le, not, Bool, true, false, List, [], ◌∷◌, ◌++◌, Option, None, Some, filter, length}
-use Rattle.std.proofs.Common.{refl, sym, ap, ap₂, ◌∙◌, subst, arith, is_some, if◌then◌else◌, unwrap_or}
-use Rattle.std.specs.List.{onto_first}
-use Rattle.std.proofs.lemmas.Bool.{false≢true}
-use Rattle.std.proofs.lemmas.Bool.Decides.{nat_tests}
-use Rattle.std.proofs.lemmas.List.Elements.{All-cons, All-head, All-nil, All-tail}
-use Rattle.snippet_text.specs.Width.{char_width}
-use Rattle.snippet_shown.specs.Letters.{Letter, is_blank, is_feed, letter_width}
-use Rattle.snippet_shown.specs.Wrapped.{at_blank, columns_ahead, ended, in_word, inside_after, kept, next_width, row_start, rows, shown_at}
-use Rattle.snippet_shown.specs.WrapLaws.{AreWithin, columns_of, is_empty, parts_from, words_of}
-use Rattle.snippet_shown.specs.declared.wrap.row.Stage.TheVariants.{Indentation, Gap, Word}
-use Rattle.snippet_shown.specs.declared.wrap.row.Step.{Step}
+use Rattle.snippet_shown.proofs.Common.{◌≡◌, ℕ, ◌+◌, ◌-◌, ◌<◌, ◌≤◌, nat_le, not, Bool, true, false, List, [], ◌∷◌, ◌++◌}
+use Rattle.snippet_shown.proofs.Common.{Option, None, Some, filter, length, refl, sym, ap, ap₂, ◌∙◌, subst, arith, is_some, if◌then◌else◌}
+use Rattle.snippet_shown.proofs.Common.{unwrap_or, onto_first, false≢true, nat_tests, All-cons, All-head, All-nil, All-tail, char_width, Letter, is_blank}
+use Rattle.snippet_shown.proofs.Common.{is_feed, letter_width, at_blank, columns_ahead, ended, in_word, inside_after, kept, next_width, row_start, rows}
+use Rattle.snippet_shown.proofs.Common.{shown_at, AreWithin, columns_of, is_empty, parts_from, words_of, Indentation, Gap, Word, Step}
 use Rattle.snippet_shown.proofs.LawLemmas.{before-blank, before-code, before-word, columns-none, columns-same, either-step, next-feed, next-own}
 use Rattle.snippet_shown.proofs.LawLemmas.{next-same, next_columns, next_within, own-width, row_at}
 use Rattle.snippet_shown.proofs.LineLemmas.{AreLinesWithin, lines_all, onto_within, within_onto}

@@ -1,17 +1,9 @@
 -- What is shown in place of a text, and what follows of it.
-use Rattle.std.proofs.Common.{◌≡◌, ◌∙◌, ℕ, ◌+◌, ◌-◌, ◌<◌, ◌≤◌, nat_lt, Bool, true, false, List, [], ◌∷◌, ◌++◌, ◌⊎◌, All, inl, inr, refl, sym, ap, subst}
-use Rattle.std.proofs.Common.{arith, chars}
-use Rattle.std.proofs.Common.{encode_utf8_all, if◌then◌else◌}
-use Rattle.std.specs.List.{Contains}
-use Rattle.std.proofs.lemmas.Bool.Decides.{nat_tests}
-use Rattle.std.proofs.lemmas.List.Elements.{All-cons, All-contains_itself, All-head, All-map, All-nil, All-tail, All-weaker}
-use Rattle.snippet_shown.specs.Letters.{Letter, first_place, letter, letters, letters_of, place_after}
-use Rattle.snippet_shown.specs.Wrapped.{row_start, rows, shown_letters, wrapped}
-use Rattle.snippet_shown.specs.Asked.{lines_fit}
-use Rattle.snippet_shown.specs.WrapLaws.{IsAmong, IsRewrapped}
-use Rattle.snippet_shown.specs.declared.wrap.code.Place.{Place}
-use Rattle.snippet_shown.specs.declared.wrap.row.Row.{Row}
-use Rattle.snippet_shown.specs.declared.wrap.row.Stage.TheVariants.{Indentation}
+use Rattle.snippet_shown.proofs.Common.{◌≡◌, ◌∙◌, ℕ, ◌+◌, ◌-◌, ◌<◌, ◌≤◌, nat_lt, Bool, true, false, List, [], ◌∷◌}
+use Rattle.snippet_shown.proofs.Common.{◌++◌, ◌⊎◌, All, inl, inr, refl, sym, ap, subst, arith, chars, encode_utf8_all, if◌then◌else◌, Contains}
+use Rattle.snippet_shown.proofs.Common.{nat_tests, All-cons, All-contains_itself, All-head, All-map, All-nil, All-tail, All-weaker, Letter, first_place, letter}
+use Rattle.snippet_shown.proofs.Common.{letters, letters_of, place_after, row_start, rows, shown_letters, wrapped, lines_fit, IsAmong, IsRewrapped, Place, Row}
+use Rattle.snippet_shown.proofs.Common.{Indentation}
 use Rattle.snippet_shown.proofs.GreedyLemmas.{rows-end}
 use Rattle.snippet_shown.proofs.LawLemmas.{among_own, next_columns, next_within, rows-all, rows-fit, rows-kept, rows-same}
 use Rattle.snippet_shown.proofs.LineLemmas.{fit-within, rows-lines, within-fit}

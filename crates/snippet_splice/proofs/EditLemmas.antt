@@ -1,13 +1,8 @@
 -- Laws of trimmed edits and of the patched source.
-use Rattle.std.proofs.Common.{◌≡◌, ℕ, ◌+◌, ◌-◌, ◌≤◌, ◌&&◌, ltb, leb, Option, Some, None, List, [], ◌∷◌, ◌++◌, length, map, take, drop, refl, sym, ap, ◌∙◌}
-use Rattle.std.proofs.Common.{arith, append_assoc}
-use Rattle.std.proofs.lemmas.List.{append-nil, length-take-le, length-drop, take-append-drop, take-take, drop-drop, drop-take}
-use Rattle.std.proofs.lemmas.Bool.{cond_both, and_parts, leb-true}
-use Rattle.std.specs.List.{slice_range}
-use Rattle.snippet_splice.specs.Trim.{sandwich}
-use Rattle.snippet_splice.specs.Edits.{Edit, shrunk, trimmed_edit, edited_from}
-use Rattle.snippet_splice.specs.TrimmedEdits.{AreApart}
-use Rattle.snippet_splice.specs.Sandwich.{IsSandwiched}
+use Rattle.snippet_splice.proofs.Common.{◌≡◌, ℕ, ◌+◌, ◌-◌, ◌≤◌, ◌&&◌, ltb, leb, Option, Some, None, List, [], ◌∷◌, ◌++◌}
+use Rattle.snippet_splice.proofs.Common.{length, map, take, drop, refl, sym, ap, ◌∙◌, arith, append_assoc, append-nil, length-take-le, length-drop}
+use Rattle.snippet_splice.proofs.Common.{take-append-drop, take-take, drop-drop, drop-take, cond_both, and_parts, leb-true, slice_range, sandwich, Edit, shrunk}
+use Rattle.snippet_splice.proofs.Common.{trimmed_edit, edited_from, AreApart, IsSandwiched}
 use Rattle.snippet_splice.proofs.TrimLemmas.{sandwich-sandwiched}
 
 -- ---- parts of a list

@@ -1,18 +1,9 @@
 -- The definitions, computed on small inputs. In these `a` is 97, LF is 10 and CR is 13.
-use Rattle.std.proofs.Common.{◌≡◌, ◌≤◌, ℕ, true, false, Some, None, List, [], ◌∷◌, Vec, length, refl, arith}
-use Rattle.snippet_splice.specs.Trim.{kept_before, sandwich}
-use Rattle.snippet_splice.specs.Edits.{Edit, trimmed_edit, trimmed_edits, patched}
-use Rattle.snippet_splice.specs.Overlap.{overlap, first_overlap}
-use Rattle.snippet_splice.specs.ShownText.{shown_text}
-use Rattle.snippet_splice.specs.Spliced.{last_line_reached}
-use Rattle.snippet_splice.specs.EditStretches.{new_stretches}
-use Rattle.snippet_splice.specs.StretchLines.{num_replaced_lines, num_shown_lines}
-use Rattle.snippet_splice.specs.Patched.{spliced_text, line_ranges}
-use Rattle.snippet_splice.specs.declared.stretches.SubstitutionHighlight.{SubstitutionHighlight}
+use Rattle.snippet_splice.proofs.Common.{◌≡◌, ◌≤◌, ℕ, true, false, Some, None, List, [], ◌∷◌, Vec, length, refl, arith, kept_before}
+use Rattle.snippet_splice.proofs.Common.{sandwich, Edit, trimmed_edit, trimmed_edits, patched, overlap, first_overlap, shown_text, last_line_reached}
+use Rattle.snippet_splice.proofs.Common.{new_stretches, num_replaced_lines, num_shown_lines, spliced_text, line_ranges, SubstitutionHighlight, Global, start_of}
+use Rattle.snippet_splice.proofs.Common.{line_of}
 use Rattle.std.specs.Str.{chars}
-use Rattle.std.specs.declared.alloc.Global.{Global}
-use Rattle.snippet_lines.specs.Lines.{start_of}
-use Rattle.snippet_lines.specs.Place.{line_of}
 
 -- `AABBCC` in place of `AACC` puts `BB` after two bytes and before two
 a_text_put_in : sandwich (65 ∷ 65 ∷ 67 ∷ 67 ∷ []) (65 ∷ 65 ∷ 66 ∷ 66 ∷ 67 ∷ 67 ∷ []) ≡ Some (2, 66 ∷ 66 ∷ [], 2)

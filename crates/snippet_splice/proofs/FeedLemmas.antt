@@ -1,23 +1,12 @@
 -- How many LF, and so how many lines, the text that is shown has at most.
-use Rattle.std.proofs.Common.{◌≡◌, ℕ, zero, suc, ◌+◌, ◌-◌, ◌<◌, ◌≤◌, Bool, true, false, cond, ◌&&◌, eqb, ltb, min, List, [], ◌∷◌, ◌++◌, length, map, take, drop}
-use Rattle.std.proofs.Common.{get_or, refl, sym, ap, ◌∙◌, arith}
-use Rattle.std.proofs.lemmas.Bool.{and_parts, cond_both, eqb-true, ltb-true}
-use Rattle.std.proofs.lemmas.List.{take-append-drop}
-use Rattle.std.proofs.lemmas.List.Sums.{sum_by-cons, sum_by_more}
-use Rattle.std.proofs.Math.Seq.{take-add}
-use Rattle.std.specs.List.{slice_range, sum_by}
-use Rattle.snippet_lines.specs.Lines.{lines_of, source_lines, start_of, text_at, last_byte, is_lf, newline_count}
-use Rattle.snippet_lines.specs.OrderedBy.{put_in}
-use Rattle.snippet_lines.specs.Place.{line_of}
-use Rattle.snippet_lines.proofs.BoundsLemmas.{IsLine-at}
-use Rattle.snippet_lines.proofs.LinesLemmas.{length-lines_of, length-source_lines, start_of-zero}
-use Rattle.snippet_lines.proofs.PlaceLemmas.{line_of-within, start_of-inside}
-use Rattle.snippet_splice.specs.Copied.{copied, end_from, in_text, written_from}
+use Rattle.snippet_splice.proofs.Common.{◌≡◌, ℕ, zero, suc, ◌+◌, ◌-◌, ◌<◌, ◌≤◌, Bool, true, false, cond, ◌&&◌, eqb, ltb, min}
+use Rattle.snippet_splice.proofs.Common.{List, [], ◌∷◌, ◌++◌, length, map, take, drop, get_or, refl, sym, ap, ◌∙◌, arith, and_parts, cond_both}
+use Rattle.snippet_splice.proofs.Common.{eqb-true, ltb-true, take-append-drop, sum_by-cons, sum_by_more, take-add, slice_range, sum_by, lines_of, source_lines}
+use Rattle.snippet_splice.proofs.Common.{start_of, text_at, last_byte, is_lf, newline_count, put_in, line_of, IsLine-at, length-lines_of, length-source_lines}
+use Rattle.snippet_splice.proofs.Common.{start_of-zero, line_of-within, start_of-inside, copied, end_from, in_text, written_from, Edit, in_order, precedes}
+use Rattle.snippet_splice.proofs.Common.{trimmed_edit, trimmed_edits, closes_line, first_start, shown_rest, shown_start, shown_text, without_final_line_feeds}
+use Rattle.snippet_splice.proofs.Common.{shown_line, AreApart}
 use Rattle.snippet_splice.proofs.LineEnds.{is_inside_line_end}
-use Rattle.snippet_splice.specs.Edits.{Edit, in_order, precedes, trimmed_edit, trimmed_edits}
-use Rattle.snippet_splice.specs.ShownText.{closes_line, first_start, shown_rest, shown_start, shown_text, without_final_line_feeds}
-use Rattle.snippet_splice.specs.Patched.{shown_line}
-use Rattle.snippet_splice.specs.TrimmedEdits.{AreApart}
 use Rattle.snippet_splice.proofs.EditLemmas.{IsShrunk, trimmed_edit-shrunk}
 use Rattle.snippet_splice.proofs.LineLemmas.{Shortens, Shortens-final}
 use Rattle.snippet_splice.proofs.RangeLemmas.{feeds, feeds-append, feeds-none, feeds-shown}

@@ -1,3 +1,4 @@
+pub mod Common
 pub mod EditLemmas
 pub mod Examples
 pub mod FeedLemmas

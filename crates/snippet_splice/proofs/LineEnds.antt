@@ -1,5 +1,5 @@
 -- Which bytes stand in a line end.
-use Rattle.std.proofs.Common.{ℕ, ◌-◌, ◌==◌, ◌&&◌, nat_lt, Bool, List, length, slice_index}
+use Rattle.snippet_splice.proofs.Common.{ℕ, ◌-◌, ◌==◌, ◌&&◌, nat_lt, Bool, List, length, slice_index}
 
 -- whether a byte stands between the CR and the LF of a line end
 abbrev pub is_inside_line_end : List ℕ → ℕ → Bool

@@ -1,22 +1,13 @@
 -- The lines of the text that is shown are lines of the patched source, one after the other.
-use Rattle.std.proofs.Common.{◌≡◌, ◌≢◌, ℕ, zero, suc, ◌+◌, ◌-◌, ◌<◌, ◌⊎◌, inl, inr, Bool, true, false, cond, eqb, List, [], ◌∷◌, ◌++◌, All, length, take, drop}
-use Rattle.std.proofs.Common.{get_or, refl, sym, ap, subst, ◌∙◌, ⊎_elim, arith, append_assoc}
-use Rattle.std.proofs.lemmas.List.{append-nil, length-append, length-map, length-take-le, take_at, drop_at, map-append, get_or-take, get_or-drop}
-use Rattle.std.proofs.lemmas.List.Elements.{All-nil, All-cons, All-same, All-head, All-tail, All-take, All-drop, All-append}
-use Rattle.std.proofs.lemmas.Bool.{cases_Bool, cond-true, cond-false, eqb-true, eqb-false, ne_eqb}
-use Rattle.std.specs.List.{slice_range}
-use Rattle.snippet_lines.specs.declared.lines.EndLine.{EndLine}
-use Rattle.snippet_lines.specs.declared.lines.EndLine.TheVariants.{Eof, Lf, Crlf}
-use Rattle.snippet_lines.specs.Lines.{Line, line_bytes, end_bytes, joined, lines_of, with_first_byte, source_lines, start_of, last_byte, is_lf}
-use Rattle.snippet_lines.specs.CutLines.{AreLines}
-use Rattle.snippet_lines.specs.Place.{line_of}
-use Rattle.snippet_lines.proofs.LinesLemmas.{AreLinesOf-source_lines, lines_of-append, lines_of-joined, last_byte-cons}
-use Rattle.snippet_lines.proofs.PlaceLemmas.{line_of-within}
-use Rattle.snippet_splice.specs.Edits.{Edit, precedes, in_order, edited_from, patched}
-use Rattle.snippet_splice.specs.ShownText.{first_start, shown_start, unless_lone_line_feed, without_final_line_feeds}
-use Rattle.snippet_splice.specs.Spliced.{HasNoCr}
-use Rattle.snippet_splice.specs.Patched.{shown_line, texts_of, AreFrom}
-use Rattle.snippet_lines.proofs.OrderLemmas.{All-put_in}
+use Rattle.snippet_splice.proofs.Common.{◌≡◌, ◌≢◌, ℕ, zero, suc, ◌+◌, ◌-◌, ◌<◌, ◌⊎◌, inl, inr, Bool, true, false, cond, eqb}
+use Rattle.snippet_splice.proofs.Common.{List, [], ◌∷◌, ◌++◌, All, length, take, drop, get_or, refl, sym, ap, subst, ◌∙◌, ⊎_elim, arith}
+use Rattle.snippet_splice.proofs.Common.{append_assoc, append-nil, length-append, length-map, length-take-le, take_at, drop_at, map-append, get_or-take}
+use Rattle.snippet_splice.proofs.Common.{get_or-drop, All-nil, All-cons, All-same, All-head, All-tail, All-take, All-drop, All-append, cases_Bool, cond-true}
+use Rattle.snippet_splice.proofs.Common.{cond-false, eqb-true, eqb-false, ne_eqb, slice_range, EndLine, Eof, Lf, Crlf, Line, line_bytes, end_bytes, joined}
+use Rattle.snippet_splice.proofs.Common.{lines_of, with_first_byte, source_lines, start_of, last_byte, is_lf, AreLines, line_of, AreLinesOf-source_lines}
+use Rattle.snippet_splice.proofs.Common.{lines_of-append, lines_of-joined, last_byte-cons, line_of-within, Edit, precedes, in_order, edited_from, patched}
+use Rattle.snippet_splice.proofs.Common.{first_start, shown_start, unless_lone_line_feed, without_final_line_feeds, HasNoCr, shown_line, texts_of, AreFrom}
+use Rattle.snippet_splice.proofs.Common.{All-put_in}
 use Rattle.snippet_splice.proofs.RangeLemmas.{front-lines}
 use Rattle.snippet_splice.proofs.SpliceLemmas.{Stops, IsShownPart, line_with_byte-other, last_byte-append}
 

@@ -1,8 +1,6 @@
 -- The order of pairs of numbers: by the first and then by the second.
-use Rattle.std.proofs.Common.{◌≡◌, ℕ, Bool, true, false, ◌&&◌, ◌||◌, eqb, ltb, arith}
-use Rattle.std.proofs.lemmas.Bool.Decides.{nat_tests}
-use Rattle.std.specs.Cmp.{IsStrictWeakOrder}
-use Rattle.std.specs.Ordering.{is_lt, nat_cmp, ordering_then}
+use Rattle.snippet_splice.proofs.Common.{◌≡◌, ℕ, Bool, true, false, ◌&&◌, ◌||◌, eqb, ltb, arith, nat_tests, IsStrictWeakOrder, is_lt, nat_cmp}
+use Rattle.snippet_splice.proofs.Common.{ordering_then}
 
 -- whether a pair of numbers comes before another: by the first, and then by the second
 abbrev pub pair_lt : ℕ → ℕ → ℕ → ℕ → Bool

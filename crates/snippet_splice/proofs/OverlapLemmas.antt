@@ -1,19 +1,10 @@
 -- Laws of edits that overlap.
-use Rattle.std.proofs.Common.{◌≡◌, ℕ, zero, suc, ◌+◌, ◌-◌, ◌<◌, ◌≤◌, true, false, cond, ◌&&◌, ◌||◌, eqb, ltb, Bool, Option, Some, None, List, [], ◌∷◌, length}
-use Rattle.std.proofs.Common.{map, get_or, All, IfSome, IfNone, sym, ap, subst, ◌∙◌, ⊎_elim, arith, refl}
-use Rattle.std.specs.List.{position_from}
-use Rattle.std.specs.Option.{option_map, option_or}
-use Rattle.std.proofs.lemmas.List.{get_or-map, length-map}
-use Rattle.std.proofs.lemmas.List.Elements.{All-from_get_or, All-cons, All-head, All-tail, All-map}
-use Rattle.std.proofs.lemmas.Bool.{cases_Bool, cond-true, cond-false, ltb-false, false_from_ne_true}
-use Rattle.std.proofs.lemmas.Bool.Decides.{nat_tests}
-use Rattle.snippet_model.specs.declared.snippet.Patch.{Patch}
-use Rattle.snippet_lines.specs.IsSpan.{IsSpan}
-use Rattle.snippet_splice.specs.Edits.{Edit, edit_of, precedes, in_order}
-use Rattle.snippet_lines.specs.OrderedBy.{put_in}
-use Rattle.snippet_splice.specs.Overlap.{overlap, first_overlap_from, first_overlap}
-use Rattle.snippet_splice.specs.FirstOverlap.{overlap_at, no_edit, AreDisjoint, AreOverlapping, IsFirstOverlap}
-use Rattle.snippet_splice.specs.TrimmedEdits.{AreApart}
+use Rattle.snippet_splice.proofs.Common.{◌≡◌, ℕ, zero, suc, ◌+◌, ◌-◌, ◌<◌, ◌≤◌, true, false, cond, ◌&&◌, ◌||◌, eqb, ltb, Bool}
+use Rattle.snippet_splice.proofs.Common.{Option, Some, None, List, [], ◌∷◌, length, map, get_or, All, IfSome, IfNone, sym, ap, subst, ◌∙◌, ⊎_elim}
+use Rattle.snippet_splice.proofs.Common.{arith, refl, position_from, option_map, option_or, get_or-map, length-map, All-from_get_or, All-cons, All-head}
+use Rattle.snippet_splice.proofs.Common.{All-tail, All-map, cases_Bool, cond-true, cond-false, ltb-false, false_from_ne_true, nat_tests, Patch, IsSpan, Edit}
+use Rattle.snippet_splice.proofs.Common.{edit_of, precedes, in_order, put_in, overlap, first_overlap_from, first_overlap, overlap_at, no_edit, AreDisjoint}
+use Rattle.snippet_splice.proofs.Common.{AreOverlapping, IsFirstOverlap, AreApart}
 
 -- the edit at a place is that of the patch there
 pub get_or-edit_of : (ps : List Patch) (k : ℕ) (p : Patch) → k < length ps → p ≡ get_or ps k p → get_or (map edit_of ps) k no_edit ≡ edit_of p

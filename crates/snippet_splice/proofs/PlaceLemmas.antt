@@ -1,22 +1,13 @@
 -- Where edits stand in their lines of the source, one after the other.
-use Rattle.std.proofs.Common.{nat_lt, if◌then◌else◌, true, false, subst}
-use Rattle.std.proofs.Common.{◌≡◌, ◌∙◌, ℕ, ◌+◌, ◌-◌, ◌≤◌, inl, inr, Bool, List, [], ◌∷◌, ◌++◌, length, map, take, drop, refl, sym, ap, arith, append_assoc}
-use Rattle.std.specs.List.{slice_range}
-use Rattle.std.specs.Str.{IsUtf8, chars}
-use Rattle.std.proofs.lemmas.Bool.{cases_lt}
-use Rattle.std.proofs.lemmas.List.{length-drop, length-take, map-append}
-use Rattle.std.proofs.lemmas.Str.{IsUtf8-append, IsUtf8-nil}
-use Rattle.snippet_splice.specs.declared.stretches.PatchExtent.{PatchExtent}
-use Rattle.snippet_splice.specs.Copied.{in_text}
-use Rattle.snippet_splice.specs.Edits.{Edit, in_order, trimmed_edits}
-use Rattle.snippet_splice.specs.ShownText.{first_start, shown_start}
-use Rattle.snippet_splice.specs.EditStretches.{Extent, after_last_lf, characters_before, extents_from, new_stretches, replaced_on}
-use Rattle.snippet_splice.specs.StretchLines.{extent_of}
-use Rattle.snippet_splice.specs.EditStretches.{replaced_stretches, start_character, stretches_on}
+use Rattle.snippet_splice.proofs.Common.{nat_lt, if◌then◌else◌, true, false, subst, ◌≡◌, ◌∙◌, ℕ, ◌+◌, ◌-◌, ◌≤◌, inl, inr}
+use Rattle.snippet_splice.proofs.Common.{Bool, List, [], ◌∷◌, ◌++◌, length, map, take, drop, refl, sym, ap, arith, append_assoc, slice_range, IsUtf8}
+use Rattle.snippet_splice.proofs.Common.{cases_lt, length-drop, length-take, map-append, IsUtf8-append, IsUtf8-nil, PatchExtent, in_text, Edit, in_order}
+use Rattle.snippet_splice.proofs.Common.{trimmed_edits, first_start, shown_start, Extent, after_last_lf, characters_before, extents_from, new_stretches}
+use Rattle.snippet_splice.proofs.Common.{replaced_on, extent_of, replaced_stretches, start_character, stretches_on, IsUsize}
+use Rattle.std.specs.Str.{chars}
 use Rattle.snippet_splice.proofs.EditLemmas.{slice_split}
 use Rattle.snippet_splice.proofs.StretchLemmas.{after_few}
 use Rattle.snippet_splice.proofs.WriteLemmas.{in_text-mono}
-use Rattle.snippet_style.specs.Bounds.{IsUsize}
 
 -- a source from one byte of its text to another
 abbrev pub between : List ℕ → ℕ → ℕ → List ℕ

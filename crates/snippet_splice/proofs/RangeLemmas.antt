@@ -1,25 +1,11 @@
 -- On which lines of the patched source the texts of edits stand.
-use Rattle.std.proofs.Common.{◌≡◌, ◌≢◌, ℕ, zero, suc, ◌+◌, ◌-◌, ◌<◌, Bool, true, false, cond, List, [], ◌∷◌, ◌++◌, All, length, map, take, drop, count_by, refl}
-use Rattle.std.proofs.Common.{sym, ap, ◌∙◌, ⊎_elim, arith, append_assoc}
-use Rattle.std.proofs.lemmas.List.{length-append, take_at, take-append-drop}
-use Rattle.std.proofs.lemmas.List.Sums.{sum_by-append, sum_by-cons}
-use Rattle.std.proofs.lemmas.List.Concat.{flat_map-append}
-use Rattle.std.proofs.lemmas.List.Elements.{All-head, All-tail}
-use Rattle.std.proofs.lemmas.Bool.{cond-false, ne_eqb}
-use Rattle.std.specs.List.{slice_range}
-use Rattle.snippet_lines.specs.declared.lines.EndLine.{EndLine}
-use Rattle.snippet_lines.specs.declared.lines.EndLine.TheVariants.{Eof, Lf, Crlf}
-use Rattle.snippet_lines.specs.Lines.{Line, line_bytes, end_bytes, joined, source_lines, start_of, is_lf}
-use Rattle.snippet_lines.specs.CutLines.{IsLine, AreLines}
-use Rattle.snippet_lines.specs.Place.{line_of}
-use Rattle.snippet_lines.proofs.LinesLemmas.{AreLinesOf-source_lines, joined-source_lines}
-use Rattle.snippet_lines.proofs.PlaceLemmas.{line_of-within}
-use Rattle.snippet_splice.specs.Edits.{Edit, in_order, trimmed_edits, edited_from, patched}
-use Rattle.snippet_splice.specs.Copied.{copied, written_ranges}
-use Rattle.snippet_splice.specs.ShownText.{first_start, shown_start}
-use Rattle.snippet_splice.specs.Spliced.{stands_from, stands, HasNoCr, IsBeforeFinalLf}
-use Rattle.snippet_splice.specs.Patched.{shown_line, lines_of_stand, line_ranges, ranges_from}
-use Rattle.snippet_splice.specs.TrimmedEdits.{AreApart}
+use Rattle.snippet_splice.proofs.Common.{◌≡◌, ◌≢◌, ℕ, zero, suc, ◌+◌, ◌-◌, ◌<◌, Bool, true, false, cond, List, [], ◌∷◌}
+use Rattle.snippet_splice.proofs.Common.{◌++◌, All, length, map, take, drop, count_by, refl, sym, ap, ◌∙◌, ⊎_elim, arith, append_assoc}
+use Rattle.snippet_splice.proofs.Common.{length-append, take_at, take-append-drop, sum_by-append, sum_by-cons, flat_map-append, All-head, All-tail, cond-false}
+use Rattle.snippet_splice.proofs.Common.{ne_eqb, slice_range, EndLine, Eof, Lf, Crlf, Line, line_bytes, end_bytes, joined, source_lines, start_of, is_lf}
+use Rattle.snippet_splice.proofs.Common.{IsLine, AreLines, line_of, AreLinesOf-source_lines, joined-source_lines, line_of-within, Edit, in_order, trimmed_edits}
+use Rattle.snippet_splice.proofs.Common.{edited_from, patched, copied, written_ranges, first_start, shown_start, stands_from, stands, HasNoCr, IsBeforeFinalLf}
+use Rattle.snippet_splice.proofs.Common.{shown_line, lines_of_stand, line_ranges, ranges_from, AreApart}
 use Rattle.snippet_splice.proofs.EditLemmas.{edited_from-earlier, edited_from-trimmed}
 use Rattle.snippet_splice.proofs.ShownLemmas.{shown-apart}
 use Rattle.snippet_splice.proofs.SpliceLemmas.{AreBeforeFinalLf, copied-same, stands_from-earlier, front-size}

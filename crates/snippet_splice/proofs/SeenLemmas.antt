@@ -1,16 +1,9 @@
 -- Trimmed patches, as they are made and put in order.
-use Rattle.std.proofs.Common.{◌≡◌, ℕ, ◌+◌, ◌<◌, Bool, List, [], ◌∷◌, ◌++◌, length, map, take, get_or, All, refl, sym, ap, ◌∙◌}
-use Rattle.std.proofs.lemmas.List.{map_more, map_push}
-use Rattle.std.proofs.lemmas.List.Elements.{All-push}
-use Rattle.std.specs.List.Sorted.{IsSortedBy, IsStableBy}
-use Rattle.snippet_model.specs.declared.snippet.Patch.{Patch}
-use Rattle.snippet_lines.specs.IsSpan.{IsSpan}
-use Rattle.snippet_splice.specs.declared.patches.TrimmedPatch.{TrimmedPatch}
-use Rattle.snippet_splice.specs.Edits.{Edit, edit_of, trimmed_edit, trimmed_edits, in_order}
-use Rattle.snippet_splice.specs.TrimmedEdits.{trimmed_edit_of, edit_bounds, original_bounds_of}
-use Rattle.snippet_lines.specs.OrderedBy.{ordered_by}
+use Rattle.snippet_splice.proofs.Common.{◌≡◌, ℕ, ◌+◌, ◌<◌, Bool, List, [], ◌∷◌, ◌++◌, length, map, take, get_or, All, refl, sym, ap}
+use Rattle.snippet_splice.proofs.Common.{◌∙◌, map_more, map_push, All-push, IsSortedBy, IsStableBy, Patch, IsSpan, TrimmedPatch, Edit, edit_of}
+use Rattle.snippet_splice.proofs.Common.{trimmed_edit, trimmed_edits, in_order, trimmed_edit_of, edit_bounds, original_bounds_of, ordered_by, sorted-only}
+use Rattle.snippet_splice.proofs.Common.{map-ordered_by}
 use Rattle.snippet_splice.proofs.OrderLemmas.{pair_lt, pair-order}
-use Rattle.snippet_lines.proofs.OrderLemmas.{sorted-only, map-ordered_by}
 
 -- a trimmed patch as it is seen: its edit, and where the untrimmed one started and ended
 abbrev pub Seen : Type 0

@@ -1,21 +1,9 @@
 -- Laws of the text that is shown, as it is written.
-use Rattle.std.proofs.Common.{◌≡◌, ◌≢◌, ℕ, ◌≤◌, Bool, min, Some, None, List, [], ◌∷◌, ◌++◌, length, map, drop, refl, sym, ap, ◌∙◌, arith}
-use Rattle.std.proofs.lemmas.Bool.{cond_both}
-use Rattle.std.proofs.lemmas.List.{drop_min}
-use Rattle.std.proofs.lemmas.Str.{IsCharBoundary-start}
-use Rattle.std.specs.List.{slice_get}
-use Rattle.std.specs.Str.{IsUtf8, IsCharBoundary}
-use Rattle.snippet_model.specs.declared.snippet.Patch.{Patch}
-use Rattle.snippet_lines.specs.Lines.{source_lines, start_of}
-use Rattle.snippet_lines.specs.Place.{line_of}
-use Rattle.snippet_lines.proofs.PlaceLemmas.{HoldsByte-source}
-use Rattle.snippet_lines.proofs.BoundsLemmas.{IsCharBoundary-start_of}
-use Rattle.snippet_splice.specs.declared.patches.TrimmedPatch.{TrimmedPatch}
-use Rattle.snippet_splice.specs.Edits.{Edit, edit_of, trimmed_edit, trimmed_edits, in_order, precedes}
-use Rattle.snippet_splice.specs.TrimmedEdits.{trimmed_edit_of, edit_bounds, original_bounds_of, AreApart}
-use Rattle.snippet_lines.specs.OrderedBy.{put_in}
-use Rattle.snippet_splice.specs.ShownText.{first_start, closes_line, shown_start, shown_rest, without_final_line_feeds, shown_text}
-use Rattle.snippet_splice.specs.Copied.{written_from, end_from}
+use Rattle.snippet_splice.proofs.Common.{◌≡◌, ◌≢◌, ℕ, ◌≤◌, Bool, min, Some, None, List, [], ◌∷◌, ◌++◌, length, map, drop, refl}
+use Rattle.snippet_splice.proofs.Common.{sym, ap, ◌∙◌, arith, cond_both, drop_min, IsCharBoundary-start, slice_get, IsUtf8, IsCharBoundary, Patch}
+use Rattle.snippet_splice.proofs.Common.{source_lines, start_of, line_of, HoldsByte-source, IsCharBoundary-start_of, TrimmedPatch, Edit, edit_of, trimmed_edit}
+use Rattle.snippet_splice.proofs.Common.{trimmed_edits, in_order, precedes, trimmed_edit_of, edit_bounds, original_bounds_of, AreApart, put_in, first_start}
+use Rattle.snippet_splice.proofs.Common.{closes_line, shown_start, shown_rest, without_final_line_feeds, shown_text, written_from, end_from}
 use Rattle.snippet_splice.proofs.EditLemmas.{AreApart-earlier, trimmed-apart}
 
 put_in-some : {X : Type 0} (lt : X → X → Bool) (x : X) (ys : List X) → put_in lt x ys ≢ []

@@ -1,13 +1,8 @@
 -- The line feeds of the text that is shown, before those that end it are taken away.
-use Rattle.std.proofs.Common.{◌≡◌, ℕ, ◌+◌, Bool, List, [], ◌∷◌, ◌++◌, drop, map, max, min, length, refl, sym, ap, ◌∙◌, arith}
-use Rattle.std.proofs.lemmas.List.{drop_min}
-use Rattle.std.specs.List.{slice_range}
-use Rattle.snippet_splice.specs.Copied.{copied, end_from, in_text, written_from}
-use Rattle.snippet_splice.specs.Edits.{Edit, in_order, trimmed_edits}
-use Rattle.snippet_splice.specs.ShownText.{closes_line, first_start, shown_rest, shown_start}
-use Rattle.snippet_splice.specs.EditStretches.{Extent, capped, extents_from}
-use Rattle.snippet_splice.specs.StretchLines.{feeds_made, lines_over, num_replaced_lines, num_shown_lines, source_lines_shown}
-use Rattle.snippet_splice.specs.TrimmedEdits.{edit_bounds}
+use Rattle.snippet_splice.proofs.Common.{◌≡◌, ℕ, ◌+◌, Bool, List, [], ◌∷◌, ◌++◌, drop, map, max, min, length, refl, sym, ap, ◌∙◌}
+use Rattle.snippet_splice.proofs.Common.{arith, drop_min, slice_range, copied, end_from, in_text, written_from, Edit, in_order, trimmed_edits, closes_line}
+use Rattle.snippet_splice.proofs.Common.{first_start, shown_rest, shown_start, Extent, capped, extents_from, feeds_made, lines_over, num_replaced_lines}
+use Rattle.snippet_splice.proofs.Common.{num_shown_lines, source_lines_shown, edit_bounds}
 use Rattle.snippet_splice.proofs.RangeLemmas.{feeds, feeds-append}
 use Rattle.snippet_splice.proofs.WriteLemmas.{count-with_line_feeds}
 

@@ -1,24 +1,15 @@
 -- Where no CR is copied and no edit stands after a final LF, the text that is shown is the spliced text.
-use Rattle.std.proofs.Common.{◌≡◌, ◌≢◌, ℕ, suc, ◌+◌, ◌-◌, ◌<◌, ◌≤◌, ◌⊎◌, inl, inr, Bool, true, false, not, ◌&&◌, eqb, ltb, min, List, [], ◌∷◌, ◌++◌, All}
-use Rattle.std.proofs.Common.{length, take, drop, get_or, refl, sym, ap, subst, ◌∙◌, ⊎_elim, arith, append_assoc}
-use Rattle.std.proofs.lemmas.List.{append-nil, length-append, length-take, length-take-le, length-drop, drop_at, take_all, take_min, drop_min, get_or_past}
-use Rattle.std.proofs.lemmas.List.{take-append-drop}
-use Rattle.std.proofs.Math.Seq.{take-append-add}
-use Rattle.std.proofs.lemmas.List.Elements.{All-take, All-drop, All-head, All-tail}
-use Rattle.std.proofs.lemmas.Bool.{cases_Bool, cases_lt, cond-true, cond-false, cond_both, and_right, ne_eqb, eqb-true}
-use Rattle.std.specs.List.{slice_range, before_first, position_or_len}
-use Rattle.snippet_lines.specs.declared.lines.EndLine.{EndLine}
-use Rattle.snippet_lines.specs.declared.lines.EndLine.TheVariants.{Eof, Lf, Crlf}
-use Rattle.snippet_lines.specs.Lines.{Line, lines_of, line_with_byte, with_first_byte, source_lines, start_of, text_at, last_byte, is_lf}
-use Rattle.snippet_lines.specs.Place.{line_of}
-use Rattle.snippet_lines.proofs.PlaceLemmas.{line_of-within, text_at-end}
-use Rattle.snippet_splice.specs.Edits.{Edit, in_order, trimmed_edits, edited_from, patched}
-use Rattle.snippet_splice.specs.Copied.{in_text, with_line_feeds, copied, written_from, end_from}
+use Rattle.snippet_splice.proofs.Common.{◌≡◌, ◌≢◌, ℕ, suc, ◌+◌, ◌-◌, ◌<◌, ◌≤◌, ◌⊎◌, inl, inr, Bool, true, false, not}
+use Rattle.snippet_splice.proofs.Common.{◌&&◌, eqb, ltb, min, List, [], ◌∷◌, ◌++◌, All, length, take, drop, get_or, refl, sym, ap, subst}
+use Rattle.snippet_splice.proofs.Common.{◌∙◌, ⊎_elim, arith, append_assoc, append-nil, length-append, length-take, length-take-le, length-drop, drop_at}
+use Rattle.snippet_splice.proofs.Common.{take_all, take_min, drop_min, get_or_past, take-append-drop, take-append-add, All-take, All-drop, All-head, All-tail}
+use Rattle.snippet_splice.proofs.Common.{cases_Bool, cases_lt, cond-true, cond-false, cond_both, and_right, ne_eqb, eqb-true, slice_range, before_first}
+use Rattle.snippet_splice.proofs.Common.{position_or_len, EndLine, Eof, Lf, Crlf, Line, lines_of, line_with_byte, with_first_byte, source_lines, start_of}
+use Rattle.snippet_splice.proofs.Common.{text_at, last_byte, is_lf, line_of, line_of-within, text_at-end, Edit, in_order, trimmed_edits, edited_from, patched}
+use Rattle.snippet_splice.proofs.Common.{in_text, with_line_feeds, copied, written_from, end_from, first_start, closes_line, shown_start}
+use Rattle.snippet_splice.proofs.Common.{without_final_line_feeds, shown_text, stands_from, stands, HasNoCr, IsBeforeFinalLf, last_end, spliced_end}
+use Rattle.snippet_splice.proofs.Common.{spliced_text, AreApart}
 use Rattle.snippet_splice.proofs.LineEnds.{is_inside_line_end}
-use Rattle.snippet_splice.specs.ShownText.{first_start, closes_line, shown_start, without_final_line_feeds, shown_text}
-use Rattle.snippet_splice.specs.Spliced.{stands_from, stands, HasNoCr, IsBeforeFinalLf}
-use Rattle.snippet_splice.specs.Patched.{last_end, spliced_end, spliced_text}
-use Rattle.snippet_splice.specs.TrimmedEdits.{AreApart}
 use Rattle.snippet_splice.proofs.EditLemmas.{slice_split, edited_from-earlier, edited_from-trimmed}
 use Rattle.snippet_splice.proofs.WriteLemmas.{text_end, with_line_feeds-none, last_text, closes-last}
 use Rattle.snippet_splice.proofs.ShownLemmas.{shown-apart}

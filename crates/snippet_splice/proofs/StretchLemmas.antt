@@ -1,24 +1,12 @@
 -- Tables of stretches, the pieces of a text, and what stands in a line before a byte.
-use Rattle.std.proofs.Common.{◌≡◌, ◌≢◌, ◌∙◌, ◌⊎◌, inl, inr, ℕ, zero, suc, ◌+◌, ◌-◌, ◌<◌, ◌==◌, cond, eqb, List, [], ◌∷◌, ◌++◌, Vec, count_by, drop, length, map}
-use Rattle.std.proofs.Common.{take}
-use Rattle.std.proofs.Common.{◌≤◌, set, get_or, chars, lit<, refl, sym, ap, arith, if◌then◌else◌, subst}
-use Rattle.std.specs.List.{onto_first, slice_split}
-use Rattle.std.specs.Str.{IsUtf8}
-use Rattle.std.specs.declared.alloc.Global.{Global}
-use Rattle.std.proofs.lemmas.Bool.{eq-eqb, eqb-true, cond-true, cond-false, false_from_ne_true, cases_Bool, cases_eq}
-use Rattle.std.proofs.lemmas.Bool.Decides.{nat_tests}
-use Rattle.std.proofs.lemmas.List.{append-nil, get_or_default, get_or-drop, get_or-map, get_or-set_other, get_or-set_same, length-append, length-drop}
-use Rattle.std.proofs.lemmas.List.{length-map, map-set, places}
-use Rattle.std.proofs.lemmas.List.{same_lists}
-use Rattle.std.proofs.lemmas.List.Splits.{slice_split_at, slice_split_none}
-use Rattle.std.proofs.lemmas.List.Sums.{sum_by-cons}
-use Rattle.std.proofs.lemmas.Str.{chars-append}
-use Rattle.snippet_lines.specs.Lines.{is_lf, last_byte}
-use Rattle.snippet_lines.proofs.CursorLemmas.{last_byte-not}
-use Rattle.snippet_style.proofs.CellLemmas.{length-chars_le}
-use Rattle.snippet_splice.specs.declared.stretches.SubstitutionHighlight.{SubstitutionHighlight}
-use Rattle.snippet_splice.specs.EditStretches.{after_last_lf, capped, taken_on, without_cr}
-use Rattle.snippet_splice.specs.StretchLines.{line_stretches}
+use Rattle.snippet_splice.proofs.Common.{◌≡◌, ◌≢◌, ◌∙◌, ◌⊎◌, inl, inr, ℕ, zero, suc, ◌+◌, ◌-◌, ◌<◌, ◌==◌, cond, eqb}
+use Rattle.snippet_splice.proofs.Common.{List, [], ◌∷◌, ◌++◌, Vec, count_by, drop, length, map, take, ◌≤◌, set, get_or, lit<, refl, sym, ap}
+use Rattle.snippet_splice.proofs.Common.{arith, if◌then◌else◌, subst, onto_first, slice_split, IsUtf8, Global, eq-eqb, eqb-true, cond-true, cond-false}
+use Rattle.snippet_splice.proofs.Common.{false_from_ne_true, cases_Bool, cases_eq, nat_tests, append-nil, get_or_default, get_or-drop, get_or-map}
+use Rattle.snippet_splice.proofs.Common.{get_or-set_other, get_or-set_same, length-append, length-drop, length-map, map-set, places, same_lists, slice_split_at}
+use Rattle.snippet_splice.proofs.Common.{slice_split_none, sum_by-cons, chars-append, is_lf, last_byte, last_byte-not, length-chars_le, SubstitutionHighlight}
+use Rattle.snippet_splice.proofs.Common.{after_last_lf, capped, taken_on, without_cr, line_stretches}
+use Rattle.std.proofs.Common.{chars}
 use Rattle.snippet_splice.proofs.RangeLemmas.{feeds-append}
 use Rattle.snippet_splice.proofs.WriteLemmas.{utf8-after}
 

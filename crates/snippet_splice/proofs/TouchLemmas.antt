@@ -1,27 +1,15 @@
 -- Each touched line that isn't empty is among the lines that are shown.
-use Rattle.std.proofs.Common.{◌≡◌, ◌≢◌, ℕ, ◌+◌, ◌-◌, ◌<◌, ◌≤◌, ◌⊎◌, inl, inr, Bool, cond, List, [], ◌∷◌, ◌++◌, All, Contains, length, take, drop, get_or, refl}
-use Rattle.std.proofs.Common.{sym, ap, subst, ◌∙◌, ⊎_elim, arith, append_assoc}
-use Rattle.std.proofs.lemmas.List.{append-nil, length-append, length-drop, take_at, take_all, take-take, take-append-le, take-append-drop, get_or-take}
-use Rattle.std.proofs.lemmas.List.{get_or-drop, get_or-append_right, get_or_append_left, nil_from_length, length-map, get_or-map}
-use Rattle.std.proofs.Math.Seq.{take-add}
-use Rattle.std.proofs.lemmas.List.Sums.{sum_by-take-le}
-use Rattle.std.proofs.lemmas.List.Elements.{All-nil, All-cons, All-take, All-push, All-same, All-weaker, All-contains}
-use Rattle.std.proofs.lemmas.Bool.{cases_lt}
-use Rattle.std.specs.List.{slice_range}
-use Rattle.snippet_lines.specs.declared.lines.EndLine.TheVariants.{Eof}
-use Rattle.snippet_lines.specs.Lines.{Line, line_bytes, lines_of, source_lines, start_of, text_at, last_byte, is_lf}
-use Rattle.snippet_lines.specs.CutLines.{IsLineWithEnd}
-use Rattle.snippet_lines.proofs.LinesLemmas.{text_at-stands, start_of-next, start_of-end, joined-source_lines, split_last, newline_count-open}
-use Rattle.snippet_lines.proofs.LinesLemmas.{length-source_lines, source_lines-some, last_byte-push}
-use Rattle.snippet_lines.proofs.PlaceLemmas.{text_at-end}
-use Rattle.snippet_lines.proofs.BoundsLemmas.{line_bytes-slice, IsLine-at, IsOneLine-line}
-use Rattle.snippet_splice.specs.Edits.{Edit, in_order, trimmed_edits, patched}
-use Rattle.snippet_splice.specs.Copied.{written_from}
-use Rattle.snippet_splice.specs.ShownText.{first_start, shown_start, without_final_line_feeds}
-use Rattle.snippet_splice.specs.declared.splice.LineRange.{LineRange}
-use Rattle.snippet_splice.specs.Spliced.{Stand, stands_from, stands, IsInLine, IsTouchedBy, IsTouched, HasNoCr}
-use Rattle.snippet_splice.specs.Patched.{shown_line, last_end, lines_of_stand, line_ranges}
-use Rattle.snippet_splice.specs.TrimmedEdits.{AreApart}
+use Rattle.snippet_splice.proofs.Common.{◌≡◌, ◌≢◌, ℕ, ◌+◌, ◌-◌, ◌<◌, ◌≤◌, ◌⊎◌, inl, inr, Bool, cond, List, [], ◌∷◌}
+use Rattle.snippet_splice.proofs.Common.{◌++◌, All, Contains, length, take, drop, get_or, refl, sym, ap, subst, ◌∙◌, ⊎_elim, arith, append_assoc}
+use Rattle.snippet_splice.proofs.Common.{append-nil, length-append, length-drop, take_at, take_all, take-take, take-append-le, take-append-drop, get_or-take}
+use Rattle.snippet_splice.proofs.Common.{get_or-drop, get_or-append_right, get_or_append_left, nil_from_length, length-map, get_or-map, take-add}
+use Rattle.snippet_splice.proofs.Common.{sum_by-take-le, All-nil, All-cons, All-take, All-push, All-same, All-weaker, All-contains, cases_lt, slice_range, Eof}
+use Rattle.snippet_splice.proofs.Common.{Line, line_bytes, lines_of, source_lines, start_of, text_at, last_byte, is_lf, IsLineWithEnd, text_at-stands}
+use Rattle.snippet_splice.proofs.Common.{start_of-next, start_of-end, joined-source_lines, split_last, newline_count-open, length-source_lines}
+use Rattle.snippet_splice.proofs.Common.{source_lines-some, last_byte-push, text_at-end, line_bytes-slice, IsLine-at, IsOneLine-line, Edit, in_order}
+use Rattle.snippet_splice.proofs.Common.{trimmed_edits, patched, written_from, first_start, shown_start, without_final_line_feeds, LineRange, Stand}
+use Rattle.snippet_splice.proofs.Common.{stands_from, stands, IsInLine, IsTouchedBy, IsTouched, HasNoCr, shown_line, last_end, lines_of_stand, line_ranges}
+use Rattle.snippet_splice.proofs.Common.{AreApart}
 use Rattle.snippet_splice.proofs.ShownLemmas.{shown-apart}
 use Rattle.snippet_splice.proofs.RangeLemmas.{feeds, feeds-append, feeds-none, feeds-front, feeds-shown}
 use Rattle.snippet_splice.proofs.SpliceLemmas.{AreBeforeFinalLf, Stops, IsShownPart, last_end-stands, front-size, stands_from-earlier}

@@ -1,20 +1,11 @@
 -- Laws of what a replacement keeps.
-use Rattle.std.proofs.Common.{◌≡◌, ◌≢◌, ℕ, zero, suc, ◌+◌, ◌-◌, ◌<◌, ◌≤◌, Bool, true, false, cond, ◌||◌, ltb, leb, Option, Some, None, List, [], ◌∷◌, ◌++◌}
-use Rattle.std.proofs.Common.{length, take}
-use Rattle.std.proofs.Common.{drop, get_or, refl, sym, ap, subst, ◌∙◌, ⊎_elim, arith, append_assoc, le_refl}
-use Rattle.std.proofs.lemmas.List.{append-nil, length-append, length-take-le, length-drop, take_at, drop_at, take_all, drop_all, take-append-drop, drop-drop}
-use Rattle.std.proofs.lemmas.List.{drop-append-le, get_or_past}
-use Rattle.std.proofs.lemmas.Bool.{cases_Bool, cases_eq, cases_lt, ltb-true, lt-ltb, or_cases, or_left, or_right, cond-true, cond-false, and_parts, and_from}
-use Rattle.std.proofs.lemmas.Bool.{false_from_ne_true, le-leb, leb-true, both_ways}
-use Rattle.std.proofs.lemmas.Slice.Eq.{bytes_eq-Decides}
-use Rattle.std.proofs.lemmas.Str.{IsCharBoundary-end, IsCharBoundary-start}
-use Rattle.std.specs.Bool.{Decides}
-use Rattle.std.specs.List.{slice_range}
-use Rattle.std.specs.Option.{option_map}
-use Rattle.std.specs.Str.{IsUtf8, IsCharBoundary}
-use Rattle.snippet_lines.specs.Span.{is_character_border}
-use Rattle.snippet_splice.specs.Trim.{is_sandwiched, greatest_passing, kept_before, sandwich}
-use Rattle.snippet_splice.specs.Sandwich.{IsSandwiched, IsSandwich}
+use Rattle.snippet_splice.proofs.Common.{◌≡◌, ◌≢◌, ℕ, zero, suc, ◌+◌, ◌-◌, ◌<◌, ◌≤◌, Bool, true, false, cond, ◌||◌, ltb}
+use Rattle.snippet_splice.proofs.Common.{leb, Option, Some, None, List, [], ◌∷◌, ◌++◌, length, take, drop, get_or, refl, sym, ap, subst, ◌∙◌}
+use Rattle.snippet_splice.proofs.Common.{⊎_elim, arith, append_assoc, le_refl, append-nil, length-append, length-take-le, length-drop, take_at, drop_at}
+use Rattle.snippet_splice.proofs.Common.{take_all, drop_all, take-append-drop, drop-drop, drop-append-le, get_or_past, cases_Bool, cases_eq, cases_lt, ltb-true}
+use Rattle.snippet_splice.proofs.Common.{lt-ltb, or_cases, or_left, or_right, cond-true, cond-false, and_parts, and_from, false_from_ne_true, le-leb, leb-true}
+use Rattle.snippet_splice.proofs.Common.{both_ways, bytes_eq-Decides, IsCharBoundary-end, IsCharBoundary-start, Decides, slice_range, option_map, IsUtf8}
+use Rattle.snippet_splice.proofs.Common.{IsCharBoundary, is_character_border, is_sandwiched, greatest_passing, kept_before, sandwich, IsSandwiched, IsSandwich}
 
 -- ---- what a sandwich says of the replacement
 

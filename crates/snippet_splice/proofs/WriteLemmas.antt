@@ -1,20 +1,12 @@
 -- Laws of what is written for edits, and of the end of the text that is shown.
-use Rattle.std.proofs.Common.{◌≡◌, ◌≢◌, ℕ, suc, ◌+◌, ◌-◌, ◌<◌, ◌≤◌, Bool, false, cond, ◌&&◌, eqb, min, List, [], ◌∷◌, ◌++◌, length, map, take, drop, get_or}
-use Rattle.std.proofs.Common.{count_by, refl, sym, ap, subst, ◌∙◌, ⊎_elim, arith, append_assoc, zero-add, ◌==◌, if◌then◌else◌}
-use Rattle.std.proofs.lemmas.List.{length-append, take_at, take-take, drop_at, get_or_at, length_push}
-use Rattle.std.proofs.lemmas.Str.{IsUtf8-take, IsUtf8-drop, IsCharBoundary-before_ascii, IsCharBoundary-after_ascii}
-use Rattle.std.specs.Str.{IsUtf8}
-use Rattle.std.proofs.lemmas.List.Sums.{sum_by-append, sum_by-cons}
-use Rattle.std.proofs.lemmas.Bool.{cases_Bool, cases_eq, cond-true, cond-false, and_parts, and_left, eqb-true, ne_eqb, cond_both}
-use Rattle.snippet_lines.specs.Lines.{is_lf, last_byte}
-use Rattle.snippet_lines.specs.IsSpan.{IsSpanBorder}
-use Rattle.snippet_splice.specs.declared.splice.LineRange.{LineRange}
-use Rattle.snippet_splice.specs.declared.patches.TrimmedPatch.{TrimmedPatch}
-use Rattle.snippet_splice.specs.Edits.{Edit}
-use Rattle.snippet_splice.specs.TrimmedEdits.{trimmed_edit_of, AreApart}
-use Rattle.snippet_splice.specs.Copied.{in_text, with_line_feeds, copied, written_from, written_ranges, end_from}
+use Rattle.snippet_splice.proofs.Common.{◌≡◌, ◌≢◌, ℕ, suc, ◌+◌, ◌-◌, ◌<◌, ◌≤◌, Bool, false, cond, ◌&&◌, eqb, min, List, []}
+use Rattle.snippet_splice.proofs.Common.{◌∷◌, ◌++◌, length, map, take, drop, get_or, count_by, refl, sym, ap, subst, ◌∙◌, ⊎_elim, arith}
+use Rattle.snippet_splice.proofs.Common.{append_assoc, zero-add, ◌==◌, if◌then◌else◌, length-append, take_at, take-take, drop_at, get_or_at}
+use Rattle.snippet_splice.proofs.Common.{length_push, IsUtf8-take, IsUtf8-drop, IsCharBoundary-before_ascii, IsCharBoundary-after_ascii, IsUtf8, sum_by-append}
+use Rattle.snippet_splice.proofs.Common.{sum_by-cons, cases_Bool, cases_eq, cond-true, cond-false, and_parts, and_left, eqb-true, ne_eqb, cond_both, is_lf}
+use Rattle.snippet_splice.proofs.Common.{last_byte, IsSpanBorder, LineRange, TrimmedPatch, Edit, trimmed_edit_of, AreApart, in_text, with_line_feeds, copied}
+use Rattle.snippet_splice.proofs.Common.{written_from, written_ranges, end_from, unless_lone_line_feed, without_final_line_feeds, closes_line}
 use Rattle.snippet_splice.proofs.LineEnds.{is_inside_line_end}
-use Rattle.snippet_splice.specs.ShownText.{unless_lone_line_feed, without_final_line_feeds, closes_line}
 
 -- ---- an LF in place of each CR LF
 

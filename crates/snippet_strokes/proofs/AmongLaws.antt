@@ -1,9 +1,7 @@
 -- Lists and what stands among their elements.
-use Rattle.std.proofs.Common.{◌≡◌, Option, Some, None, List, [], ◌∷◌, inl, inr, refl, ap, ◌∙◌, arith}
-use Rattle.std.specs.List.{All, Contains, cons_option, filter_map}
-use Rattle.std.proofs.lemmas.List.Elements.{All-cons, All-nil}
-use Rattle.snippet_parts.proofs.AmongLemmas.{Among}
-use Rattle.snippet_parts.proofs.ShownFacts.{contains-cases, contains-here, contains-there}
+use Rattle.snippet_strokes.proofs.Common.{◌≡◌, Option, Some, None, List, [], ◌∷◌, inl, inr, refl, ap, ◌∙◌, arith, cons_option, filter_map}
+use Rattle.snippet_strokes.proofs.Common.{All-cons, All-nil, Among, contains-cases, contains-here, contains-there}
+use Rattle.std.specs.List.{All, Contains}
 
 -- what a list contains is among its elements
 pub contains_among : {X : Type 0} (xs : List X) (x : X) → Contains xs x → Among xs x

@@ -1,13 +1,7 @@
 -- The corners of the bar of a span of several lines, and where it stands in the rows of the line on which the span begins, by which laws
 -- are proved.
-use Rattle.std.proofs.Common.{◌≡◌, ◌⊎◌, ℕ, ◌<◌, List, length}
-use Rattle.snippet_style.specs.Cell.{Cell, SPACE, unlinked_cell}
-use Rattle.snippet_style.specs.Glyphs.{strokes_of, underline_role}
-use Rattle.snippet_grid.specs.Grid.{cell_at}
-use Rattle.snippet_grid.specs.Layout.{Layout, bar_cell}
-use Rattle.snippet_strokes.specs.Bars.{Bar}
-use Rattle.snippet_strokes.specs.DrawnBars.{bar_cell_part}
-use Rattle.snippet_strokes.specs.declared.bars.BarStroke.TheVariants.{Solid, Top}
+use Rattle.snippet_strokes.proofs.Common.{◌≡◌, ◌⊎◌, ℕ, ◌<◌, List, length, Cell, SPACE, unlinked_cell, strokes_of, underline_role, cell_at}
+use Rattle.snippet_strokes.proofs.Common.{Layout, bar_cell, Bar, bar_cell_part, Solid, Top}
 
 -- the corner at which a bar begins, left of the line that leads to the span's first mark: in ASCII a space
 abbrev pub start_corner : Layout → Bar → Cell

@@ -1,18 +1,8 @@
 -- Laws of the bars beside the rows of a line.
-use Rattle.std.proofs.Common.{◌≡◌, ◌≢◌, ℕ, zero, suc, ◌+◌, ◌<◌, Bool, List, [], ◌∷◌, length, get_or, sym, ap, ◌∙◌, arith, inl, inr, Contains}
-use Rattle.std.proofs.lemmas.Bool.{cases_eq, cases_lt}
-use Rattle.std.proofs.lemmas.List.{get_or-map, length-map}
-use Rattle.std.proofs.lemmas.List.Elements.{All-head, All-tail}
-use Rattle.snippet_grid.specs.Grid.{cell_at, row_at}
-use Rattle.snippet_style.specs.Cell.{Cell, SPACE}
-use Rattle.snippet_style.proofs.CellLemmas.{slice_index_or-written_after, slice_index_or-written_before, slice_index_or-written_inside}
-use Rattle.snippet_parts.specs.declared.entries.LineAnnotation.{LineAnnotation}
-use Rattle.snippet_strokes.specs.declared.bars.BarStroke.{BarStroke}
-use Rattle.snippet_strokes.specs.declared.bars.BarStroke.TheVariants.{Solid}
-use Rattle.snippet_strokes.specs.declared.bars.OpenBar.{OpenBar}
-use Rattle.snippet_grid.specs.Layout.{Layout}
-use Rattle.snippet_strokes.specs.Bars.{bars_apart, ends_of_bars}
-use Rattle.snippet_strokes.specs.DrawnBars.{HasOwnDepth, bar_cell_part}
+use Rattle.snippet_strokes.proofs.Common.{◌≡◌, ◌≢◌, ℕ, zero, suc, ◌+◌, ◌<◌, Bool, List, [], ◌∷◌, length, get_or, sym, ap, ◌∙◌}
+use Rattle.snippet_strokes.proofs.Common.{arith, inl, inr, Contains, cases_eq, cases_lt, get_or-map, length-map, All-head, All-tail, cell_at, row_at, Cell}
+use Rattle.snippet_strokes.proofs.Common.{SPACE, slice_index_or-written_after, slice_index_or-written_before, slice_index_or-written_inside, LineAnnotation}
+use Rattle.snippet_strokes.proofs.Common.{BarStroke, Solid, OpenBar, Layout, bars_apart, ends_of_bars, HasOwnDepth, bar_cell_part}
 use Rattle.snippet_strokes.proofs.BarParts.{with_parts}
 use Rattle.snippet_strokes.proofs.OneStep.{with_bar}
 use Rattle.snippet_strokes.proofs.LineFacts.{AreLineRows}

@@ -1,35 +1,17 @@
 -- What drawing bars keeps.
-use Rattle.std.proofs.Common.{◌≡◌, ℕ, ◌+◌, ◌-◌, ◌<◌, ◌≤◌, ◌==◌, ◌&&◌, max, true, false, Bool, None, List, [], ◌∷◌, length, map, take, drop, get_or, refl, sym}
-use Rattle.std.proofs.Common.{ap, ◌∙◌, subst, arith, inl, inr, All}
-use Rattle.std.specs.List.{list_any, slice_index_or}
-use Rattle.std.proofs.lemmas.Bool.{cases_lt}
-use Rattle.std.proofs.lemmas.List.{get_or-map, length-map, get_or_default, get_or_past, get_or-drop, get_or-take, length-drop}
-use Rattle.std.proofs.lemmas.List.{length-take, length-take-le, ext_get_or, drop-drop}
-use Rattle.std.proofs.lemmas.List.Elements.{All-cons, All-from_get_or, All-get_or, All-head, All-nil, All-tail}
-use Rattle.snippet_parts.specs.declared.entries.LineAnnotation.{LineAnnotation}
-use Rattle.snippet_window.specs.Window.{AreReplaced}
-use Rattle.snippet_style.specs.declared.glyphs.DecorStyle.{DecorStyle}
-use Rattle.snippet_style.specs.declared.glyphs.DecorStyle.TheVariants.{Ascii, Unicode}
-use Rattle.snippet_style.specs.Glyphs.{bar_glyphs, placeholder_of}
-use Rattle.snippet_grid.specs.Grid.{row_at, cell_at, cells_written}
-use Rattle.snippet_grid.proofs.GridLemmas.{WritesCells-cells_written, row_at-cells_written_same}
-use Rattle.snippet_style.specs.Cell.{Cell, SPACE}
-use Rattle.snippet_grid.specs.Print.{row_text}
-use Rattle.snippet_text.specs.Normalized.{is_listed}
-use Rattle.snippet_grid.specs.Layout.{Layout}
-use Rattle.snippet_strokes.specs.declared.bars.BarStroke.{BarStroke}
-use Rattle.snippet_strokes.specs.declared.bars.BarStroke.TheVariants.{Top, Solid, Dotted}
-use Rattle.snippet_strokes.specs.EntryMarks.{IsBarCell, IsMarkCell, is_mark_role}
+use Rattle.snippet_strokes.proofs.Common.{◌≡◌, ℕ, ◌+◌, ◌-◌, ◌<◌, ◌≤◌, ◌==◌, ◌&&◌, max, true, false, Bool, None, List, []}
+use Rattle.snippet_strokes.proofs.Common.{◌∷◌, length, map, take, drop, get_or, refl, sym, ap, ◌∙◌, subst, arith, inl, inr, All, list_any}
+use Rattle.snippet_strokes.proofs.Common.{slice_index_or, cases_lt, get_or-map, length-map, get_or_default, get_or_past, get_or-drop, get_or-take, length-drop}
+use Rattle.snippet_strokes.proofs.Common.{length-take, length-take-le, ext_get_or, drop-drop, All-cons, All-from_get_or, All-get_or, All-head, All-nil}
+use Rattle.snippet_strokes.proofs.Common.{All-tail, LineAnnotation, AreReplaced, DecorStyle, Ascii, Unicode, bar_glyphs, placeholder_of, row_at, cell_at}
+use Rattle.snippet_strokes.proofs.Common.{cells_written, WritesCells-cells_written, row_at-cells_written_same, Cell, SPACE, row_text, is_listed, Layout}
+use Rattle.snippet_strokes.proofs.Common.{BarStroke, Top, Solid, Dotted, IsBarCell, IsMarkCell, is_mark_role, IsFreeCell, bars_among, HasBarRoom, StandsBeside}
+use Rattle.snippet_strokes.proofs.Common.{bar_glyph, bar_cell_part, WritesCells, OpenBar}
 use Rattle.snippet_strokes.proofs.PlainEntries.{are_plain, wide_entries}
-use Rattle.snippet_model.specs.FreeRows.{IsFreeCell}
-use Rattle.snippet_style.proofs.StrokeLemmas.{bars_among}
 use Rattle.snippet_strokes.proofs.StrokeGlyphs.{free_bars}
-use Rattle.snippet_strokes.specs.DrawnBars.{HasBarRoom, StandsBeside, bar_glyph, bar_cell_part}
-use Rattle.snippet_grid.specs.Calls.{WritesCells}
 use Rattle.snippet_strokes.proofs.BarParts.{with_parts}
 use Rattle.snippet_strokes.proofs.OneStep.{with_bar}
 use Rattle.snippet_strokes.proofs.DrawnCells.{BarsDrawn}
-use Rattle.snippet_strokes.specs.declared.bars.OpenBar.{OpenBar}
 use Rattle.snippet_strokes.proofs.LabelPlaces.{LabelsStand-kept}
 use Rattle.snippet_strokes.proofs.SeenRows.{AreSeen, AreStrokes, IsBeside, IsStrokeRow, ShowsMarks}
 use Rattle.snippet_strokes.proofs.DrawLemmas.{written_cell}

@@ -1,19 +1,12 @@
 -- Rows with bars: what drawing them one side after another makes.
-use Rattle.std.proofs.Common.{◌≡◌, ℕ, zero, suc, ◌+◌, ◌-◌, ◌<◌, ◌≤◌, List, [], ◌∷◌, ◌++◌, length, map, take, drop, replicate, get_or, refl, sym, ap, ◌∙◌, subst}
-use Rattle.std.proofs.Common.{arith, inl, inr}
-use Rattle.std.proofs.lemmas.Bool.{cases_lt, cases_eq}
-use Rattle.std.proofs.lemmas.List.{drop_all, ext_get_or, get_or_append_left, get_or-append_right, get_or-drop, get_or-map, get_or-replicate, get_or-take}
-use Rattle.std.proofs.lemmas.List.{length-append, length-drop, length-map, length-replicate, length-take-le, take_all, take_more}
-use Rattle.std.proofs.lemmas.List.Sums.{fold-append}
-use Rattle.snippet_grid.specs.Grid.{cells_written, row_at}
-use Rattle.snippet_grid.proofs.GridLemmas.{row_at-cells_written_other, row_at-cells_written_same, WritesCells-cells_written}
-use Rattle.snippet_style.specs.Cell.{Cell, SPACE, unlinked_cell, written}
-use Rattle.snippet_style.specs.Glyphs.{underline_role}
-use Rattle.snippet_style.proofs.CellLemmas.{length-written, slice_index_or-written_after, slice_index_or-written_before, slice_index_or-written_inside}
-use Rattle.snippet_grid.specs.Layout.{Layout}
-use Rattle.snippet_strokes.specs.declared.bars.BarStroke.{BarStroke}
-use Rattle.snippet_strokes.specs.declared.bars.OpenBar.{OpenBar}
-use Rattle.snippet_strokes.specs.DrawnBars.{StandsBeside, bar_glyph, bar_cell_part, barred, changed_from}
+use Rattle.snippet_strokes.proofs.Common.{◌≡◌, ℕ, zero, suc, ◌+◌, ◌-◌, ◌<◌, ◌≤◌, List, [], ◌∷◌, ◌++◌, length, map, take}
+use Rattle.snippet_strokes.proofs.Common.{drop, replicate, get_or, refl, sym, ap, ◌∙◌, subst, arith, inl, inr, cases_lt, cases_eq, drop_all, ext_get_or}
+use Rattle.snippet_strokes.proofs.Common.{get_or_append_left, get_or-append_right, get_or-drop, get_or-map, get_or-replicate, get_or-take, length-append}
+use Rattle.snippet_strokes.proofs.Common.{length-drop, length-map, length-replicate, length-take-le, take_all, take_more, fold-append, cells_written, row_at}
+use Rattle.snippet_strokes.proofs.Common.{row_at-cells_written_other, row_at-cells_written_same, WritesCells-cells_written, Cell, SPACE, unlinked_cell, written}
+use Rattle.snippet_strokes.proofs.Common.{underline_role, length-written, slice_index_or-written_after, slice_index_or-written_before}
+use Rattle.snippet_strokes.proofs.Common.{slice_index_or-written_inside, Layout, BarStroke, OpenBar, StandsBeside, bar_glyph, bar_cell_part, barred}
+use Rattle.snippet_strokes.proofs.Common.{changed_from}
 use Rattle.snippet_strokes.proofs.BarParts.{with_parts}
 use Rattle.snippet_strokes.proofs.OneStep.{with_bar}
 

@@ -1,34 +1,15 @@
 -- The writes of the lines that lead to bars, and of bars with their corners.
-use Rattle.std.proofs.Common.{◌≡◌, ℕ, ◌+◌, ◌-◌, ◌<◌, ◌≤◌, nat_lt, cond, true, false, List, [], ◌∷◌, length, get_or, replicate, refl, sym, ap, ◌∙◌, subst, arith}
-use Rattle.std.proofs.Common.{All}
-use Rattle.std.specs.List.{range_with_len}
-use Rattle.std.proofs.lemmas.List.Elements.{All-append, All-cons, All-head, All-map, All-nil, All-replicate, All-tail}
-use Rattle.std.proofs.lemmas.List.FromFn.{get_or-range_with_len, length-range_with_len}
-use Rattle.snippet_grid.proofs.GridLemmas.{WritesCells-cells_written}
-use Rattle.snippet_model.specs.AnnotationKind.{is_primary}
-use Rattle.snippet_style.specs.Cell.{Cell, text_cells, unlinked_cell}
-use Rattle.snippet_style.specs.Glyphs.{strokes_of}
-use Rattle.snippet_style.specs.declared.glyphs.DecorStyle.{DecorStyle}
-use Rattle.snippet_style.specs.declared.role.ElementStyle.{ElementStyle}
-use Rattle.snippet_text.specs.Normalized.{is_listed}
-use Rattle.snippet_parts.specs.Entries.{is_single_part}
-use Rattle.snippet_parts.specs.declared.entries.LineAnnotationType.{LineAnnotationType}
-use Rattle.snippet_parts.specs.declared.entries.LineAnnotationType.TheVariants.{Singleline, MultilineStart, MultilineEnd, MultilineLine}
-use Rattle.snippet_grid.specs.Layout.{Layout}
-use Rattle.snippet_labels.specs.declared.positions.PlacedEntry.{PlacedEntry}
-use Rattle.snippet_strokes.specs.EntryMarks.{IsBarCell}
+use Rattle.snippet_strokes.proofs.Common.{◌≡◌, ℕ, ◌+◌, ◌-◌, ◌<◌, ◌≤◌, nat_lt, cond, true, false, List, [], ◌∷◌, length, get_or}
+use Rattle.snippet_strokes.proofs.Common.{replicate, refl, sym, ap, ◌∙◌, subst, arith, All, range_with_len, All-append, All-cons, All-head, All-map}
+use Rattle.snippet_strokes.proofs.Common.{All-nil, All-replicate, All-tail, get_or-range_with_len, length-range_with_len, WritesCells-cells_written, is_primary}
+use Rattle.snippet_strokes.proofs.Common.{Cell, text_cells, unlinked_cell, strokes_of, DecorStyle, ElementStyle, is_listed, is_single_part, LineAnnotationType}
+use Rattle.snippet_strokes.proofs.Common.{Singleline, MultilineStart, MultilineEnd, MultilineLine, Layout, PlacedEntry, IsBarCell, HasRows, connector_of}
+use Rattle.snippet_strokes.proofs.Common.{corner_of, connectors_of, corners_of, HasBarCell, HasBarCellAt, WritesCells, column_of, stroke_role, Write, glyph_at}
+use Rattle.snippet_strokes.proofs.Common.{painted, stretch_of}
 use Rattle.snippet_strokes.proofs.PlainEntries.{is_single}
-use Rattle.snippet_strokes.specs.Places.{HasRows}
 use Rattle.snippet_strokes.proofs.DrawnCells.{DrawsBarCells, DrawsFrom, KeepsBarCells}
-use Rattle.snippet_strokes.specs.Strokes.{connector_of, corner_of}
-use Rattle.snippet_strokes.specs.PaintedStrokes.{connectors_of, corners_of}
-use Rattle.snippet_strokes.specs.Drawable.{HasBarCell, HasBarCellAt}
-use Rattle.snippet_grid.specs.Calls.{WritesCells}
 use Rattle.snippet_strokes.proofs.StrokeWords.{bar_writes, connector_by, corner_by, line_to}
-use Rattle.snippet_strokes.specs.Strokes.{column_of}
-use Rattle.snippet_strokes.specs.Painting.{stroke_role}
 use Rattle.snippet_strokes.proofs.Reach.{IsWithin}
-use Rattle.snippet_strokes.specs.Writes.{Write, glyph_at, painted, stretch_of}
 use Rattle.snippet_strokes.proofs.OneStep.{written_by}
 use Rattle.snippet_strokes.proofs.DrawLemmas.{DrawsBarCells-more, DrawsBarCells-none, DrawsBarCells-writes, free_bar, bar_bottom, bar_horizontal, bar_top}
 use Rattle.snippet_strokes.proofs.DrawLemmas.{bar_vertical}

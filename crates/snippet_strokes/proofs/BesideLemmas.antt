@@ -1,29 +1,13 @@
 -- Bars that are drawn into a source row before its code.
-use Rattle.std.proofs.Common.{◌≡◌, ◌≢◌, ℕ, ◌+◌, ◌-◌, ◌<◌, ◌≤◌, ◌==◌, true, false, List, [], ◌∷◌, ◌++◌, length, get_or, refl, sym, ap, ◌∙◌, arith}
-use Rattle.std.proofs.Common.{inl, inr, All, chars, not}
-use Rattle.std.proofs.lemmas.Bool.{cases_eq, cases_lt, false≢true, not-true}
-use Rattle.std.proofs.lemmas.Bool.Decides.{nat_tests}
-use Rattle.std.proofs.lemmas.List.Folds.{list_any_at}
-use Rattle.std.proofs.lemmas.List.{ext_get_or}
-use Rattle.std.proofs.lemmas.List.Elements.{All-head, All-tail, filter_passes}
-use Rattle.snippet_parts.specs.declared.entries.LineAnnotation.{LineAnnotation}
-use Rattle.snippet_style.specs.declared.role.ElementStyle.TheVariants.{LineNumber}
-use Rattle.snippet_style.specs.Cell.{Cell, SPACE, text_cells}
-use Rattle.snippet_style.specs.Glyphs.{separator_of}
-use Rattle.snippet_style.proofs.CellLemmas.{length-text_cells, length-written, slice_index_or-written_after, slice_index_or-written_before}
-use Rattle.snippet_style.proofs.CellLemmas.{slice_index_or-written_inside}
-use Rattle.snippet_grid.specs.Grid.{cells_written}
-use Rattle.snippet_grid.specs.Layout.{Layout, bar_cell}
-use Rattle.snippet_grid.proofs.RowLemmas.{separator_row-begun}
-use Rattle.snippet_strokes.specs.declared.bars.BarStroke.{BarStroke}
-use Rattle.snippet_strokes.specs.declared.bars.BarStroke.TheVariants.{Top, Solid}
-use Rattle.snippet_strokes.specs.declared.bars.OpenBar.{OpenBar}
-use Rattle.snippet_strokes.specs.Bars.{bars_apart}
-use Rattle.snippet_strokes.specs.DrawnBars.{HasBarRoom, bar_cell_part, barred, has_depth}
+use Rattle.snippet_strokes.proofs.Common.{◌≡◌, ◌≢◌, ℕ, ◌+◌, ◌-◌, ◌<◌, ◌≤◌, ◌==◌, true, false, List, [], ◌∷◌, ◌++◌}
+use Rattle.snippet_strokes.proofs.Common.{length, get_or, refl, sym, ap, ◌∙◌, arith, inl, inr, All, not, cases_eq, cases_lt, false≢true, not-true}
+use Rattle.snippet_strokes.proofs.Common.{nat_tests, list_any_at, ext_get_or, All-head, All-tail, filter_passes, LineAnnotation, LineNumber, Cell, SPACE}
+use Rattle.snippet_strokes.proofs.Common.{text_cells, separator_of, length-text_cells, length-written, slice_index_or-written_after}
+use Rattle.snippet_strokes.proofs.Common.{slice_index_or-written_before, slice_index_or-written_inside, cells_written, Layout, bar_cell, separator_row-begun}
+use Rattle.snippet_strokes.proofs.Common.{BarStroke, Top, Solid, OpenBar, bars_apart, HasBarRoom, bar_cell_part, barred, has_depth, with_cells, highlighted_row}
+use Rattle.std.proofs.Common.{chars}
 use Rattle.snippet_strokes.proofs.OneStep.{with_bar}
 use Rattle.snippet_strokes.proofs.BarParts.{with_parts}
-use Rattle.snippet_strokes.specs.SourceRows.{with_cells}
-use Rattle.snippet_strokes.specs.StrokeRows.{highlighted_row}
 use Rattle.snippet_strokes.proofs.StrokeWords.{role_in_source}
 use Rattle.snippet_strokes.proofs.BarLemmas.{BarsDrawn-with_parts}
 use Rattle.snippet_strokes.proofs.BarRows.{barred-below}

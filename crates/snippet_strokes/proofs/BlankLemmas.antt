@@ -1,19 +1,9 @@
 -- The whitespace that a line begins with as it is shown, and the entries that it leaves beside the line.
-use Rattle.std.proofs.Common.{◌≡◌, ℕ, ◌+◌, ◌-◌, ◌<◌, ◌≤◌, ◌&&◌, ◌||◌, Bool, true, false, zero, suc, List, [], ◌∷◌, ◌++◌, drop, get_or, length, max, take, refl}
-use Rattle.std.proofs.Common.{sym, ap, ◌∙◌, arith}
-use Rattle.std.specs.Char.{is_whitespace}
-use Rattle.std.specs.List.{list_all}
-use Rattle.std.specs.Ordering.{nat_cmp, ord_max}
-use Rattle.std.proofs.lemmas.Bool.Decides.{nat_tests}
-use Rattle.std.proofs.lemmas.Bool.{false≢true}
-use Rattle.std.proofs.lemmas.List.{at_drop_all, at_drop_more}
-use Rattle.snippet_parts.specs.declared.entries.LineAnnotation.{LineAnnotation}
-use Rattle.snippet_parts.specs.declared.entries.LineAnnotationType.{LineAnnotationType}
-use Rattle.snippet_parts.specs.declared.entries.LineAnnotationType.TheVariants.{MultilineStart, MultilineLine}
-use Rattle.snippet_parts.specs.Entries.{is_bar}
-use Rattle.snippet_text.specs.Normalized.{norm, shown}
-use Rattle.snippet_strokes.specs.Bars.{is_beside}
-use Rattle.snippet_labels.specs.Positions.{is_start_part}
+use Rattle.snippet_strokes.proofs.Common.{◌≡◌, ℕ, ◌+◌, ◌-◌, ◌<◌, ◌≤◌, ◌&&◌, ◌||◌, Bool, true, false, zero, suc, List, []}
+use Rattle.snippet_strokes.proofs.Common.{◌∷◌, ◌++◌, drop, get_or, length, max, take, refl, sym, ap, ◌∙◌, arith, is_whitespace, list_all}
+use Rattle.snippet_strokes.proofs.Common.{ord_max, nat_tests, false≢true, at_drop_all, at_drop_more, LineAnnotation, LineAnnotationType, MultilineStart}
+use Rattle.snippet_strokes.proofs.Common.{MultilineLine, is_bar, norm, shown, is_beside, is_start_part}
+use Rattle.std.specs.Ordering.{nat_cmp}
 
 -- whether a text begins with so much whitespace
 abbrev begins_blank : List ℕ → ℕ → Bool

@@ -1,31 +1,12 @@
 -- The cells of a window, and how they are written.
-use Rattle.std.proofs.Common.{◌≡◌, ℕ, ◌+◌, ◌-◌, ◌<◌, ◌≤◌, ◌^◌, ◌==◌, cond, true, false, Option, None, Some, IfSome, List, [], ◌∷◌, ◌++◌, length, drop, refl}
-use Rattle.std.proofs.Common.{sym, ap, ◌∙◌, arith, add-zero, All, chars, IsUtf8, nat_lt}
-use Rattle.std.proofs.lemmas.Bool.{cond-false, cond-true}
-use Rattle.std.proofs.lemmas.List.{places, same_lists}
-use Rattle.std.proofs.lemmas.List.Elements.{All-take, All-drop}
-use Rattle.std.proofs.lemmas.Str.{chars-nil}
-use Rattle.snippet_model.proofs.RowLemmas.{each_fails}
-use Rattle.snippet_window.proofs.LineWindowLemmas.{uncovered_short, part_short}
-use Rattle.snippet_window.specs.declared.margin.Margin.{Margin}
-use Rattle.std.proofs.lemmas.Bool.Decides.{nat_tests}
-use Rattle.snippet_text.specs.Width.{width_of}
-use Rattle.snippet_window.specs.Window.{reaching, fitting, window_left, window_right, inner_part, covered_columns, uncovered_part, covered_end}
-use Rattle.snippet_style.specs.declared.glyphs.DecorStyle.{DecorStyle}
-use Rattle.snippet_style.specs.declared.glyphs.DecorStyle.TheVariants.{Ascii, Unicode}
-use Rattle.snippet_style.specs.declared.role.ElementStyle.{ElementStyle}
-use Rattle.snippet_style.specs.declared.role.ElementStyle.TheVariants.{LineNumber, Quotation}
-use Rattle.snippet_style.specs.Glyphs.{placeholder_of}
-use Rattle.snippet_grid.specs.Grid.{cells_written}
-use Rattle.snippet_style.specs.Cell.{Cell, SPACE, text_cells, written}
-use Rattle.snippet_grid.proofs.GridLemmas.{cells_written_last}
-use Rattle.snippet_style.proofs.CellLemmas.{length-text_cells, length-written}
-use Rattle.snippet_text.specs.Normalized.{is_listed, norm}
-use Rattle.snippet_model.specs.FreeRows.{IsFree}
-use Rattle.snippet_strokes.specs.SourceRows.{window_cells, with_cells}
-use Rattle.snippet_strokes.specs.BegunRow.{begun_cells, ended_cells}
-use Rattle.snippet_model.proofs.RowLemmas.{free_drawn, free_written}
-use Rattle.snippet_grid.proofs.GridShown.{chars_some}
+use Rattle.snippet_strokes.proofs.Common.{◌≡◌, ℕ, ◌+◌, ◌-◌, ◌<◌, ◌≤◌, ◌^◌, ◌==◌, cond, true, false, Option, None, Some}
+use Rattle.snippet_strokes.proofs.Common.{IfSome, List, [], ◌∷◌, ◌++◌, length, drop, refl, sym, ap, ◌∙◌, arith, add-zero, All, IsUtf8, nat_lt}
+use Rattle.snippet_strokes.proofs.Common.{cond-false, cond-true, places, same_lists, All-take, All-drop, chars-nil, each_fails, uncovered_short, part_short}
+use Rattle.snippet_strokes.proofs.Common.{Margin, nat_tests, width_of, reaching, fitting, window_left, window_right, inner_part, covered_columns}
+use Rattle.snippet_strokes.proofs.Common.{uncovered_part, covered_end, DecorStyle, Ascii, Unicode, ElementStyle, LineNumber, Quotation, placeholder_of}
+use Rattle.snippet_strokes.proofs.Common.{cells_written, Cell, SPACE, text_cells, written, cells_written_last, length-text_cells, length-written, is_listed}
+use Rattle.snippet_strokes.proofs.Common.{norm, IsFree, window_cells, with_cells, begun_cells, ended_cells, free_drawn, free_written, chars_some}
+use Rattle.std.proofs.Common.{chars}
 
 -- the cells that are written from a cell on, after those that stand there
 abbrev pub put : ℕ → List Cell → List Cell → List Cell

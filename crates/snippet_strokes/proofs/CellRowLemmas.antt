@@ -1,18 +1,10 @@
 -- Rows that are kept cell by cell, after a write and as they are added to a grid.
-use Rattle.std.proofs.Common.{◌≡◌, ℕ, zero, suc, ◌+◌, ◌-◌, ◌<◌, ◌≤◌, List, [], ◌∷◌, ◌++◌, length}
-use Rattle.std.proofs.Common.{◌⊎◌, map, take, drop, get_or, replicate, All, inl, inr, refl, sym, ap, ◌∙◌, arith}
-use Rattle.std.proofs.lemmas.List.{append_assoc, append-nil, length-append, length-map, length-replicate, map-append, map-set, places, same_lists}
-use Rattle.std.proofs.lemmas.List.{drop-map, take-map}
+use Rattle.snippet_strokes.proofs.Common.{◌≡◌, ℕ, zero, suc, ◌+◌, ◌-◌, ◌<◌, ◌≤◌, List, [], ◌∷◌, ◌++◌, length, ◌⊎◌}
+use Rattle.snippet_strokes.proofs.Common.{map, take, drop, get_or, replicate, All, inl, inr, refl, sym, ap, ◌∙◌, arith, append_assoc, append-nil}
+use Rattle.snippet_strokes.proofs.Common.{length-append, length-map, length-replicate, map-append, map-set, places, same_lists, drop-map, take-map, get_or-map}
+use Rattle.snippet_strokes.proofs.Common.{get_or-replicate, length-drop, replicate-append-replicate, set_split, take_all, All-head, All-tail, Vec}
+use Rattle.snippet_strokes.proofs.Common.{cells_written, row_at, cell_of, cells_of, StyledChar, Cell, SPACE, written, NoStyle}
 use Rattle.std.proofs.Math.ListN.{set}
-use Rattle.std.proofs.lemmas.List.{get_or-map, get_or-replicate, length-drop, replicate-append-replicate, set_split, take_all}
-use Rattle.std.proofs.lemmas.List.Elements.{All-head, All-tail}
-use Rattle.std.specs.Global.{Vec}
-use Rattle.snippet_grid.specs.Grid.{cells_written, row_at}
-use Rattle.snippet_grid.specs.StyledChars.{cell_of}
-use Rattle.snippet_strokes.specs.CellRows.{cells_of}
-use Rattle.snippet_grid.specs.declared.styled_char.StyledChar.{StyledChar}
-use Rattle.snippet_style.specs.Cell.{Cell, SPACE, written}
-use Rattle.snippet_style.specs.declared.role.ElementStyle.TheVariants.{NoStyle}
 
 -- ---- writes into a row
 

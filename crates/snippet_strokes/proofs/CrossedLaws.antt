@@ -1,36 +1,17 @@
 -- Laws of the cells of bars in all rows of a line: where no bar has its place nothing stands but lines that lead from other bars.
-use Rattle.std.proofs.Common.{◌≡◌, ◌≢◌, ℕ, zero, suc, ◌+◌, ◌-◌, ◌<◌, Bool, true, false, cond, List, [], ◌∷◌, ◌++◌, All, map, length, replicate, take, get_or}
-use Rattle.std.proofs.Common.{ap, ◌∙◌, refl, sym, subst, arith, inl, inr}
-use Rattle.std.proofs.lemmas.Bool.{cases_Bool, cases_lt}
-use Rattle.std.proofs.lemmas.List.{get_or-map, get_or_past, length-map}
-use Rattle.std.proofs.lemmas.List.Elements.{All-append, All-cons, All-filter, All-get_or, All-map, All-nil, All-replicate, All-weaker}
+use Rattle.snippet_strokes.proofs.Common.{◌≡◌, ◌≢◌, ℕ, zero, suc, ◌+◌, ◌-◌, ◌<◌, Bool, true, false, cond, List, [], ◌∷◌}
+use Rattle.snippet_strokes.proofs.Common.{◌++◌, All, map, length, replicate, take, get_or, ap, ◌∙◌, refl, sym, subst, arith, inl, inr, cases_Bool}
+use Rattle.snippet_strokes.proofs.Common.{cases_lt, get_or-map, get_or_past, length-map, All-append, All-cons, All-filter, All-get_or, All-map, All-nil}
+use Rattle.snippet_strokes.proofs.Common.{All-replicate, All-weaker, Cell, SPACE, unlinked_cell, strokes_of, closing_row, separator_row, cell_at, row_at}
+use Rattle.snippet_strokes.proofs.Common.{is_primary, LineAnnotation, Layout, PlacedEntry, shifted, painting_order, stroke_role, bare_row, Write, painted}
+use Rattle.snippet_strokes.proofs.Common.{entries_all, Solid, Top, Bar, bars_apart, ends_of_bars, row_count, IsNoBar, connector_of, corner_of, connectors_of}
+use Rattle.snippet_strokes.proofs.Common.{corners_of, labels_of, has_depth, is_whole_line, stems_of}
 use Rattle.std.specs.Prelude.{not}
-use Rattle.snippet_style.specs.Cell.{Cell, SPACE, unlinked_cell}
-use Rattle.snippet_style.specs.Glyphs.{strokes_of}
-use Rattle.snippet_style.specs.Separators.{closing_row, separator_row}
-use Rattle.snippet_grid.specs.Grid.{cell_at, row_at}
-use Rattle.snippet_model.specs.AnnotationKind.{is_primary}
-use Rattle.snippet_parts.specs.declared.entries.LineAnnotation.{LineAnnotation}
-use Rattle.snippet_grid.specs.Layout.{Layout}
-use Rattle.snippet_labels.specs.declared.positions.PlacedEntry.{PlacedEntry}
-use Rattle.snippet_labels.specs.PlacedEntries.{shifted}
-use Rattle.snippet_strokes.specs.Painting.{painting_order, stroke_role}
-use Rattle.snippet_strokes.specs.SourceRows.{bare_row}
-use Rattle.snippet_strokes.specs.Writes.{Write, painted}
-use Rattle.snippet_labels.proofs.PlacedLemmas.{entries_all}
-use Rattle.snippet_strokes.specs.declared.bars.BarStroke.TheVariants.{Solid, Top}
-use Rattle.snippet_strokes.specs.Bars.{Bar, bars_apart, ends_of_bars}
 use Rattle.snippet_strokes.proofs.BarParts.{with_parts}
-use Rattle.snippet_strokes.specs.Drawing.{row_count}
-use Rattle.snippet_strokes.specs.EndBars.{IsNoBar}
 use Rattle.snippet_strokes.proofs.LineFacts.{AreLineRows, AreOwnRows, StrokesPainted}
 use Rattle.snippet_strokes.proofs.LineRowLemmas.{rows_cut}
 use Rattle.snippet_strokes.proofs.Reach.{Reaches, cell_of_write}
-use Rattle.snippet_strokes.specs.Strokes.{connector_of, corner_of}
-use Rattle.snippet_strokes.specs.PaintedStrokes.{connectors_of, corners_of, labels_of}
-use Rattle.snippet_strokes.specs.DrawnBars.{has_depth, is_whole_line}
 use Rattle.snippet_strokes.proofs.Drawn.{drawn_strokes, marks_of}
-use Rattle.snippet_strokes.specs.DrawnStems.{stems_of}
 use Rattle.snippet_strokes.proofs.StrokeWords.{begun_rows}
 use Rattle.snippet_strokes.proofs.BarWrites.{All-connector_of, All-stretch_of}
 use Rattle.snippet_strokes.proofs.EntryBarLaws.{is_at, labels_right, marks_right, part_leaves, stems_right}

@@ -1,42 +1,19 @@
 -- Rows in which stretches gave their place to the placeholder.
-use Rattle.std.proofs.Common.{◌≡◌, ◌∙◌, true, false, ℕ, zero, suc, ◌+◌, ◌-◌, ◌<◌, ◌≤◌, Bool, List, [], ◌∷◌, ◌++◌, length, map, take, drop, set, get_or, cond}
-use Rattle.std.proofs.Common.{refl, sym, ap, subst, arith, inl, inr, fold}
-use Rattle.std.proofs.lemmas.Bool.{and_parts, cases_lt, or_parts}
-use Rattle.std.proofs.lemmas.List.{places, same_lists, map-append, append_assoc, length-append, drop_more, drop_all}
-use Rattle.std.proofs.lemmas.List.Sums.{sum_by-cons}
-use Rattle.std.proofs.lemmas.List.Elements.{All-append, All-take, All-drop}
-use Rattle.std.proofs.Math.Seq.{set-append_seam}
-use Rattle.std.specs.Prelude.{◌&&◌, ◌/◌, max, not}
-use Rattle.std.specs.List.{list_all, list_any, slice_index_or, flat_map, zip}
-use Rattle.snippet_parts.specs.declared.entries.LineAnnotation.{LineAnnotation}
-use Rattle.snippet_parts.specs.Entries.{is_wide_entry}
-use Rattle.snippet_window.specs.Window.{AreReplaced}
-use Rattle.snippet_style.specs.declared.glyphs.DecorStyle.{DecorStyle}
-use Rattle.snippet_style.specs.declared.role.ElementStyle.TheVariants.{LineNumber}
-use Rattle.snippet_style.specs.Glyphs.{placeholder_of}
-use Rattle.snippet_grid.specs.Grid.{replaced_within}
-use Rattle.snippet_grid.specs.Calls.{cells_replaced}
-use Rattle.snippet_style.specs.Cell.{Cell, text_cells}
-use Rattle.snippet_grid.specs.Print.{row_text}
-use Rattle.snippet_grid.proofs.ChangeLemmas.{changed_within_one}
-use Rattle.snippet_grid.proofs.ReplaceLemmas.{replaced_there, replaced_empty, replaced_past}
-use Rattle.snippet_grid.specs.Layout.{Layout, code_cell}
-use Rattle.snippet_labels.specs.declared.positions.PlacedEntry.{PlacedEntry}
-use Rattle.snippet_model.specs.FreeRows.{IsFreeCell}
+use Rattle.snippet_strokes.proofs.Common.{◌≡◌, ◌∙◌, true, false, ℕ, zero, suc, ◌+◌, ◌-◌, ◌<◌, ◌≤◌, Bool, List, [], ◌∷◌}
+use Rattle.snippet_strokes.proofs.Common.{◌++◌, length, map, take, drop, set, get_or, cond, refl, sym, ap, subst, arith, inl, inr, fold, and_parts}
+use Rattle.snippet_strokes.proofs.Common.{cases_lt, or_parts, places, same_lists, map-append, append_assoc, length-append, drop_more, drop_all, sum_by-cons}
+use Rattle.snippet_strokes.proofs.Common.{All-append, All-take, All-drop, set-append_seam, ◌/◌, list_all, list_any, slice_index_or, flat_map, zip}
+use Rattle.snippet_strokes.proofs.Common.{LineAnnotation, is_wide_entry, AreReplaced, DecorStyle, LineNumber, placeholder_of, replaced_within, cells_replaced}
+use Rattle.snippet_strokes.proofs.Common.{Cell, text_cells, row_text, changed_within_one, replaced_there, replaced_empty, replaced_past, Layout, code_cell}
+use Rattle.snippet_strokes.proofs.Common.{PlacedEntry, IsFreeCell, is_wide_at, row_text-text_cells, cut_middle, is_cut, overlapped, row_count, painting_order}
+use Rattle.snippet_strokes.proofs.Common.{placed_of, stroke_rows, painted}
+use Rattle.std.specs.Prelude.{◌&&◌, max, not}
 use Rattle.snippet_strokes.proofs.CutWords.{Stretch, cut_of, cut_rows, cuts_of}
 use Rattle.snippet_strokes.proofs.StrokeWords.{cut_row}
-use Rattle.snippet_strokes.specs.LookedCuts.{is_wide_at}
 use Rattle.snippet_strokes.proofs.PlainEntries.{wide_entries}
 use Rattle.snippet_strokes.proofs.SeenRows.{IsCut}
 use Rattle.snippet_strokes.proofs.CellLemmas.{free_placeholder}
-use Rattle.snippet_grid.proofs.RowLemmas.{row_text-text_cells}
-use Rattle.snippet_strokes.specs.Cuts.{cut_middle, is_cut, overlapped}
-use Rattle.snippet_strokes.specs.Drawing.{row_count}
-use Rattle.snippet_strokes.specs.Painting.{painting_order}
-use Rattle.snippet_labels.specs.Positions.{placed_of}
-use Rattle.snippet_strokes.specs.Strokes.{stroke_rows}
 use Rattle.snippet_strokes.proofs.Drawn.{drawn_strokes}
-use Rattle.snippet_strokes.specs.Writes.{painted}
 use Rattle.snippet_strokes.proofs.StrokeWords.{begun_rows}
 use Rattle.snippet_strokes.proofs.EveryStroke.{strokes_painted}
 

@@ -1,20 +1,9 @@
 -- Stretches that are cut in a row and in that below it: each of the two rows is cut.
-use Rattle.std.proofs.Common.{◌≡◌, ◌∙◌, ℕ, ◌+◌, ◌<◌, Bool, cond, false, true, List, [], ◌∷◌, fold, length, inl, inr, sym, ap, arith}
-use Rattle.std.proofs.lemmas.Bool.{cases_lt}
-use Rattle.std.proofs.lemmas.List.{same_lists}
+use Rattle.snippet_strokes.proofs.Common.{◌≡◌, ◌∙◌, ℕ, ◌+◌, ◌<◌, Bool, cond, false, true, List, [], ◌∷◌, fold, length, inl, inr}
+use Rattle.snippet_strokes.proofs.Common.{sym, ap, arith, cases_lt, same_lists, zip, length-changed_within, slice_index_or-changed_within_after}
+use Rattle.snippet_strokes.proofs.Common.{slice_index_or-changed_within_before, slice_index_or-changed_within_inside, changed_within, replaced_within, Layout}
+use Rattle.snippet_strokes.proofs.Common.{PlacedEntry, is_wide_entry, Cell, text_cells, placeholder_of, DecorStyle, LineNumber, cut_middle}
 use Rattle.std.specs.Prelude.{◌&&◌, not}
-use Rattle.std.specs.List.{zip}
-use Rattle.snippet_grid.proofs.ChangeLemmas.{length-changed_within, slice_index_or-changed_within_after, slice_index_or-changed_within_before}
-use Rattle.snippet_grid.proofs.ChangeLemmas.{slice_index_or-changed_within_inside}
-use Rattle.snippet_grid.specs.Grid.{changed_within, replaced_within}
-use Rattle.snippet_grid.specs.Layout.{Layout}
-use Rattle.snippet_labels.specs.declared.positions.PlacedEntry.{PlacedEntry}
-use Rattle.snippet_parts.specs.Entries.{is_wide_entry}
-use Rattle.snippet_style.specs.Cell.{Cell, text_cells}
-use Rattle.snippet_style.specs.Glyphs.{placeholder_of}
-use Rattle.snippet_style.specs.declared.glyphs.DecorStyle.{DecorStyle}
-use Rattle.snippet_style.specs.declared.role.ElementStyle.TheVariants.{LineNumber}
-use Rattle.snippet_strokes.specs.Cuts.{cut_middle}
 use Rattle.snippet_strokes.proofs.CutLemmas.{cut_each, cut_one, middle_of}
 use Rattle.snippet_strokes.proofs.CutWords.{Stretch, cut_of, cut_rows, cuts_of}
 use Rattle.snippet_strokes.proofs.StrokeWords.{cut_row}

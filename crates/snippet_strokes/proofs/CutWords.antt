@@ -1,15 +1,7 @@
 -- What is cut of the rows of a line, as stretches of cells.
-use Rattle.std.proofs.Common.{ℕ, ◌+◌, ◌-◌, Bool, List, [], ◌∷◌, length}
-use Rattle.std.specs.Prelude.{◌&&◌, ◌/◌, max, not, if◌then◌else◌}
-use Rattle.std.specs.List.{flat_map, zip}
-use Rattle.snippet_grid.specs.Calls.{cells_replaced}
-use Rattle.snippet_grid.specs.Layout.{Layout, code_cell}
-use Rattle.snippet_labels.specs.declared.positions.PlacedEntry.{PlacedEntry}
-use Rattle.snippet_parts.specs.Entries.{is_wide_entry}
-use Rattle.snippet_style.specs.Cell.{Cell, text_cells}
-use Rattle.snippet_style.specs.Glyphs.{placeholder_of}
-use Rattle.snippet_style.specs.declared.glyphs.DecorStyle.{DecorStyle}
-use Rattle.snippet_style.specs.declared.role.ElementStyle.TheVariants.{LineNumber}
+use Rattle.snippet_strokes.proofs.Common.{ℕ, ◌+◌, ◌-◌, Bool, List, [], ◌∷◌, length, ◌/◌, if◌then◌else◌, flat_map, zip, cells_replaced}
+use Rattle.snippet_strokes.proofs.Common.{Layout, code_cell, PlacedEntry, is_wide_entry, Cell, text_cells, placeholder_of, DecorStyle, LineNumber}
+use Rattle.std.specs.Prelude.{◌&&◌, max, not}
 
 -- cells from one to before another
 pub record Stretch : Type 0 where

@@ -1,25 +1,10 @@
 -- Drawing in rows from one on, and in cells from one on.
-use Rattle.std.proofs.Common.{◌≡◌, ℕ, ◌+◌, ◌-◌, ◌<◌, ◌≤◌, ◌==◌, ◌||◌, Bool, true, false, List, [], ◌∷◌, length, drop, get_or, refl, sym, ap, ◌∙◌, subst, arith}
-use Rattle.std.proofs.Common.{inl, inr, All}
-use Rattle.std.proofs.lemmas.Bool.{cases_lt, cases_eq}
-use Rattle.snippet_grid.specs.Grid.{cell_at, row_at}
-use Rattle.snippet_grid.specs.Calls.{WritesCells}
-use Rattle.snippet_style.specs.Cell.{Cell, SPACE, unlinked_cell}
-use Rattle.snippet_style.proofs.StrokeLemmas.{bars_among}
-use Rattle.snippet_style.specs.Glyphs.{bar_glyphs, strokes_of}
-use Rattle.snippet_style.specs.declared.glyphs.DecorStyle.{DecorStyle}
-use Rattle.snippet_style.specs.declared.glyphs.DecorStyle.TheVariants.{Ascii, Unicode}
-use Rattle.snippet_style.specs.declared.role.ElementStyle.{ElementStyle}
-use Rattle.std.specs.List.{list_any}
-use Rattle.std.proofs.lemmas.Bool.Decides.{nat_tests}
-use Rattle.std.proofs.lemmas.List.{length-drop, get_or-drop, ext_get_or}
-use Rattle.std.proofs.lemmas.List.Elements.{All-head, All-tail, All-cons, All-nil}
-use Rattle.snippet_text.specs.Normalized.{is_listed}
-use Rattle.snippet_grid.specs.Layout.{Layout}
-use Rattle.snippet_strokes.specs.EntryMarks.{IsBarCell}
-use Rattle.snippet_model.specs.FreeRows.{IsFreeCell}
+use Rattle.snippet_strokes.proofs.Common.{◌≡◌, ℕ, ◌+◌, ◌-◌, ◌<◌, ◌≤◌, ◌==◌, ◌||◌, Bool, true, false, List, [], ◌∷◌}
+use Rattle.snippet_strokes.proofs.Common.{length, drop, get_or, refl, sym, ap, ◌∙◌, subst, arith, inl, inr, All, cases_lt, cases_eq, cell_at, row_at}
+use Rattle.snippet_strokes.proofs.Common.{WritesCells, Cell, SPACE, unlinked_cell, bars_among, bar_glyphs, strokes_of, DecorStyle, Ascii, Unicode, ElementStyle}
+use Rattle.snippet_strokes.proofs.Common.{list_any, nat_tests, length-drop, get_or-drop, ext_get_or, All-head, All-tail, All-cons, All-nil, is_listed, Layout}
+use Rattle.snippet_strokes.proofs.Common.{IsBarCell, IsFreeCell, each_fails}
 use Rattle.snippet_strokes.proofs.DrawnCells.{DrawsFrom, KeepsBarCells, DrawsBarCells}
-use Rattle.snippet_model.proofs.RowLemmas.{each_fails}
 
 -- nothing is drawn yet
 pub DrawsFrom-none : (row from : ℕ) (rows : List (List Cell)) → DrawsFrom row from rows rows

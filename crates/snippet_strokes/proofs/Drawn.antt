@@ -1,16 +1,7 @@
 -- Strokes as the code draws them: marks from their first glyph on, and no stem that the next one's covers.
-use Rattle.std.proofs.Common.{ℕ, ◌+◌, nat_lt, List, [], ◌∷◌, ◌++◌}
-use Rattle.std.specs.Prelude.{if◌then◌else◌}
-use Rattle.std.specs.List.{flat_map}
-use Rattle.snippet_grid.specs.Layout.{Layout, code_cell}
-use Rattle.snippet_labels.specs.declared.positions.PlacedEntry.{PlacedEntry}
-use Rattle.snippet_model.specs.AnnotationKind.{is_primary}
-use Rattle.snippet_style.specs.Glyphs.{strokes_of}
-use Rattle.snippet_strokes.specs.Painting.{stroke_role}
-use Rattle.snippet_strokes.specs.DrawnStems.{stems_of}
-use Rattle.snippet_strokes.specs.Strokes.{connector_of, corner_of, label_of}
-use Rattle.snippet_strokes.specs.PaintedStrokes.{first_glyph, mark_end, connectors_of, corners_of, labels_of}
-use Rattle.snippet_strokes.specs.Writes.{Write, glyph_at, stretch_of}
+use Rattle.snippet_strokes.proofs.Common.{ℕ, ◌+◌, nat_lt, List, [], ◌∷◌, ◌++◌, if◌then◌else◌, flat_map, Layout, code_cell, PlacedEntry}
+use Rattle.snippet_strokes.proofs.Common.{is_primary, strokes_of, stroke_role, stems_of, connector_of, corner_of, label_of, first_glyph, mark_end}
+use Rattle.snippet_strokes.proofs.Common.{connectors_of, corners_of, labels_of, Write, glyph_at, stretch_of}
 
 -- the mark of an entry, if it takes any cell: its first glyph, and the underline after it
 abbrev pub drawn_mark : Layout → ℕ → PlacedEntry → List Write

@@ -1,15 +1,7 @@
 -- What drawing strokes and bars changes, and what it leaves as it was.
 use Rattle.std.specs.Prelude.{◌≡◌, ◌≢◌, ℕ, ◌+◌, ◌<◌, ◌≤◌, false, List, All, drop, length, max}
-use Rattle.snippet_parts.specs.declared.entries.LineAnnotation.{LineAnnotation}
-use Rattle.snippet_grid.specs.Grid.{cell_at, row_at}
-use Rattle.snippet_style.specs.Cell.{Cell}
-use Rattle.snippet_grid.specs.Layout.{Layout, inner_cell}
-use Rattle.snippet_model.specs.FreeRows.{IsFreeCell}
-use Rattle.snippet_labels.specs.declared.positions.PlacedEntry.{PlacedEntry}
-use Rattle.snippet_strokes.specs.EntryMarks.{IsBarCell, is_mark_role}
-use Rattle.std.specs.List.{slice_index_or}
-use Rattle.snippet_style.specs.Cell.{SPACE}
-use Rattle.snippet_model.specs.FreeRows.{IsFree}
+use Rattle.snippet_strokes.proofs.Common.{LineAnnotation, cell_at, row_at, Cell, Layout, inner_cell, IsFreeCell, PlacedEntry, IsBarCell, is_mark_role}
+use Rattle.snippet_strokes.proofs.Common.{slice_index_or, SPACE, IsFree}
 
 -- something was drawn: only in rows from `row` on, in cells from `from` on, and no listed character and no link came into a row
 pub record DrawsFrom (row from : ℕ) (old new : List (List Cell)) : Type 0 where

@@ -1,25 +1,11 @@
 -- The row that stands for lines that are left out.
-use Rattle.std.proofs.Common.{◌≡◌, ℕ, ◌+◌, ◌<◌, ◌≤◌, ◌∷◌, ◌++◌, [], List, length, replicate, get_or, All, refl, ap, ◌∙◌, arith}
-use Rattle.std.proofs.lemmas.List.{get_or_past}
-use Rattle.snippet_model.proofs.RowLemmas.{each_fails}
-use Rattle.snippet_style.proofs.CellLemmas.{length-text_cells}
-use Rattle.snippet_style.specs.declared.glyphs.DecorStyle.{DecorStyle}
-use Rattle.snippet_style.specs.declared.glyphs.DecorStyle.TheVariants.{Ascii, Unicode}
-use Rattle.snippet_style.specs.declared.role.ElementStyle.TheVariants.{LineNumber}
-use Rattle.snippet_style.specs.Glyphs.{elision_of}
-use Rattle.snippet_style.specs.Cell.{Cell, SPACE, text_cells}
-use Rattle.snippet_text.specs.Normalized.{is_listed}
-use Rattle.snippet_grid.specs.Layout.{Layout}
-use Rattle.snippet_strokes.specs.declared.bars.OpenBar.{OpenBar}
-use Rattle.snippet_strokes.specs.declared.bars.BarStroke.TheVariants.{Dotted}
-use Rattle.snippet_strokes.specs.DrawnBars.{HasBarRoom, barred}
-use Rattle.snippet_strokes.specs.Snippet.{gap_row}
+use Rattle.snippet_strokes.proofs.Common.{◌≡◌, ℕ, ◌+◌, ◌<◌, ◌≤◌, ◌∷◌, ◌++◌, [], List, length, replicate, get_or, All, refl, ap}
+use Rattle.snippet_strokes.proofs.Common.{◌∙◌, arith, get_or_past, each_fails, length-text_cells, DecorStyle, Ascii, Unicode, LineNumber, elision_of}
+use Rattle.snippet_strokes.proofs.Common.{Cell, SPACE, text_cells, is_listed, Layout, OpenBar, Dotted, HasBarRoom, barred, gap_row, IsFree, IsElisionRow}
+use Rattle.snippet_strokes.proofs.Common.{bare_elision_row, free_drawn}
 use Rattle.snippet_strokes.proofs.BarRows.{barred-below}
-use Rattle.snippet_model.specs.FreeRows.{IsFree}
-use Rattle.snippet_strokes.specs.StrokeRows.{IsElisionRow, bare_elision_row}
 use Rattle.snippet_strokes.proofs.BarLemmas.{BarsDrawn-with_parts, bar_space}
 use Rattle.snippet_strokes.proofs.RowLemmas.{free_led, length-led}
-use Rattle.snippet_model.proofs.RowLemmas.{free_drawn}
 
 -- the cell from which the sign stands
 abbrev pub elision_cell : DecorStyle → ℕ → ℕ

@@ -1,38 +1,16 @@
 -- Laws of the bars of spans that begin or end on a line: they stand in its rows from their corner on, or down to it.
-use Rattle.std.proofs.Common.{◌≡◌, ◌≢◌, ℕ, zero, suc, ◌+◌, ◌<◌, ◌==◌, ◌||◌, ◌&&◌, Bool, true, false, not, Some, List, [], ◌∷◌, All}
-use Rattle.std.proofs.Common.{Contains, map, length, get_or, take, refl, sym, ap, ◌∙◌, arith, inl, inr}
-use Rattle.std.specs.Char.{is_whitespace}
-use Rattle.std.specs.List.{filter, list_all, list_any}
-use Rattle.std.proofs.lemmas.Bool.{both_ways, cases_Bool, eq-eqb, eqb-true, false_from_ne_true, not-true}
-use Rattle.std.proofs.lemmas.List.Folds.{list_any_at}
-use Rattle.std.proofs.lemmas.List.{get_or-map, get_or-take, length-map}
-use Rattle.std.proofs.lemmas.List.Elements.{All-contains, All-head, All-map, All-tail, All-weaker, filter_passes}
-use Rattle.std.proofs.lemmas.List.Sorted.{list_any-IsPermutation}
-use Rattle.snippet_style.specs.Cell.{Cell, SPACE}
-use Rattle.snippet_grid.specs.Grid.{cell_at, row_at}
-use Rattle.snippet_model.specs.AnnotationKind.{is_primary}
-use Rattle.snippet_parts.specs.declared.entries.LineAnnotation.{LineAnnotation}
-use Rattle.snippet_parts.specs.declared.entries.LineAnnotationType.{LineAnnotationType}
-use Rattle.snippet_parts.specs.declared.entries.LineAnnotationType.TheVariants.{Singleline, MultilineStart, MultilineEnd, MultilineLine}
-use Rattle.snippet_parts.specs.Entries.{is_bar}
-use Rattle.snippet_parts.proofs.AmongLemmas.{Among, all_among, all_pass, among_filter_map, any_among}
-use Rattle.snippet_parts.proofs.PartLemmas.{list_any-map}
-use Rattle.snippet_grid.specs.Layout.{Layout}
-use Rattle.snippet_labels.specs.declared.positions.PlacedEntry.{PlacedEntry}
-use Rattle.snippet_labels.specs.PlacedEntries.{shifted}
-use Rattle.snippet_labels.specs.Positions.{is_start_part}
-use Rattle.snippet_strokes.specs.Painting.{painting_order}
-use Rattle.snippet_strokes.specs.Writes.{painted}
-use Rattle.snippet_labels.proofs.PlacedLemmas.{entries_all}
-use Rattle.snippet_strokes.specs.declared.bars.BarStroke.{BarStroke}
-use Rattle.snippet_strokes.specs.declared.bars.BarStroke.TheVariants.{Dotted, Solid, Top}
-use Rattle.snippet_strokes.specs.Bars.{Bar, bar_at, bars_apart, ends_of_bars, is_beside}
+use Rattle.snippet_strokes.proofs.Common.{◌≡◌, ◌≢◌, ℕ, zero, suc, ◌+◌, ◌<◌, ◌==◌, ◌||◌, ◌&&◌, Bool, true, false, not, Some}
+use Rattle.snippet_strokes.proofs.Common.{List, [], ◌∷◌, All, Contains, map, length, get_or, take, refl, sym, ap, ◌∙◌, arith, inl, inr}
+use Rattle.snippet_strokes.proofs.Common.{is_whitespace, list_all, list_any, both_ways, cases_Bool, eq-eqb, eqb-true, false_from_ne_true, not-true, list_any_at}
+use Rattle.snippet_strokes.proofs.Common.{get_or-map, get_or-take, length-map, All-contains, All-head, All-map, All-tail, All-weaker, filter_passes}
+use Rattle.snippet_strokes.proofs.Common.{list_any-IsPermutation, Cell, SPACE, cell_at, row_at, is_primary, LineAnnotation, LineAnnotationType, Singleline}
+use Rattle.snippet_strokes.proofs.Common.{MultilineStart, MultilineEnd, MultilineLine, is_bar, Among, all_among, all_pass, among_filter_map, any_among}
+use Rattle.snippet_strokes.proofs.Common.{list_any-map, Layout, PlacedEntry, shifted, is_start_part, painting_order, painted, entries_all, BarStroke, Dotted}
+use Rattle.snippet_strokes.proofs.Common.{Solid, Top, Bar, bar_at, bars_apart, ends_of_bars, is_beside, HasOwnDepth, bar_of, has_depth, is_whole_line}
+use Rattle.snippet_strokes.proofs.Common.{bar_cell_part, row_count, HasRows, BarEnds}
+use Rattle.std.specs.List.{filter}
 use Rattle.snippet_strokes.proofs.OneStep.{with_bar}
-use Rattle.snippet_strokes.specs.DrawnBars.{HasOwnDepth, bar_of, has_depth, is_whole_line, bar_cell_part}
 use Rattle.snippet_strokes.proofs.BarParts.{with_parts}
-use Rattle.snippet_strokes.specs.Drawing.{row_count}
-use Rattle.snippet_strokes.specs.Places.{HasRows}
-use Rattle.snippet_strokes.specs.EndBars.{BarEnds}
 use Rattle.snippet_strokes.proofs.BarFacts.{BarBegins, BeginsBelow}
 use Rattle.snippet_strokes.proofs.LineFacts.{AreLineRows, StrokesPainted}
 use Rattle.snippet_strokes.proofs.StrokeWords.{begun_rows, corner_by}

@@ -1,35 +1,18 @@
 -- Laws of the bars of a line's entries: what the last entry of a bar's depth leaves in the bar's cells, and which strokes leave them.
-use Rattle.std.proofs.Common.{◌≡◌, ◌≢◌, ℕ, zero, suc, ◌+◌, ◌-◌, ◌<◌, ◌≤◌, ◌==◌, ◌||◌, Bool, true, false, cond, List, [], ◌∷◌, ◌++◌, All}
-use Rattle.std.proofs.Common.{Contains, map, length, get_or, refl, ap, ◌∙◌, arith, inl, inr}
+use Rattle.snippet_strokes.proofs.Common.{◌≡◌, ◌≢◌, ℕ, zero, suc, ◌+◌, ◌-◌, ◌<◌, ◌≤◌, ◌==◌, ◌||◌, Bool, true, false}
+use Rattle.snippet_strokes.proofs.Common.{cond, List, [], ◌∷◌, ◌++◌, All, Contains, map, length, get_or, refl, ap, ◌∙◌, arith, inl, inr}
+use Rattle.snippet_strokes.proofs.Common.{flat_map, list_any, range_with_len, both_ways, cases_Bool, cases_lt, eq-eqb, or_parts, flat_map-append, All-append}
+use Rattle.snippet_strokes.proofs.Common.{All-cons, All-nil, All-weaker, Cell, SPACE, unlinked_cell, strokes_of, underline_role, ElementStyle, cell_at, row_at}
+use Rattle.snippet_strokes.proofs.Common.{is_primary, LineAnnotationType, Singleline, MultilineStart, MultilineEnd, MultilineLine, contains-here}
+use Rattle.snippet_strokes.proofs.Common.{contains-there, Layout, PlacedEntry, stroke_role, Write, glyph_at, painted, stretch_of, Solid, Bar, column_of}
+use Rattle.snippet_strokes.proofs.Common.{corner_of, label_of, bar_cell_part, first_glyph, mark_end, connectors_of, corners_of, labels_of, stems_of}
 use Rattle.std.specs.Prelude.{nat_lt}
-use Rattle.std.specs.List.{flat_map, list_any, range_with_len}
-use Rattle.std.proofs.lemmas.Bool.{both_ways, cases_Bool, cases_lt, eq-eqb, or_parts}
-use Rattle.std.proofs.lemmas.List.Concat.{flat_map-append}
-use Rattle.std.proofs.lemmas.List.Elements.{All-append, All-cons, All-nil, All-weaker}
-use Rattle.snippet_style.specs.Cell.{Cell, SPACE, unlinked_cell}
-use Rattle.snippet_style.specs.Glyphs.{strokes_of, underline_role}
-use Rattle.snippet_style.specs.declared.role.ElementStyle.{ElementStyle}
-use Rattle.snippet_grid.specs.Grid.{cell_at, row_at}
-use Rattle.snippet_model.specs.AnnotationKind.{is_primary}
-use Rattle.snippet_parts.specs.declared.entries.LineAnnotationType.{LineAnnotationType}
-use Rattle.snippet_parts.specs.declared.entries.LineAnnotationType.TheVariants.{Singleline, MultilineStart, MultilineEnd, MultilineLine}
-use Rattle.snippet_parts.proofs.ShownFacts.{contains-here, contains-there}
-use Rattle.snippet_grid.specs.Layout.{Layout}
-use Rattle.snippet_labels.specs.declared.positions.PlacedEntry.{PlacedEntry}
-use Rattle.snippet_strokes.specs.Painting.{stroke_role}
-use Rattle.snippet_strokes.specs.Writes.{Write, glyph_at, painted, stretch_of}
 use Rattle.snippet_strokes.proofs.OneStep.{written_by}
 use Rattle.snippet_strokes.proofs.WriteLemmas.{painted-append}
-use Rattle.snippet_strokes.specs.declared.bars.BarStroke.TheVariants.{Solid}
-use Rattle.snippet_strokes.specs.Bars.{Bar}
 use Rattle.snippet_strokes.proofs.BarFacts.{end_corner, start_corner}
 use Rattle.snippet_strokes.proofs.Reach.{Reaches}
-use Rattle.snippet_strokes.specs.Strokes.{column_of, corner_of, label_of}
-use Rattle.snippet_strokes.specs.DrawnBars.{bar_cell_part}
-use Rattle.snippet_strokes.specs.PaintedStrokes.{first_glyph, mark_end, connectors_of, corners_of, labels_of}
 use Rattle.snippet_strokes.proofs.StrokeWords.{corner_by, bar_writes}
 use Rattle.snippet_strokes.proofs.Drawn.{drawn_mark, drawn_strokes, marks_of}
-use Rattle.snippet_strokes.specs.DrawnStems.{stems_of}
 use Rattle.snippet_strokes.proofs.BarWrites.{All-column_of, All-stretch_of}
 use Rattle.snippet_strokes.proofs.LabelWrites.{All-label_of}
 use Rattle.snippet_strokes.proofs.StemWrites.{All-stems_of, All-stem_of}

@@ -1,24 +1,10 @@
 -- A mark that is drawn from its first glyph on is its underline, and over it the glyph of its own.
-use Rattle.std.proofs.Common.{◌≡◌, ℕ, suc, ◌+◌, ◌-◌, ◌<◌, ◌≤◌, ◌==◌, ◌&&◌, ◌||◌, nat_le, cond, Bool, true, false, List, [], ◌∷◌, ◌++◌, replicate}
-use Rattle.std.proofs.Common.{inl, inr, refl, sym, ap, ◌∙◌, arith}
-use Rattle.std.specs.List.{flat_map}
-use Rattle.std.proofs.lemmas.Bool.{cases_Bool, cases_lt, or_parts}
-use Rattle.std.proofs.lemmas.Bool.Decides.{nat_tests}
-use Rattle.std.proofs.lemmas.List.{places, same_lists}
-use Rattle.snippet_grid.proofs.GridLemmas.{row_at-cells_written_same}
-use Rattle.snippet_grid.specs.Grid.{cells_written, row_at}
-use Rattle.snippet_grid.specs.Layout.{Layout}
-use Rattle.snippet_labels.specs.declared.positions.PlacedEntry.{PlacedEntry}
-use Rattle.snippet_labels.specs.Positions.{has_stem, takes_space}
-use Rattle.snippet_model.specs.AnnotationKind.{is_primary}
-use Rattle.snippet_style.specs.Cell.{Cell, SPACE, text_cells, written}
-use Rattle.snippet_style.specs.Glyphs.{strokes_of}
-use Rattle.snippet_style.specs.declared.glyphs.Strokes.{Strokes}
-use Rattle.snippet_style.specs.declared.role.ElementStyle.{ElementStyle}
-use Rattle.snippet_strokes.specs.Painting.{mark_of, stroke_role}
-use Rattle.snippet_strokes.specs.PaintedStrokes.{first_glyph, mark_end}
+use Rattle.snippet_strokes.proofs.Common.{◌≡◌, ℕ, suc, ◌+◌, ◌-◌, ◌<◌, ◌≤◌, ◌==◌, ◌&&◌, ◌||◌, nat_le, cond, Bool, true}
+use Rattle.snippet_strokes.proofs.Common.{false, List, [], ◌∷◌, ◌++◌, replicate, inl, inr, refl, sym, ap, ◌∙◌, arith, flat_map, cases_Bool}
+use Rattle.snippet_strokes.proofs.Common.{cases_lt, or_parts, nat_tests, places, same_lists, row_at-cells_written_same, cells_written, row_at, Layout}
+use Rattle.snippet_strokes.proofs.Common.{PlacedEntry, has_stem, takes_space, is_primary, Cell, SPACE, text_cells, written, strokes_of, Strokes, ElementStyle}
+use Rattle.snippet_strokes.proofs.Common.{mark_of, stroke_role, first_glyph, mark_end, Write, glyph_at, painted, stretch_of}
 use Rattle.snippet_strokes.proofs.Drawn.{drawn_mark}
-use Rattle.snippet_strokes.specs.Writes.{Write, glyph_at, painted, stretch_of}
 use Rattle.snippet_strokes.proofs.EveryStem.{rewritten}
 use Rattle.snippet_strokes.proofs.WriteLemmas.{drawn_mark-none, less, painted-append, stretch_of-none}
 

@@ -1,24 +1,9 @@
 -- The stem of an entry that the next one's covers leaves nothing of its own: to draw all stems is to draw those that none covers.
-use Rattle.std.proofs.Common.{◌≡◌, ℕ, zero, suc, ◌+◌, ◌-◌, ◌<◌, ◌≤◌, ◌==◌, ◌&&◌, nat_le, cond, true, List, [], ◌∷◌, ◌++◌, map}
-use Rattle.std.proofs.Common.{inl, inr, refl, sym, ap, ◌∙◌, arith, All}
-use Rattle.std.specs.List.{flat_map, range_with_len}
-use Rattle.std.proofs.lemmas.Bool.{and_parts, cases_Bool, eqb-true, leb-true}
-use Rattle.std.proofs.lemmas.List.{places, same_lists}
-use Rattle.std.proofs.lemmas.List.Elements.{All-cons, All-nil}
-use Rattle.snippet_grid.proofs.GridLemmas.{row_at-cells_written_same}
-use Rattle.snippet_grid.specs.Grid.{cells_written, row_at}
-use Rattle.snippet_grid.specs.Layout.{Layout, code_cell}
-use Rattle.snippet_labels.specs.declared.positions.PlacedEntry.{PlacedEntry}
-use Rattle.snippet_labels.specs.Positions.{has_stem}
-use Rattle.snippet_model.specs.AnnotationKind.{is_primary}
-use Rattle.snippet_style.specs.Cell.{Cell, SPACE, text_cells, written}
-use Rattle.snippet_style.specs.Glyphs.{strokes_of}
-use Rattle.snippet_style.specs.declared.role.ElementStyle.{ElementStyle}
-use Rattle.snippet_strokes.specs.DrawnStems.{is_stem_covered, stems_of}
-use Rattle.snippet_strokes.specs.Strokes.{stem_of}
-use Rattle.snippet_strokes.specs.PaintedStrokes.{foot_glyph}
-use Rattle.snippet_strokes.specs.Painting.{stroke_role}
-use Rattle.snippet_strokes.specs.Writes.{Write, glyph_at, painted}
+use Rattle.snippet_strokes.proofs.Common.{◌≡◌, ℕ, zero, suc, ◌+◌, ◌-◌, ◌<◌, ◌≤◌, ◌==◌, ◌&&◌, nat_le, cond, true, List, []}
+use Rattle.snippet_strokes.proofs.Common.{◌∷◌, ◌++◌, map, inl, inr, refl, sym, ap, ◌∙◌, arith, All, flat_map, range_with_len, and_parts}
+use Rattle.snippet_strokes.proofs.Common.{cases_Bool, eqb-true, leb-true, places, same_lists, All-cons, All-nil, row_at-cells_written_same, cells_written}
+use Rattle.snippet_strokes.proofs.Common.{row_at, Layout, code_cell, PlacedEntry, has_stem, is_primary, Cell, SPACE, text_cells, written, strokes_of}
+use Rattle.snippet_strokes.proofs.Common.{ElementStyle, is_stem_covered, stems_of, stem_of, foot_glyph, stroke_role, Write, glyph_at, painted}
 use Rattle.snippet_strokes.proofs.OneStep.{written_by}
 use Rattle.snippet_strokes.proofs.RowsSwapped.{move_rows}
 use Rattle.snippet_strokes.proofs.StrokeWords.{stem_write}

@@ -1,15 +1,8 @@
 -- The strokes of a line, as the rule names them, are those that the code draws.
-use Rattle.std.proofs.Common.{◌≡◌, ◌∙◌, ℕ, ◌+◌, ◌++◌, List, [], ◌∷◌, ap, refl, sym}
-use Rattle.std.specs.List.{flat_map}
-use Rattle.snippet_grid.specs.Layout.{Layout}
-use Rattle.snippet_labels.specs.declared.positions.PlacedEntry.{PlacedEntry}
-use Rattle.snippet_style.specs.Cell.{Cell}
-use Rattle.snippet_strokes.specs.Painting.{mark_of}
-use Rattle.snippet_strokes.specs.Strokes.{connector_of, corner_of, label_of, line_strokes, stem_of}
-use Rattle.snippet_strokes.specs.PaintedStrokes.{connectors_of, corners_of, labels_of, strokes_under_marks}
+use Rattle.snippet_strokes.proofs.Common.{◌≡◌, ◌∙◌, ℕ, ◌+◌, ◌++◌, List, [], ◌∷◌, ap, refl, sym, flat_map, Layout, PlacedEntry, Cell}
+use Rattle.snippet_strokes.proofs.Common.{mark_of, connector_of, corner_of, label_of, line_strokes, stem_of, connectors_of, corners_of, labels_of}
+use Rattle.snippet_strokes.proofs.Common.{strokes_under_marks, stems_of, Write, painted}
 use Rattle.snippet_strokes.proofs.Drawn.{drawn_mark, drawn_strokes, drawn_under_marks}
-use Rattle.snippet_strokes.specs.DrawnStems.{stems_of}
-use Rattle.snippet_strokes.specs.Writes.{Write, painted}
 use Rattle.snippet_strokes.proofs.EveryMark.{every_mark}
 use Rattle.snippet_strokes.proofs.EveryStem.{stems_painted}
 use Rattle.snippet_strokes.proofs.WriteLemmas.{painted-append}

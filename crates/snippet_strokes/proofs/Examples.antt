@@ -1,24 +1,10 @@
 -- The definitions, computed on small inputs.
-use Rattle.std.proofs.Common.{◌≡◌, ℕ, ◌==◌, true, false, None, List, [], ◌∷◌, ◌++◌, codes, refl}
-use Rattle.std.specs.List.{list_any}
-use Rattle.snippet_lines.specs.OrderedBy.{ordered_by}
-use Rattle.snippet_model.specs.declared.snippet.AnnotationKind.{AnnotationKind}
-use Rattle.snippet_model.specs.declared.snippet.AnnotationKind.TheVariants.{Primary, Context}
-use Rattle.snippet_grid.specs.Grid.{replaced_within}
-use Rattle.snippet_style.specs.Cell.{text_cells}
-use Rattle.snippet_style.specs.Glyphs.{char_of, placeholder_of}
-use Rattle.snippet_style.specs.declared.glyphs.DecorStyle.TheVariants.{Ascii, Unicode}
-use Rattle.snippet_style.specs.declared.role.ElementStyle.TheVariants.{LineNumber, Quotation}
-use Rattle.snippet_parts.specs.declared.entries.LineAnnotation.{LineAnnotation}
-use Rattle.snippet_parts.specs.declared.entries.LineAnnotationType.TheVariants.{Singleline}
-use Rattle.snippet_labels.specs.declared.positions.PlacedEntry.{PlacedEntry}
-use Rattle.snippet_strokes.specs.Cuts.{overlapped}
+use Rattle.snippet_strokes.proofs.Common.{◌≡◌, ℕ, ◌==◌, true, false, None, List, [], ◌∷◌, ◌++◌, codes, refl, list_any, ordered_by}
+use Rattle.snippet_strokes.proofs.Common.{AnnotationKind, Primary, Context, replaced_within, text_cells, char_of, placeholder_of, Ascii, Unicode, LineNumber}
+use Rattle.snippet_strokes.proofs.Common.{Quotation, LineAnnotation, Singleline, PlacedEntry, overlapped, stroke_glyphs, painting_order, is_placed_before}
+use Rattle.snippet_strokes.proofs.Common.{Layout}
 use Rattle.snippet_strokes.proofs.CutWords.{cut_of}
 use Rattle.snippet_strokes.proofs.StrokeWords.{cut_row}
-use Rattle.snippet_strokes.specs.Labels.{stroke_glyphs}
-use Rattle.snippet_strokes.specs.Painting.{painting_order}
-use Rattle.snippet_labels.specs.Positions.{is_placed_before}
-use Rattle.snippet_grid.specs.Layout.{Layout}
 
 -- an entry of these columns, each of one character
 abbrev pub entry : AnnotationKind → ℕ → ℕ → LineAnnotation

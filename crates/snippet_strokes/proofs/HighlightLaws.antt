@@ -1,23 +1,12 @@
 -- Rows of which one is highlighted, entry by entry.
-use Rattle.std.proofs.Common.{◌≡◌, ℕ, ◌+◌, ◌-◌, ◌<◌, ◌≤◌, ◌&&◌, ◌||◌, cond, Bool, true, false, List, [], ◌∷◌, ◌++◌, filter, get_or, length, max, nat_le, nat_lt}
-use Rattle.std.proofs.Common.{not, take, refl, sym, ap, ◌∙◌, arith, inl, inr}
-use Rattle.std.specs.List.{list_any}
-use Rattle.std.proofs.lemmas.Bool.{and_from, and_left, and_right, cases_Bool, cases_eq, cases_lt, cond-false, cond-true, le-leb, le-ltb, lt-leb, lt-ltb}
-use Rattle.std.proofs.lemmas.Bool.Decides.{nat_tests}
-use Rattle.std.proofs.lemmas.List.{append-nil, ext_get_or, get_or_append_left, get_or_past, get_or_push, length_push, take_more}
-use Rattle.std.proofs.lemmas.List.Elements.{filter-append}
-use Rattle.std.proofs.lemmas.List.Folds.{list_any-append}
-use Rattle.snippet_grid.specs.Grid.{changed_within, restyled, row_at}
-use Rattle.snippet_grid.specs.Calls.{cells_changed, cells_restyled}
-use Rattle.snippet_grid.proofs.ChangeLemmas.{length-changed_within, slice_index_or-changed_within_after, slice_index_or-changed_within_before}
-use Rattle.snippet_grid.proofs.ChangeLemmas.{slice_index_or-changed_within_inside}
-use Rattle.snippet_labels.specs.PlacedEntries.{is_end_part}
-use Rattle.snippet_model.specs.AnnotationKind.{is_primary}
-use Rattle.snippet_parts.specs.declared.entries.LineAnnotation.{LineAnnotation}
-use Rattle.snippet_style.specs.Cell.{Cell, SPACE, gives_way}
-use Rattle.snippet_style.specs.Glyphs.{underline_role}
-use Rattle.snippet_style.specs.declared.role.ElementStyle.TheVariants.{UnderlinePrimary, UnderlineSecondary}
-use Rattle.snippet_strokes.specs.StrokeRows.{highlighted_row, highlights}
+use Rattle.snippet_strokes.proofs.Common.{◌≡◌, ℕ, ◌+◌, ◌-◌, ◌<◌, ◌≤◌, ◌&&◌, ◌||◌, cond, Bool, true, false, List, []}
+use Rattle.snippet_strokes.proofs.Common.{◌∷◌, ◌++◌, filter, get_or, length, max, nat_le, nat_lt, not, take, refl, sym, ap, ◌∙◌, arith, inl}
+use Rattle.snippet_strokes.proofs.Common.{inr, list_any, and_from, and_left, and_right, cases_Bool, cases_eq, cases_lt, cond-false, cond-true, le-leb, le-ltb}
+use Rattle.snippet_strokes.proofs.Common.{lt-leb, lt-ltb, nat_tests, append-nil, ext_get_or, get_or_append_left, get_or_past, get_or_push, length_push}
+use Rattle.snippet_strokes.proofs.Common.{take_more, filter-append, list_any-append, changed_within, restyled, row_at, cells_changed, cells_restyled}
+use Rattle.snippet_strokes.proofs.Common.{length-changed_within, slice_index_or-changed_within_after, slice_index_or-changed_within_before}
+use Rattle.snippet_strokes.proofs.Common.{slice_index_or-changed_within_inside, is_end_part, is_primary, LineAnnotation, Cell, SPACE, gives_way, underline_role}
+use Rattle.snippet_strokes.proofs.Common.{UnderlinePrimary, UnderlineSecondary, highlighted_row, highlights}
 use Rattle.snippet_strokes.proofs.StrokeWords.{role_in_source}
 use Rattle.snippet_strokes.proofs.LineFromValue.{highlighted_row_is}
 

@@ -1,26 +1,12 @@
 -- Marks, painted later, leave each label as it stands.
-use Rattle.std.proofs.Common.{◌≡◌, ℕ, zero, suc, ◌+◌, ◌<◌, ◌≤◌, ◌==◌, ◌&&◌, ◌||◌, nat_le, nat_lt, cond, Bool, true, false, List, [], ◌∷◌, length, map, get_or}
-use Rattle.std.proofs.Common.{refl, sym, ap, ◌∙◌, subst, arith, inl, inr, ◌⊎◌, All, not}
-use Rattle.std.specs.List.{list_any}
-use Rattle.std.proofs.lemmas.Bool.{cases_lt, cases_eq, eq-eqb}
-use Rattle.std.proofs.lemmas.Bool.Decides.{nat_tests}
-use Rattle.std.proofs.lemmas.List.Elements.{All-cons, All-nil, All-weaker}
-use Rattle.snippet_style.proofs.CellLemmas.{length-chars_le}
-use Rattle.snippet_parts.specs.declared.entries.LineAnnotation.{LineAnnotation}
-use Rattle.snippet_grid.specs.Layout.{Layout}
-use Rattle.snippet_labels.specs.declared.positions.PlacedEntry.{PlacedEntry}
-use Rattle.snippet_labels.specs.Positions.{has_label, do_overlap, ends_no_later, blocks, crosses, position_at, position_after, positions}
-use Rattle.snippet_labels.specs.Positions.{label_place, has_stem, is_same_place, is_start_part, takes_space}
-use Rattle.std.proofs.lemmas.List.{get_or-map, length-map}
-use Rattle.std.proofs.lemmas.List.Folds.{list_all_at}
-use Rattle.std.proofs.lemmas.List.Sorted.{All-permutation}
-use Rattle.snippet_style.specs.Cell.{Cell, SPACE}
-use Rattle.snippet_grid.specs.Grid.{cell_at}
-use Rattle.snippet_strokes.specs.PaintedStrokes.{mark_end}
-use Rattle.snippet_labels.specs.Placing.{HasPlace, HasItsLabel, ArePlaced}
+use Rattle.snippet_strokes.proofs.Common.{◌≡◌, ℕ, zero, suc, ◌+◌, ◌<◌, ◌≤◌, ◌==◌, ◌&&◌, ◌||◌, nat_le, nat_lt, cond, Bool}
+use Rattle.snippet_strokes.proofs.Common.{true, false, List, [], ◌∷◌, length, map, get_or, refl, sym, ap, ◌∙◌, subst, arith, inl, inr, ◌⊎◌}
+use Rattle.snippet_strokes.proofs.Common.{All, not, list_any, cases_lt, cases_eq, eq-eqb, nat_tests, All-cons, All-nil, All-weaker, length-chars_le}
+use Rattle.snippet_strokes.proofs.Common.{LineAnnotation, Layout, PlacedEntry, has_label, do_overlap, ends_no_later, blocks, crosses, position_at}
+use Rattle.snippet_strokes.proofs.Common.{position_after, positions, label_place, has_stem, is_same_place, is_start_part, takes_space, get_or-map, length-map}
+use Rattle.snippet_strokes.proofs.Common.{list_all_at, All-permutation, Cell, SPACE, cell_at, mark_end, HasPlace, HasItsLabel, ArePlaced, length-positions}
+use Rattle.snippet_strokes.proofs.Common.{crowds, flipped, is_start, label_text}
 use Rattle.snippet_strokes.proofs.PaintedMarks.{AreMarked, IsPaintedAt, StandsWhole}
-use Rattle.snippet_labels.proofs.PlacedLemmas.{length-positions}
-use Rattle.snippet_labels.proofs.LabelWords.{crowds, flipped, is_start, label_text}
 
 -- a position is no lower than the one reached, and so no lower than those before it
 at_least : (p : ℕ) (e : PlacedEntry) (others : List PlacedEntry) → p ≤ position_at p e others

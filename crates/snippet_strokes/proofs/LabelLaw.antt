@@ -1,27 +1,15 @@
 -- No label is lost: the labels of two entries share no cell.
-use Rattle.std.proofs.Common.{◌≡◌, ℕ, ◌+◌, ◌<◌, ◌≤◌, ◌==◌, ◌&&◌, ◌||◌, cond, Bool, true, false, List, [], ◌∷◌, ◌++◌, length, get_or, take, drop, refl, sym, ap}
-use Rattle.std.proofs.Common.{◌∙◌, subst, arith, inl, inr, All}
-use Rattle.std.specs.List.{flat_map}
-use Rattle.snippet_parts.specs.declared.entries.LineAnnotation.{LineAnnotation}
-use Rattle.snippet_grid.specs.Layout.{Layout}
-use Rattle.snippet_labels.specs.declared.positions.PlacedEntry.{PlacedEntry}
-use Rattle.snippet_labels.specs.PlacedEntries.{label_role}
-use Rattle.snippet_labels.specs.Positions.{has_label, do_overlap, ends_no_later, blocks, reaches, label_place}
+use Rattle.snippet_strokes.proofs.Common.{◌≡◌, ℕ, ◌+◌, ◌<◌, ◌≤◌, ◌==◌, ◌&&◌, ◌||◌, cond, Bool, true, false, List, []}
+use Rattle.snippet_strokes.proofs.Common.{◌∷◌, ◌++◌, length, get_or, take, drop, refl, sym, ap, ◌∙◌, subst, arith, inl, inr, All, flat_map}
+use Rattle.snippet_strokes.proofs.Common.{LineAnnotation, Layout, PlacedEntry, label_role, has_label, do_overlap, ends_no_later, blocks, reaches, label_place}
+use Rattle.snippet_strokes.proofs.Common.{label_of, labels_of, HasPlace, HasItsLabel, ArePlaced, drop_more, take-append-drop, length-drop, get_or-drop}
+use Rattle.snippet_strokes.proofs.Common.{flat_map-append, Cell, unlinked_cell, cell_at, Write, painted, crowds, label_text}
 use Rattle.snippet_strokes.proofs.Reach.{Reaches}
-use Rattle.snippet_strokes.specs.Strokes.{label_of}
-use Rattle.snippet_strokes.specs.PaintedStrokes.{labels_of}
-use Rattle.snippet_labels.specs.Placing.{HasPlace, HasItsLabel, ArePlaced}
 use Rattle.snippet_strokes.proofs.StrokeWords.{label_write}
-use Rattle.std.proofs.lemmas.List.{drop_more, take-append-drop, length-drop, get_or-drop}
-use Rattle.std.proofs.lemmas.List.Concat.{flat_map-append}
-use Rattle.snippet_style.specs.Cell.{Cell, unlinked_cell}
-use Rattle.snippet_grid.specs.Grid.{cell_at}
-use Rattle.snippet_strokes.specs.Writes.{Write, painted}
 use Rattle.snippet_strokes.proofs.PaintedMarks.{StandsWhole}
 use Rattle.snippet_strokes.proofs.LabelWrites.{All-label_of}
 use Rattle.snippet_strokes.proofs.WriteLaws.{All-flat_map, painted-last}
 use Rattle.snippet_strokes.proofs.LabelKept.{apart, label_chars_le, label_parts, labelled_positions, position_of, stands_left, uncrowded}
-use Rattle.snippet_labels.proofs.LabelWords.{crowds, label_text}
 
 pub uncrowded_apart : (p : ℕ) (e f : PlacedEntry) → crowds p e f ≡ false → has_label e ≡ true → has_label f ≡ true
     → f.entry.start.display ≤ e.entry.start.display → f.entry.end.display + (length f.label + 2) ≤ e.entry.start.display

@@ -1,33 +1,20 @@
 -- The labels of entries, in the order in which the entries are given.
-use Rattle.std.proofs.Common.{◌≡◌, ℕ, suc, ◌+◌, ◌<◌, ◌≤◌, ◌==◌, ◌&&◌, nat_le, nat_lt, not, max, cond, Bool, true, false, List, [], ◌∷◌, length, map, get_or}
-use Rattle.std.proofs.Common.{set, refl, sym, ap, subst, ◌∙◌, arith, inl, inr, ◌⊎◌, All, chars, count_by}
-use Rattle.std.specs.List.{swap}
-use Rattle.std.specs.List.Sorted.{IsPermutation}
-use Rattle.std.proofs.lemmas.Bool.{and_parts, cases_Bool, eq-eqb, false≢true}
-use Rattle.std.proofs.lemmas.Bool.Decides.{nat_tests}
-use Rattle.std.proofs.lemmas.List.{get_or-map, map-set}
-use Rattle.std.proofs.lemmas.List.Elements.{All-cons, All-map, All-nil}
-use Rattle.std.proofs.lemmas.List.Sorted.{All-permutation, IsPermutation-keeps, IsPermutation-refl, IsPermutation-swap, IsPermutation-sym, IsPermutation-trans}
-use Rattle.std.proofs.lemmas.List.Sorted.{sum_by-IsPermutation}
-use Rattle.std.proofs.lemmas.List.Sums.{sum_by-cons}
-use Rattle.snippet_grid.specs.Grid.{cell_at}
-use Rattle.snippet_style.specs.Cell.{Cell, SPACE}
-use Rattle.snippet_parts.specs.declared.entries.LineAnnotation.{LineAnnotation}
-use Rattle.snippet_grid.specs.Layout.{Layout}
-use Rattle.snippet_labels.specs.declared.positions.PlacedEntry.{PlacedEntry}
-use Rattle.snippet_labels.proofs.LabelWords.{label_text}
-use Rattle.snippet_strokes.specs.Labels.{IsStemCell, IsStrokeCell}
+use Rattle.snippet_strokes.proofs.Common.{◌≡◌, ℕ, suc, ◌+◌, ◌<◌, ◌≤◌, ◌==◌, ◌&&◌, nat_le, nat_lt, not, max, cond, Bool, true}
+use Rattle.snippet_strokes.proofs.Common.{false, List, [], ◌∷◌, length, map, get_or, set, refl, sym, ap, subst, ◌∙◌, arith, inl, inr, ◌⊎◌}
+use Rattle.snippet_strokes.proofs.Common.{All, count_by, swap, IsPermutation, and_parts, cases_Bool, eq-eqb, false≢true, nat_tests, get_or-map, map-set}
+use Rattle.snippet_strokes.proofs.Common.{All-cons, All-map, All-nil, All-permutation, IsPermutation-keeps, IsPermutation-refl, IsPermutation-swap}
+use Rattle.snippet_strokes.proofs.Common.{IsPermutation-sym, IsPermutation-trans, sum_by-IsPermutation, sum_by-cons, cell_at, Cell, SPACE, LineAnnotation}
+use Rattle.snippet_strokes.proofs.Common.{Layout, PlacedEntry, label_text, IsStemCell, IsStrokeCell, has_label, label_place, HasPlace, ArePlaced, HasItsLabel}
+use Rattle.snippet_strokes.proofs.Common.{count-map}
+use Rattle.std.proofs.Common.{chars}
 use Rattle.snippet_strokes.proofs.SeenLabels.{IsLedTo, LabelsStand, PlacedLabel, StandsIn, is_cell_of}
 use Rattle.snippet_strokes.proofs.PaintedMarks.{StandsWhole}
-use Rattle.snippet_labels.specs.Positions.{has_label, label_place}
-use Rattle.snippet_labels.specs.Placing.{HasPlace, ArePlaced, HasItsLabel}
 use Rattle.snippet_strokes.proofs.StrokeWords.{label_write}
 use Rattle.snippet_strokes.proofs.Reach.{Reaches}
 use Rattle.snippet_strokes.proofs.StrokeCells.{BesideLabels}
 use Rattle.snippet_strokes.proofs.StemCells.{IsHung}
 use Rattle.snippet_strokes.proofs.LabelKept.{label_parts}
 use Rattle.snippet_strokes.proofs.LabelLaw.{placed_apart}
-use Rattle.snippet_parts.proofs.EntryFacts.{count-map}
 
 -- ---- what a rule gives for things in another order
 

@@ -1,24 +1,10 @@
 -- The writes of labels.
-use Rattle.std.proofs.Common.{◌≡◌, ℕ, ◌+◌, ◌<◌, cond, true, false, List, [], ◌∷◌, ◌++◌, length, get_or, refl, sym, ap, ◌∙◌, subst, arith, inl, inr, All}
-use Rattle.std.proofs.lemmas.Bool.{cases_Bool}
-use Rattle.std.proofs.lemmas.List.Elements.{All-cons, All-nil}
-use Rattle.snippet_model.specs.declared.snippet.AnnotationKind.{AnnotationKind}
-use Rattle.snippet_model.specs.declared.snippet.AnnotationKind.TheVariants.{Primary, Context, Visible}
-use Rattle.snippet_style.specs.Cell.{Cell, text_cells, unlinked_cell}
-use Rattle.snippet_grid.specs.Grid.{cells_written}
-use Rattle.snippet_grid.specs.Layout.{Layout}
-use Rattle.snippet_labels.specs.declared.positions.PlacedEntry.{PlacedEntry}
-use Rattle.snippet_labels.specs.PlacedEntries.{label_role}
-use Rattle.snippet_labels.proofs.LabelWords.{label_text}
-use Rattle.snippet_strokes.specs.EntryMarks.{is_mark_role}
-use Rattle.snippet_strokes.specs.Places.{HasRows}
+use Rattle.snippet_strokes.proofs.Common.{◌≡◌, ℕ, ◌+◌, ◌<◌, cond, true, false, List, [], ◌∷◌, ◌++◌, length, get_or, refl, sym, ap}
+use Rattle.snippet_strokes.proofs.Common.{◌∙◌, subst, arith, inl, inr, All, cases_Bool, All-cons, All-nil, AnnotationKind, Primary, Context, Visible}
+use Rattle.snippet_strokes.proofs.Common.{Cell, text_cells, unlinked_cell, cells_written, Layout, PlacedEntry, label_role, label_text, is_mark_role, HasRows}
+use Rattle.snippet_strokes.proofs.Common.{has_label, Write, painted, label_of, labels_of, HasPlace}
 use Rattle.snippet_strokes.proofs.DrawnCells.{DrawsFrom, MarksStarts, StandsFrom}
-use Rattle.snippet_labels.specs.Positions.{has_label}
-use Rattle.snippet_strokes.specs.Writes.{Write, painted}
 use Rattle.snippet_strokes.proofs.Reach.{Reaches, IsWithin, cell_of_write}
-use Rattle.snippet_strokes.specs.Strokes.{label_of}
-use Rattle.snippet_strokes.specs.PaintedStrokes.{labels_of}
-use Rattle.snippet_labels.specs.Placing.{HasPlace}
 use Rattle.snippet_strokes.proofs.StrokeWords.{label_write}
 use Rattle.snippet_strokes.proofs.PositionLemmas.{label_beside, label_column, label_stands}
 use Rattle.snippet_strokes.proofs.TextLemmas.{free_label_text}

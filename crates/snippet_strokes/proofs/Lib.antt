@@ -1,3 +1,4 @@
+pub mod Common
 pub mod AmongLaws
 pub mod SwapLemmas
 pub mod BarFacts

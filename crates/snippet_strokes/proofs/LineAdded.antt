@@ -1,27 +1,11 @@
 -- The rows of lines, drawn below those that are there.
-use Rattle.std.proofs.Common.{◌≡◌, ℕ, ◌+◌, ◌<◌, ◌==◌, ◌&&◌, ◌++◌, ◌∷◌, [], All, Bool, true, false, List, chars, drop, get_or, length, map, refl, sym, ap, ◌∙◌}
-use Rattle.std.proofs.Common.{arith}
-use Rattle.std.proofs.lemmas.Bool.Decides.{nat_tests}
-use Rattle.std.proofs.lemmas.List.{append_assoc, drop_more, get_or_push, length-drop}
-use Rattle.snippet_lines.specs.Number.{shown_number}
-use Rattle.snippet_parts.specs.declared.entries.AnnotatedLineInfo.{AnnotatedLineInfo}
-use Rattle.snippet_parts.specs.declared.entries.LineAnnotation.{LineAnnotation}
-use Rattle.snippet_style.specs.Cell.{Cell}
-use Rattle.snippet_text.specs.Normalized.{norm}
-use Rattle.snippet_text.specs.Width.{width_of}
-use Rattle.snippet_window.specs.Window.{dropped_part}
-use Rattle.snippet_grid.specs.Grid.{changed_within, row_at}
-use Rattle.snippet_grid.specs.Layout.{Layout}
-use Rattle.snippet_strokes.specs.declared.bars.BarStroke.TheVariants.{Solid, Top}
-use Rattle.snippet_strokes.specs.declared.bars.OpenBar.{OpenBar}
-use Rattle.snippet_strokes.specs.declared.snippet.LineView.{LineView}
-use Rattle.snippet_strokes.specs.Bars.{bars_apart, ends_of_bars}
+use Rattle.snippet_strokes.proofs.Common.{◌≡◌, ℕ, ◌+◌, ◌<◌, ◌==◌, ◌&&◌, ◌++◌, ◌∷◌, [], All, Bool, true, false, List, drop}
+use Rattle.snippet_strokes.proofs.Common.{get_or, length, map, refl, sym, ap, ◌∙◌, arith, nat_tests, append_assoc, drop_more, get_or_push, length-drop}
+use Rattle.snippet_strokes.proofs.Common.{shown_number, AnnotatedLineInfo, LineAnnotation, Cell, norm, width_of, dropped_part, changed_within, row_at, Layout}
+use Rattle.snippet_strokes.proofs.Common.{Solid, Top, OpenBar, LineView, bars_apart, ends_of_bars, own_rows, gap_rows, info_rows, infos_rows, HasBarRoom}
+use Rattle.snippet_strokes.proofs.Common.{barred, is_whole_line, open_below, source_row, window_cells, highlighted_row}
+use Rattle.std.proofs.Common.{chars}
 use Rattle.snippet_strokes.proofs.BarParts.{with_parts}
-use Rattle.snippet_strokes.specs.LineRows.{own_rows}
-use Rattle.snippet_strokes.specs.InfoRows.{gap_rows, info_rows, infos_rows}
-use Rattle.snippet_strokes.specs.DrawnBars.{HasBarRoom, barred, is_whole_line, open_below}
-use Rattle.snippet_strokes.specs.SourceRows.{source_row, window_cells}
-use Rattle.snippet_strokes.specs.StrokeRows.{highlighted_row}
 use Rattle.snippet_strokes.proofs.BarRows.{barred-below}
 use Rattle.snippet_strokes.proofs.BesideLemmas.{lit_bars}
 use Rattle.snippet_strokes.proofs.HighlightLaws.{asking, changed_last}

@@ -1,20 +1,9 @@
 -- The rows of lines, computed on small inputs. Each row is written out by hand from the rules of drawing.
-use Rattle.std.proofs.Common.{◌≡◌, ℕ, true, false, Option, None, Some, List, [], ◌∷◌, ◌++◌, codes, refl}
+use Rattle.snippet_strokes.proofs.Common.{◌≡◌, ℕ, true, false, Option, None, Some, List, [], ◌∷◌, ◌++◌, codes, refl, AnnotationKind, Primary}
+use Rattle.snippet_strokes.proofs.Common.{Context, norm, Cell, text_cells, written, Ascii, LabelPrimary, LabelSecondary, LineNumber, NoStyle, Quotation}
+use Rattle.snippet_strokes.proofs.Common.{UnderlinePrimary, UnderlineSecondary, LineAnnotation, LineAnnotationType, Singleline, MultilineStart, Layout}
+use Rattle.snippet_strokes.proofs.Common.{source_row, line_rows, highlighted_row}
 use Rattle.std.specs.Str.{chars}
-use Rattle.snippet_model.specs.declared.snippet.AnnotationKind.{AnnotationKind}
-use Rattle.snippet_model.specs.declared.snippet.AnnotationKind.TheVariants.{Primary, Context}
-use Rattle.snippet_text.specs.Normalized.{norm}
-use Rattle.snippet_style.specs.Cell.{Cell, text_cells, written}
-use Rattle.snippet_style.specs.declared.glyphs.DecorStyle.TheVariants.{Ascii}
-use Rattle.snippet_style.specs.declared.role.ElementStyle.TheVariants.{LabelPrimary, LabelSecondary, LineNumber, NoStyle, Quotation, UnderlinePrimary}
-use Rattle.snippet_style.specs.declared.role.ElementStyle.TheVariants.{UnderlineSecondary}
-use Rattle.snippet_parts.specs.declared.entries.LineAnnotation.{LineAnnotation}
-use Rattle.snippet_parts.specs.declared.entries.LineAnnotationType.{LineAnnotationType}
-use Rattle.snippet_parts.specs.declared.entries.LineAnnotationType.TheVariants.{Singleline, MultilineStart}
-use Rattle.snippet_grid.specs.Layout.{Layout}
-use Rattle.snippet_strokes.specs.SourceRows.{source_row}
-use Rattle.snippet_strokes.specs.LineRows.{line_rows}
-use Rattle.snippet_strokes.specs.StrokeRows.{highlighted_row}
 
 -- an entry of these columns, each of one character
 abbrev entry : AnnotationKind → ℕ → ℕ → Option (List ℕ) → LineAnnotationType → LineAnnotation

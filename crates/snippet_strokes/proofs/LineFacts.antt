@@ -1,42 +1,17 @@
 -- What is known of the rows of a line, by which laws are proved. LineFromValue has it of the rows that painters promise.
-use Rattle.std.proofs.Common.{All, ◌≡◌, ◌≢◌, ℕ, ◌+◌, ◌<◌, ◌≤◌, ◌^◌, Bool, true, false, List, [], ◌∷◌, chars, drop, filter, length, map, not, take}
-use Rattle.std.specs.Prelude.{if◌then◌else◌}
-use Rattle.std.specs.List.{slice_index_or}
-use Rattle.snippet_lines.specs.Number.{shown_number}
-use Rattle.snippet_lines.specs.declared.number.LineNumbers.{LineNumbers}
-use Rattle.snippet_model.specs.FreeRows.{IsFree}
-use Rattle.snippet_parts.specs.Entries.{is_bar}
-use Rattle.snippet_parts.specs.declared.entries.AnnotatedLineInfo.{AnnotatedLineInfo}
-use Rattle.snippet_parts.specs.declared.entries.LineAnnotation.{LineAnnotation}
-use Rattle.snippet_style.specs.Cell.{Cell, SPACE, text_cells, unlinked_cell}
-use Rattle.snippet_style.specs.Glyphs.{separator_of}
-use Rattle.snippet_style.specs.Separators.{closing_row}
-use Rattle.snippet_style.specs.declared.role.ElementStyle.TheVariants.{LineNumber}
-use Rattle.snippet_text.specs.Normalized.{norm}
-use Rattle.snippet_text.specs.Width.{width_of}
-use Rattle.snippet_window.specs.Measures.{StandsClear}
-use Rattle.snippet_window.specs.Window.{dropped_part}
-use Rattle.snippet_window.specs.declared.margin.Margin.{Margin}
-use Rattle.snippet_grid.specs.Layout.{Layout, separator_cell}
-use Rattle.snippet_labels.specs.PlacedEntries.{is_end_part, shifted}
-use Rattle.snippet_labels.specs.declared.positions.PlacedEntry.{PlacedEntry}
-use Rattle.snippet_strokes.specs.declared.bars.BarStroke.TheVariants.{Solid, Top}
-use Rattle.snippet_strokes.specs.declared.bars.OpenBar.{OpenBar}
-use Rattle.snippet_strokes.specs.Bars.{bars_apart, ends_of_bars}
-use Rattle.snippet_strokes.specs.DrawnBars.{is_whole_line}
-use Rattle.snippet_labels.specs.Placing.{ArePlaced}
+use Rattle.snippet_strokes.proofs.Common.{All, ◌≡◌, ◌≢◌, ℕ, ◌+◌, ◌<◌, ◌≤◌, ◌^◌, Bool, true, false, List, [], ◌∷◌, drop}
+use Rattle.snippet_strokes.proofs.Common.{filter, length, map, not, take, if◌then◌else◌, slice_index_or, shown_number, LineNumbers, IsFree, is_bar}
+use Rattle.snippet_strokes.proofs.Common.{AnnotatedLineInfo, LineAnnotation, Cell, SPACE, text_cells, unlinked_cell, separator_of, closing_row, LineNumber}
+use Rattle.snippet_strokes.proofs.Common.{norm, width_of, StandsClear, dropped_part, Margin, Layout, separator_cell, is_end_part, shifted, PlacedEntry, Solid}
+use Rattle.snippet_strokes.proofs.Common.{Top, OpenBar, bars_apart, ends_of_bars, is_whole_line, ArePlaced, overlapped, AreDrawable, row_count, painting_order}
+use Rattle.snippet_strokes.proofs.Common.{source_row, window_cells, painted}
+use Rattle.std.proofs.Common.{chars}
 use Rattle.snippet_strokes.proofs.BarParts.{with_parts}
-use Rattle.snippet_strokes.specs.Cuts.{overlapped}
 use Rattle.snippet_strokes.proofs.StrokeWords.{cut_row}
 use Rattle.snippet_strokes.proofs.CutWords.{cuts_of}
-use Rattle.snippet_strokes.specs.Drawable.{AreDrawable}
-use Rattle.snippet_strokes.specs.Drawing.{row_count}
-use Rattle.snippet_strokes.specs.Painting.{painting_order}
-use Rattle.snippet_strokes.specs.SourceRows.{source_row, window_cells}
 use Rattle.snippet_strokes.proofs.StrokeWords.{role_in_source}
 use Rattle.snippet_strokes.proofs.Drawn.{drawn_strokes}
 use Rattle.snippet_strokes.proofs.StrokeWords.{begun_rows}
-use Rattle.snippet_strokes.specs.Writes.{painted}
 use Rattle.snippet_strokes.proofs.PlacedOf.{HasTextLabel}
 
 -- ---- the source row

@@ -1,51 +1,20 @@
 -- What is known of the rows of a line that painters promise, from the value alone: its source row, and the rows of its strokes.
-use Rattle.std.proofs.Common.{◌≡◌, ℕ, suc, ◌+◌, ◌-◌, ◌<◌, ◌≤◌, ◌^◌, Bool, false, List, [], ◌∷◌, ◌++◌, All, chars, drop, filter, get_or, length, map, not}
-use Rattle.std.proofs.Common.{take, refl, sym, ap, ◌∙◌, subst, arith, inl, inr}
-use Rattle.std.proofs.lemmas.Bool.{cases_lt, cond-false, cond-true, false≢true}
-use Rattle.std.proofs.lemmas.List.FromFn.{get_or-map-range_with_len, length-map-range_with_len}
-use Rattle.snippet_lines.specs.Number.{shown_number}
-use Rattle.snippet_lines.specs.declared.number.LineNumbers.{LineNumbers}
-use Rattle.snippet_lines.proofs.NumberLemmas.{shown_number_unlisted}
-use Rattle.snippet_model.specs.FreeRows.{IsFree}
-use Rattle.snippet_model.proofs.RowLemmas.{each_fails}
-use Rattle.snippet_parts.specs.Entries.{is_bar}
-use Rattle.snippet_parts.specs.declared.entries.AnnotatedLineInfo.{AnnotatedLineInfo}
-use Rattle.snippet_parts.specs.declared.entries.LineAnnotation.{LineAnnotation}
-use Rattle.snippet_style.specs.Cell.{Cell, SPACE}
-use Rattle.snippet_style.specs.Glyphs.{placeholder_of}
-use Rattle.snippet_style.specs.declared.glyphs.DecorStyle.{DecorStyle}
-use Rattle.snippet_text.specs.Normalized.{is_listed, norm}
-use Rattle.snippet_text.specs.Width.{char_width, width_of}
-use Rattle.snippet_text.proofs.NormLemmas.{list_any-norm}
-use Rattle.snippet_text.proofs.WidthBounds.{char_width-bound}
-use Rattle.snippet_window.specs.Measures.{StandsClear}
-use Rattle.snippet_window.specs.Window.{covered_columns, covered_end, dropped_part, inner_part, reaching, uncovered_part, window_left}
-use Rattle.snippet_window.specs.declared.margin.Margin.{Margin}
-use Rattle.snippet_window.proofs.LineWindowLemmas.{reaching-cons, reaching-none, width-cons}
-use Rattle.snippet_grid.specs.Layout.{Layout, inner_cell, separator_cell}
-use Rattle.snippet_labels.specs.PlacedEntries.{is_end_part, shifted}
-use Rattle.snippet_labels.specs.Positions.{placed_of}
-use Rattle.snippet_labels.specs.declared.positions.PlacedEntry.{PlacedEntry}
-use Rattle.snippet_strokes.specs.declared.bars.BarStroke.TheVariants.{Top}
-use Rattle.snippet_strokes.specs.declared.bars.OpenBar.{OpenBar}
-use Rattle.snippet_strokes.specs.declared.snippet.LineView.{LineView}
-use Rattle.snippet_strokes.specs.Bars.{ends_of_bars}
+use Rattle.snippet_strokes.proofs.Common.{◌≡◌, ℕ, suc, ◌+◌, ◌-◌, ◌<◌, ◌≤◌, ◌^◌, Bool, false, List, [], ◌∷◌, ◌++◌, All}
+use Rattle.snippet_strokes.proofs.Common.{drop, filter, get_or, length, map, not, take, refl, sym, ap, ◌∙◌, subst, arith, inl, inr, cases_lt, cond-false}
+use Rattle.snippet_strokes.proofs.Common.{cond-true, false≢true, get_or-map-range_with_len, length-map-range_with_len, shown_number, LineNumbers}
+use Rattle.snippet_strokes.proofs.Common.{shown_number_unlisted, IsFree, each_fails, is_bar, AnnotatedLineInfo, LineAnnotation, Cell, SPACE, placeholder_of}
+use Rattle.snippet_strokes.proofs.Common.{DecorStyle, is_listed, norm, char_width, width_of, list_any-norm, char_width-bound, StandsClear, covered_columns}
+use Rattle.snippet_strokes.proofs.Common.{covered_end, dropped_part, inner_part, reaching, uncovered_part, window_left, Margin, reaching-cons, reaching-none}
+use Rattle.snippet_strokes.proofs.Common.{width-cons, Layout, inner_cell, separator_cell, is_end_part, shifted, placed_of, PlacedEntry, Top, OpenBar, LineView}
+use Rattle.snippet_strokes.proofs.Common.{ends_of_bars, overlapped, row_count, line_rows, own_rows, painting_order, info_rows, is_whole_line, source_row}
+use Rattle.snippet_strokes.proofs.Common.{window_cells, highlighted_row, stroke_rows, painted}
+use Rattle.std.proofs.Common.{chars}
 use Rattle.snippet_strokes.proofs.BarParts.{with_parts}
-use Rattle.snippet_strokes.specs.Cuts.{overlapped}
 use Rattle.snippet_strokes.proofs.StrokeWords.{cut_row}
 use Rattle.snippet_strokes.proofs.CutWords.{cuts_of}
-use Rattle.snippet_strokes.specs.Drawing.{row_count}
-use Rattle.snippet_strokes.specs.LineRows.{line_rows, own_rows}
-use Rattle.snippet_strokes.specs.Painting.{painting_order}
-use Rattle.snippet_strokes.specs.InfoRows.{info_rows}
-use Rattle.snippet_strokes.specs.DrawnBars.{is_whole_line}
-use Rattle.snippet_strokes.specs.SourceRows.{source_row, window_cells}
-use Rattle.snippet_strokes.specs.StrokeRows.{highlighted_row}
 use Rattle.snippet_strokes.proofs.StrokeWords.{role_in_source}
-use Rattle.snippet_strokes.specs.Strokes.{stroke_rows}
 use Rattle.snippet_strokes.proofs.Drawn.{drawn_strokes}
 use Rattle.snippet_strokes.proofs.StrokeWords.{begun_rows}
-use Rattle.snippet_strokes.specs.Writes.{painted}
 use Rattle.snippet_strokes.proofs.CellLemmas.{free_shown, unlisted_part}
 use Rattle.snippet_strokes.proofs.LineFacts.{AreLineRows, AreOwnRows, CanBeShown, IsHighlighted, IsSourceRow, ShowsLine, StrokesPainted}
 use Rattle.snippet_strokes.proofs.PlacedOf.{HasTextLabel, placed_of_are, texts-shifted}

@@ -1,13 +1,9 @@
 -- A glyph that is repeated.
-use Rattle.std.proofs.Common.{◌≡◌, ℕ, zero, suc, ◌+◌, ◌<◌, List, [], ◌∷◌, ◌++◌, length, replicate, refl, subst, sym, ap, ◌∙◌, arith}
-use Rattle.std.proofs.lemmas.List.{get_or-replicate, length-replicate, replicate-append-replicate}
-use Rattle.std.proofs.lemmas.Str.{chars_from_encodes, chars-nil}
-use Rattle.std.proofs.lemmas.Str.Ascii.{IsAscii-from_all}
-use Rattle.std.specs.List.{repeat}
-use Rattle.std.specs.Str.{chars, IsAscii, IsUtf8}
-use Rattle.std.specs.Prelude.{encode_utf8, encode_utf8_all}
-use Rattle.snippet_style.specs.Cell.{Cell, text_cells, unlinked_cell}
-use Rattle.snippet_style.specs.declared.role.ElementStyle.{ElementStyle}
+use Rattle.snippet_strokes.proofs.Common.{◌≡◌, ℕ, zero, suc, ◌+◌, ◌<◌, List, [], ◌∷◌, ◌++◌, length, replicate, refl, subst, sym, ap}
+use Rattle.snippet_strokes.proofs.Common.{◌∙◌, arith, get_or-replicate, length-replicate, replicate-append-replicate, chars_from_encodes, chars-nil}
+use Rattle.snippet_strokes.proofs.Common.{IsAscii-from_all, repeat, IsAscii, encode_utf8, Cell, text_cells, unlinked_cell, ElementStyle}
+use Rattle.std.specs.Str.{chars, IsUtf8}
+use Rattle.std.specs.Prelude.{encode_utf8_all}
 
 encodes-replicate : (n ch : ℕ) → encode_utf8_all (replicate n ch) ≡ repeat n (encode_utf8 ch)
 encodes-replicate zero ch = refl

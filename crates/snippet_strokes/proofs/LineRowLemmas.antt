@@ -1,38 +1,19 @@
 -- The rows of a line, as they are drawn below those that are there.
-use Rattle.std.proofs.Common.{◌≡◌, ℕ, ◌+◌, ◌-◌, ◌<◌, Bool, true, false, List, [], ◌∷◌, ◌++◌, length, map, replicate, drop, get_or, refl, sym, ap, ◌∙◌, subst}
-use Rattle.std.proofs.Common.{arith, inl, inr, not}
-use Rattle.std.specs.Prelude.{if◌then◌else◌}
-use Rattle.std.specs.List.{list_all, list_any}
-use Rattle.std.proofs.lemmas.List.Sorted.{list_any-IsPermutation}
-use Rattle.std.proofs.lemmas.Bool.{cases_Bool, cond-false, cond-true, false≢true}
-use Rattle.std.proofs.lemmas.List.{append_assoc, length-append, length_push}
-use Rattle.snippet_style.specs.Cell.{Cell}
-use Rattle.snippet_style.specs.Separators.{closing_row, separator_row}
-use Rattle.snippet_parts.specs.declared.entries.LineAnnotation.{LineAnnotation}
-use Rattle.snippet_strokes.specs.declared.bars.BarStroke.TheVariants.{Top}
-use Rattle.snippet_grid.specs.Layout.{Layout}
-use Rattle.snippet_labels.specs.declared.positions.PlacedEntry.{PlacedEntry}
-use Rattle.snippet_strokes.specs.Bars.{ends_of_bars}
+use Rattle.snippet_strokes.proofs.Common.{◌≡◌, ℕ, ◌+◌, ◌-◌, ◌<◌, Bool, true, false, List, [], ◌∷◌, ◌++◌, length, map, replicate}
+use Rattle.snippet_strokes.proofs.Common.{drop, get_or, refl, sym, ap, ◌∙◌, subst, arith, inl, inr, not, if◌then◌else◌, list_all, list_any}
+use Rattle.snippet_strokes.proofs.Common.{list_any-IsPermutation, cases_Bool, cond-false, cond-true, false≢true, append_assoc, length-append, length_push}
+use Rattle.snippet_strokes.proofs.Common.{Cell, closing_row, separator_row, LineAnnotation, Top, Layout, PlacedEntry, ends_of_bars, shifted, own_rows}
+use Rattle.snippet_strokes.proofs.Common.{painting_order, ArePlaced, is_whole_line, row_count, is_wide_at, bare_row, is_cut, overlapped, cut_pairs, is_uncut}
+use Rattle.snippet_strokes.proofs.Common.{stroke_rows, Write, painted}
 use Rattle.snippet_strokes.proofs.BarParts.{with_parts}
-use Rattle.snippet_labels.specs.PlacedEntries.{shifted}
 use Rattle.snippet_strokes.proofs.PlainEntries.{wide_entries}
 use Rattle.snippet_strokes.proofs.LineFacts.{StrokesPainted}
-use Rattle.snippet_strokes.specs.LineRows.{own_rows}
-use Rattle.snippet_strokes.specs.Painting.{painting_order}
-use Rattle.snippet_labels.specs.Placing.{ArePlaced}
-use Rattle.snippet_strokes.specs.DrawnBars.{is_whole_line}
-use Rattle.snippet_strokes.specs.Drawing.{row_count}
 use Rattle.snippet_strokes.proofs.CutWords.{Stretch, cut_rows, cuts_of}
 use Rattle.snippet_strokes.proofs.StrokeWords.{cut_row}
-use Rattle.snippet_strokes.specs.LookedCuts.{is_wide_at}
 use Rattle.snippet_strokes.proofs.SeenRows.{CutsRows, IsCut}
-use Rattle.snippet_strokes.specs.SourceRows.{bare_row}
-use Rattle.snippet_strokes.specs.Cuts.{is_cut, overlapped}
-use Rattle.snippet_strokes.specs.Strokes.{cut_pairs, is_uncut, stroke_rows}
 use Rattle.snippet_strokes.proofs.PlacedAre.{placed_are}
 use Rattle.snippet_strokes.proofs.Drawn.{drawn_strokes}
 use Rattle.snippet_strokes.proofs.StrokeWords.{begun_rows}
-use Rattle.snippet_strokes.specs.Writes.{Write, painted}
 use Rattle.snippet_strokes.proofs.PaintOrder.{IsPermutation-painting_order}
 use Rattle.snippet_strokes.proofs.BegunLemmas.{wide_entries-order}
 use Rattle.snippet_strokes.proofs.CutLemmas.{IsCut-cuts, cut_rows-here, cuts_of-narrow, uncut_row}

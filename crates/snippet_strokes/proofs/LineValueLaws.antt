@@ -1,15 +1,7 @@
 -- The rows with strokes of a line are those of the value.
-use Rattle.std.proofs.Common.{◌≡◌, ℕ, ◌+◌, ◌++◌, Bool, List, map, take, drop, ap, sym, ◌∙◌}
-use Rattle.snippet_style.specs.Cell.{Cell}
-use Rattle.snippet_parts.specs.declared.entries.LineAnnotation.{LineAnnotation}
-use Rattle.snippet_grid.specs.Layout.{Layout}
-use Rattle.snippet_labels.specs.declared.positions.PlacedEntry.{PlacedEntry}
-use Rattle.snippet_strokes.specs.Painting.{painting_order}
-use Rattle.snippet_strokes.specs.Writes.{painted}
-use Rattle.snippet_strokes.specs.Cuts.{overlapped}
+use Rattle.snippet_strokes.proofs.Common.{◌≡◌, ℕ, ◌+◌, ◌++◌, Bool, List, map, take, drop, ap, sym, ◌∙◌, Cell, LineAnnotation, Layout}
+use Rattle.snippet_strokes.proofs.Common.{PlacedEntry, painting_order, painted, overlapped, row_count, stroke_rows}
 use Rattle.snippet_strokes.proofs.CutWords.{cuts_of}
-use Rattle.snippet_strokes.specs.Drawing.{row_count}
-use Rattle.snippet_strokes.specs.Strokes.{stroke_rows}
 use Rattle.snippet_strokes.proofs.Drawn.{drawn_strokes}
 use Rattle.snippet_strokes.proofs.LineFacts.{StrokesPainted}
 use Rattle.snippet_strokes.proofs.StrokeWords.{begun_rows, cut_row}

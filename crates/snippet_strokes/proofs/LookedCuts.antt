@@ -1,16 +1,9 @@
 -- Which entries are overlapped: what the code finds step by step is what the rule says.
-use Rattle.std.proofs.Common.{◌≡◌, ◌∙◌, ℕ, zero, suc, ◌+◌, ◌-◌, ◌≤◌, Bool, true, false, ◌&&◌, ◌||◌, List, [], ◌∷◌, ◌++◌, take, drop}
-use Rattle.std.proofs.Common.{length, map, refl, sym, ap, inl, inr, arith}
+use Rattle.snippet_strokes.proofs.Common.{◌≡◌, ◌∙◌, ℕ, zero, suc, ◌+◌, ◌-◌, ◌≤◌, Bool, true, false, ◌&&◌, ◌||◌, List, []}
+use Rattle.snippet_strokes.proofs.Common.{◌∷◌, ◌++◌, take, drop, length, map, refl, sym, ap, inl, inr, arith, enumerate_from, list_any}
+use Rattle.snippet_strokes.proofs.Common.{slice_index_or, append_assoc, length-append, get_or-append_seam, cases_lt, nat_tests, PlacedEntry, do_overlap}
+use Rattle.snippet_strokes.proofs.Common.{overlapped, sees, is_met, look_ends, meets, overlapped_by}
 use Rattle.std.specs.Prelude.{nat_le, nat_lt}
-use Rattle.std.specs.List.{enumerate_from, list_any, slice_index_or}
-use Rattle.std.proofs.lemmas.List.{append_assoc, length-append}
-use Rattle.std.proofs.Math.Seq.{get_or-append_seam}
-use Rattle.std.proofs.lemmas.Bool.{cases_lt}
-use Rattle.std.proofs.lemmas.Bool.Decides.{nat_tests}
-use Rattle.snippet_labels.specs.declared.positions.PlacedEntry.{PlacedEntry}
-use Rattle.snippet_labels.specs.Positions.{do_overlap}
-use Rattle.snippet_strokes.specs.Cuts.{overlapped, sees}
-use Rattle.snippet_strokes.specs.LookedCuts.{is_met, look_ends, meets, overlapped_by}
 
 -- ---- tests of a list
 

@@ -1,28 +1,13 @@
 -- Writes into rows that stand below others are writes into these rows alone.
-use Rattle.std.proofs.Common.{◌≡◌, ℕ, zero, suc, ◌+◌, ◌-◌, ◌==◌, nat_lt, cond, true, false, Bool, List, [], ◌∷◌, ◌++◌, length, map, take, drop, replicate, refl}
-use Rattle.std.proofs.Common.{sym, ap, ◌∙◌, arith}
-use Rattle.std.specs.List.{flat_map, range_with_len}
-use Rattle.std.proofs.lemmas.List.{map-append}
-use Rattle.std.proofs.lemmas.List.Concat.{flat_map-cons}
-use Rattle.snippet_grid.specs.Grid.{row_at}
-use Rattle.snippet_model.specs.AnnotationKind.{is_primary}
-use Rattle.snippet_style.specs.Cell.{Cell, SPACE, text_cells, written}
-use Rattle.snippet_style.specs.Glyphs.{strokes_of}
-use Rattle.snippet_style.specs.declared.role.ElementStyle.{ElementStyle}
-use Rattle.snippet_parts.specs.declared.entries.LineAnnotationType.{LineAnnotationType}
-use Rattle.snippet_parts.specs.declared.entries.LineAnnotationType.TheVariants.{Singleline, MultilineStart, MultilineEnd, MultilineLine}
-use Rattle.snippet_grid.specs.Layout.{Layout}
-use Rattle.snippet_labels.specs.declared.positions.PlacedEntry.{PlacedEntry}
-use Rattle.snippet_strokes.specs.Painting.{stroke_role}
-use Rattle.snippet_labels.specs.Positions.{has_label, has_stem, label_place}
-use Rattle.snippet_strokes.specs.Strokes.{connector_of, corner_of}
+use Rattle.snippet_strokes.proofs.Common.{◌≡◌, ℕ, zero, suc, ◌+◌, ◌-◌, ◌==◌, nat_lt, cond, true, false, Bool, List, [], ◌∷◌, ◌++◌}
+use Rattle.snippet_strokes.proofs.Common.{length, map, take, drop, replicate, refl, sym, ap, ◌∙◌, arith, flat_map, range_with_len, map-append}
+use Rattle.snippet_strokes.proofs.Common.{flat_map-cons, row_at, is_primary, Cell, SPACE, text_cells, written, strokes_of, ElementStyle, LineAnnotationType}
+use Rattle.snippet_strokes.proofs.Common.{Singleline, MultilineStart, MultilineEnd, MultilineLine, Layout, PlacedEntry, stroke_role, has_label, has_stem}
+use Rattle.snippet_strokes.proofs.Common.{label_place, connector_of, corner_of, label_of, stem_of, column_of, first_glyph, mark_end, foot_glyph, connectors_of}
+use Rattle.snippet_strokes.proofs.Common.{corners_of, labels_of, is_stem_covered, stems_of, Write, glyph_at, painted, stretch_of}
 use Rattle.snippet_strokes.proofs.StrokeWords.{bar_writes, connector_by, corner_by}
-use Rattle.snippet_strokes.specs.Strokes.{label_of, stem_of, column_of}
-use Rattle.snippet_strokes.specs.PaintedStrokes.{first_glyph, mark_end, foot_glyph, connectors_of, corners_of, labels_of}
 use Rattle.snippet_strokes.proofs.Drawn.{drawn_mark, drawn_strokes, marks_of}
-use Rattle.snippet_strokes.specs.DrawnStems.{is_stem_covered, stems_of}
 use Rattle.snippet_strokes.proofs.StrokeWords.{label_write, line_to, stem_write}
-use Rattle.snippet_strokes.specs.Writes.{Write, glyph_at, painted, stretch_of}
 use Rattle.snippet_strokes.proofs.OneStep.{written_by}
 
 -- a write so many rows farther down

@@ -1,23 +1,10 @@
 -- What entries that were painted in order show below each column.
-use Rattle.std.proofs.Common.{◌≡◌, ℕ, ◌+◌, ◌<◌, Bool, true, List, [], ◌∷◌, length, map, get_or, refl, sym, ap, ◌∙◌, subst, arith, inl, inr, All, Contains}
-use Rattle.std.specs.List.Sorted.{IsPermutation}
-use Rattle.std.proofs.lemmas.Bool.{cases_Bool}
-use Rattle.std.proofs.lemmas.List.{get_or-map, length-map}
-use Rattle.std.proofs.lemmas.List.Elements.{Contains-get_or}
-use Rattle.std.proofs.lemmas.List.Sorted.{Contains-permutation, IsPermutation-sym, IsPermutation-trans, IsPermutation-map}
-use Rattle.snippet_model.specs.declared.snippet.AnnotationKind.{AnnotationKind}
-use Rattle.snippet_model.specs.declared.snippet.AnnotationKind.TheVariants.{Primary, Context, Visible}
-use Rattle.snippet_parts.specs.declared.entries.LineAnnotation.{LineAnnotation}
-use Rattle.snippet_style.specs.Glyphs.{IsMarkGlyph, underline_role}
-use Rattle.snippet_grid.specs.Grid.{cell_at}
-use Rattle.snippet_style.specs.Cell.{Cell}
-use Rattle.snippet_style.specs.declared.glyphs.DecorStyle.{DecorStyle}
-use Rattle.snippet_grid.specs.Layout.{Layout}
-use Rattle.snippet_labels.specs.declared.positions.PlacedEntry.{PlacedEntry}
-use Rattle.snippet_strokes.specs.EntryMarks.{IsMarkCell}
+use Rattle.snippet_strokes.proofs.Common.{◌≡◌, ℕ, ◌+◌, ◌<◌, Bool, true, List, [], ◌∷◌, length, map, get_or, refl, sym, ap, ◌∙◌}
+use Rattle.snippet_strokes.proofs.Common.{subst, arith, inl, inr, All, Contains, IsPermutation, cases_Bool, get_or-map, length-map, Contains-get_or}
+use Rattle.snippet_strokes.proofs.Common.{Contains-permutation, IsPermutation-sym, IsPermutation-trans, IsPermutation-map, AnnotationKind, Primary, Context}
+use Rattle.snippet_strokes.proofs.Common.{Visible, LineAnnotation, IsMarkGlyph, underline_role, cell_at, Cell, DecorStyle, Layout, PlacedEntry, IsMarkCell}
+use Rattle.snippet_strokes.proofs.Common.{entry_width, is_primary}
 use Rattle.snippet_strokes.proofs.PlainEntries.{EntryCovers, IsEntryMark}
-use Rattle.snippet_labels.specs.PlacedEntries.{entry_width}
-use Rattle.snippet_model.specs.AnnotationKind.{is_primary}
 use Rattle.snippet_strokes.proofs.PaintedMarks.{CoversOver, AreMarked}
 use Rattle.snippet_strokes.proofs.PlainMarks.{IsMarkCell-mark_cell, IsPlainEntry, covered_painted, painted_covered, spaceless}
 

@@ -1,14 +1,6 @@
 -- The table of strokes: no glyph is a listed character, and what holds of each holds of the first of a mark.
-use Rattle.std.proofs.Common.{◌≡◌, ℕ, cond, Bool, true, false, refl}
-use Rattle.snippet_style.specs.Glyphs.{strokes_of}
-use Rattle.snippet_style.specs.declared.glyphs.DecorStyle.{DecorStyle}
-use Rattle.snippet_style.specs.declared.glyphs.DecorStyle.TheVariants.{Ascii, Unicode}
-use Rattle.snippet_model.specs.AnnotationKind.{is_primary}
-use Rattle.snippet_labels.specs.declared.positions.PlacedEntry.{PlacedEntry}
-use Rattle.snippet_strokes.specs.PaintedStrokes.{first_glyph}
-use Rattle.snippet_labels.specs.Positions.{has_stem, takes_space}
-use Rattle.snippet_text.specs.Normalized.{is_listed}
-use Rattle.snippet_style.proofs.StrokeLemmas.{EachCode, each_code}
+use Rattle.snippet_strokes.proofs.Common.{◌≡◌, ℕ, cond, Bool, true, false, refl, strokes_of, DecorStyle, Ascii, Unicode, is_primary, PlacedEntry}
+use Rattle.snippet_strokes.proofs.Common.{first_glyph, has_stem, takes_space, is_listed, EachCode, each_code}
 
 pub free_strokes : (decor : DecorStyle) (primary : Bool) → EachCode (λ ch. is_listed ch ≡ false) (strokes_of decor primary)
 free_strokes Ascii true = each_code is_listed false (strokes_of Ascii true) refl

@@ -1,22 +1,10 @@
 -- The writes of marks paint them, each over those before it.
-use Rattle.std.proofs.Common.{◌≡◌, ℕ, zero, suc, ◌+◌, ◌-◌, ◌<◌, ◌≤◌, cond, List, [], ◌∷◌, length, take, get_or, replicate, refl, sym, ap, ◌∙◌, subst, arith}
-use Rattle.std.proofs.Common.{inl, inr}
-use Rattle.std.proofs.lemmas.Bool.{cases_lt}
-use Rattle.std.proofs.lemmas.List.{take_all}
-use Rattle.snippet_grid.specs.Grid.{cells_written}
-use Rattle.snippet_grid.proofs.GridLemmas.{WritesCells-cells_written}
-use Rattle.snippet_model.specs.AnnotationKind.{is_primary}
-use Rattle.snippet_style.specs.Cell.{Cell, text_cells, unlinked_cell}
-use Rattle.snippet_style.specs.Glyphs.{strokes_of}
-use Rattle.snippet_style.specs.declared.role.ElementStyle.{ElementStyle}
-use Rattle.snippet_grid.specs.Layout.{Layout}
-use Rattle.snippet_labels.specs.declared.positions.PlacedEntry.{PlacedEntry}
-use Rattle.snippet_strokes.specs.Painting.{painting_order, stroke_role}
-use Rattle.snippet_strokes.specs.PaintedStrokes.{first_glyph, mark_end}
-use Rattle.snippet_grid.specs.Calls.{WritesCells}
+use Rattle.snippet_strokes.proofs.Common.{◌≡◌, ℕ, zero, suc, ◌+◌, ◌-◌, ◌<◌, ◌≤◌, cond, List, [], ◌∷◌, length, take, get_or}
+use Rattle.snippet_strokes.proofs.Common.{replicate, refl, sym, ap, ◌∙◌, subst, arith, inl, inr, cases_lt, take_all, cells_written}
+use Rattle.snippet_strokes.proofs.Common.{WritesCells-cells_written, is_primary, Cell, text_cells, unlinked_cell, strokes_of, ElementStyle, Layout, PlacedEntry}
+use Rattle.snippet_strokes.proofs.Common.{painting_order, stroke_role, first_glyph, mark_end, WritesCells, Write, glyph_at, painted, stretch_of}
 use Rattle.snippet_strokes.proofs.Drawn.{drawn_mark, marks_of}
 use Rattle.snippet_strokes.proofs.PaintedMarks.{AreMarked, Painted, Paints, mark_cell}
-use Rattle.snippet_strokes.specs.Writes.{Write, glyph_at, painted, stretch_of}
 use Rattle.snippet_strokes.proofs.LineLemmas.{text_cells-replicate}
 use Rattle.snippet_strokes.proofs.PaintOrder.{IsPaintingOrder-painting_order, IsPermutation-painting_order}
 use Rattle.snippet_strokes.proofs.PaintLemmas.{Painted-next, Painted-none, Paints-more, Paints-none, Paints-past, Paints-rest, first_cell_is, other_cell_is}

@@ -1,13 +1,10 @@
 -- The rows of a line with no entries.
-use Rattle.std.proofs.Common.{◌≡◌, ℕ, zero, suc, ◌+◌, ◌<◌, ◌≤◌, ◌==◌, ◌&&◌, Bool, if◌then◌else◌, true, false, List, [], ◌∷◌, length, refl, sym, ap}
-use Rattle.std.proofs.Common.{subst, arith}
-use Rattle.snippet_grid.specs.Grid.{cell_at, row_at}
-use Rattle.snippet_style.specs.Cell.{Cell, SPACE}
-use Rattle.snippet_grid.specs.Layout.{Layout, inner_cell}
-use Rattle.snippet_strokes.specs.EntryMarks.{IsBarCell, is_mark_role}
+use Rattle.snippet_strokes.proofs.Common.{◌≡◌, ℕ, zero, suc, ◌+◌, ◌<◌, ◌≤◌, ◌==◌, ◌&&◌, Bool, true, false, List, [], ◌∷◌}
+use Rattle.snippet_strokes.proofs.Common.{length, refl, sym, ap, subst, arith, cell_at, row_at, Cell, SPACE, Layout, inner_cell, IsBarCell, is_mark_role}
+use Rattle.snippet_strokes.proofs.Common.{closing_row}
+use Rattle.std.proofs.Common.{if◌then◌else◌}
 use Rattle.snippet_strokes.proofs.PlainEntries.{are_plain}
 use Rattle.snippet_strokes.proofs.SeenRows.{AreSeen, HasNoBars, IsStrokeRow}
-use Rattle.snippet_style.specs.Separators.{closing_row}
 use Rattle.snippet_strokes.proofs.DrawLemmas.{bar_space}
 use Rattle.snippet_strokes.proofs.LabelPlaces.{LabelsStand-none}
 use Rattle.snippet_strokes.proofs.RowLemmas.{bare_row_right, free_bare_row}

@@ -1,12 +1,6 @@
 -- One bar that is drawn into a row, and one write into rows: what `with_parts` and `painted` do at each step.
-use Rattle.std.proofs.Common.{[], ◌∷◌, List}
-use Rattle.snippet_style.specs.Cell.{Cell, SPACE, text_cells, written}
-use Rattle.snippet_grid.specs.Grid.{cells_written}
-use Rattle.snippet_grid.specs.Layout.{Layout, bar_cell}
-use Rattle.snippet_strokes.specs.declared.bars.BarStroke.{BarStroke}
-use Rattle.snippet_strokes.specs.declared.bars.OpenBar.{OpenBar}
-use Rattle.snippet_strokes.specs.DrawnBars.{bar_cell_part}
-use Rattle.snippet_strokes.specs.Writes.{Write}
+use Rattle.snippet_strokes.proofs.Common.{[], ◌∷◌, List, Cell, SPACE, text_cells, written, cells_written, Layout, bar_cell, BarStroke, OpenBar}
+use Rattle.snippet_strokes.proofs.Common.{bar_cell_part, Write}
 
 -- a row with a part of a bar in the cell of its depth
 abbrev pub with_bar : Layout → BarStroke → List Cell → OpenBar → List Cell

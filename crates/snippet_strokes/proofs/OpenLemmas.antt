@@ -1,19 +1,10 @@
 -- Which bars are open, and where they have their place.
-use Rattle.std.proofs.Common.{◌≡◌, ℕ, ◌+◌, ◌<◌, ◌++◌, ◌∷◌, [], Bool, Option, None, Some, List, All, length, take, get_or, refl, sym, ap, ◌∙◌, arith}
-use Rattle.std.specs.List.{filter_map}
+use Rattle.snippet_strokes.proofs.Common.{◌≡◌, ℕ, ◌+◌, ◌<◌, ◌++◌, ◌∷◌, [], Bool, Option, None, Some, List, All, length, take, get_or}
+use Rattle.snippet_strokes.proofs.Common.{refl, sym, ap, ◌∙◌, arith, filter_map, option_to_list, take_more, All-append, All-cons, All-nil, All-filter}
+use Rattle.snippet_strokes.proofs.Common.{All-same, All-tail, filter_map-append, LineAnnotation, LineAnnotationType, Singleline, MultilineStart, MultilineEnd}
+use Rattle.snippet_strokes.proofs.Common.{MultilineLine, Layout, OpenBar, is_primary, bar_at, bars_apart, ends_of_bars, HasBarRoom, bar_of, has_depth}
+use Rattle.snippet_strokes.proofs.Common.{open_below, HasBarCell, HasBarCellAt}
 use Rattle.std.specs.Prelude.{not}
-use Rattle.std.specs.Option.{option_to_list}
-use Rattle.std.proofs.lemmas.List.{take_more}
-use Rattle.std.proofs.lemmas.List.Elements.{All-append, All-cons, All-nil, All-filter, All-same, All-tail, filter_map-append}
-use Rattle.snippet_parts.specs.declared.entries.LineAnnotation.{LineAnnotation}
-use Rattle.snippet_parts.specs.declared.entries.LineAnnotationType.{LineAnnotationType}
-use Rattle.snippet_parts.specs.declared.entries.LineAnnotationType.TheVariants.{Singleline, MultilineStart, MultilineEnd, MultilineLine}
-use Rattle.snippet_grid.specs.Layout.{Layout}
-use Rattle.snippet_strokes.specs.declared.bars.OpenBar.{OpenBar}
-use Rattle.snippet_model.specs.AnnotationKind.{is_primary}
-use Rattle.snippet_strokes.specs.Bars.{bar_at, bars_apart, ends_of_bars}
-use Rattle.snippet_strokes.specs.DrawnBars.{HasBarRoom, bar_of, has_depth, open_below}
-use Rattle.snippet_strokes.specs.Drawable.{HasBarCell, HasBarCellAt}
 
 -- the bars of one entry
 one_end : (e : LineAnnotation) → ends_of_bars (e ∷ []) ≡ option_to_list (bar_of e)

@@ -1,21 +1,10 @@
 -- Painting marks into a row: one cell after another, and one entry over another.
-use Rattle.std.proofs.Common.{◌≡◌, ◌⊎◌, ℕ, ◌+◌, ◌-◌, ◌<◌, ◌≤◌, ◌==◌, cond, max, Bool, true, false, List, [], ◌∷◌, ◌++◌, length, replicate, take, get_or, refl}
-use Rattle.std.proofs.Common.{sym, ap, ◌∙◌, subst, arith, inl, inr, All}
-use Rattle.std.proofs.lemmas.Bool.{cases_lt}
-use Rattle.std.proofs.lemmas.Bool.Decides.{nat_tests}
-use Rattle.std.proofs.lemmas.List.{length-replicate, get_or-replicate, length_push, get_or_append_left, get_or_push, take_more}
-use Rattle.snippet_labels.specs.declared.positions.PlacedEntry.{PlacedEntry}
-use Rattle.snippet_style.specs.declared.role.ElementStyle.{ElementStyle}
+use Rattle.snippet_strokes.proofs.Common.{◌≡◌, ◌⊎◌, ℕ, ◌+◌, ◌-◌, ◌<◌, ◌≤◌, ◌==◌, cond, max, Bool, true, false, List, []}
+use Rattle.snippet_strokes.proofs.Common.{◌∷◌, ◌++◌, length, replicate, take, get_or, refl, sym, ap, ◌∙◌, subst, arith, inl, inr, All, cases_lt}
+use Rattle.snippet_strokes.proofs.Common.{nat_tests, length-replicate, get_or-replicate, length_push, get_or_append_left, get_or_push, take_more, PlacedEntry}
+use Rattle.snippet_strokes.proofs.Common.{ElementStyle, strokes_of, underline_role, cell_at, row_at, Cell, SPACE, unlinked_cell, is_listed, Layout, is_primary}
+use Rattle.snippet_strokes.proofs.Common.{IsFreeCell, first_glyph, mark_end, WritesCells}
 use Rattle.snippet_strokes.proofs.MarkStrokeLemmas.{free_strokes, of_first}
-use Rattle.snippet_style.specs.Glyphs.{strokes_of, underline_role}
-use Rattle.snippet_grid.specs.Grid.{cell_at, row_at}
-use Rattle.snippet_style.specs.Cell.{Cell, SPACE, unlinked_cell}
-use Rattle.snippet_text.specs.Normalized.{is_listed}
-use Rattle.snippet_grid.specs.Layout.{Layout}
-use Rattle.snippet_model.specs.AnnotationKind.{is_primary}
-use Rattle.snippet_model.specs.FreeRows.{IsFreeCell}
-use Rattle.snippet_strokes.specs.PaintedStrokes.{first_glyph, mark_end}
-use Rattle.snippet_grid.specs.Calls.{WritesCells}
 use Rattle.snippet_strokes.proofs.PaintedMarks.{IsPaintedAt, Paints, Painted, ShowsFrom, mark_cell}
 
 -- no cell is painted yet

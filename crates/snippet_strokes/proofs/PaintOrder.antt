@@ -1,24 +1,12 @@
 -- The order that entries are painted in.
-use Rattle.std.proofs.Common.{◌≡◌, ℕ, zero, suc, ◌≤◌, ◌==◌, ◌&&◌, ◌||◌, nat_lt, not, Bool, true, false, List, [], ◌∷◌, map, get_or, refl, All}
-use Rattle.std.proofs.Common.{◌<◌, ◌++◌, ◌∙◌, ap, sym, subst, arith, inl, inr, nat_cmp, is_lt, reverse}
-use Rattle.std.specs.Cmp.{IsStrictWeakOrder}
-use Rattle.std.specs.List.Sorted.{IsPermutation, IsSortedBy, IsStableBy}
-use Rattle.std.specs.Ordering.{ordering_then, bool_cmp}
-use Rattle.std.specs.declared.cmp.Reverse.{Reverse}
-use Rattle.std.proofs.lemmas.Bool.{cases_Bool, cond-false, cond-true}
-use Rattle.std.proofs.lemmas.Bool.Decides.{nat_tests}
-use Rattle.std.proofs.lemmas.List.{reverse-append}
-use Rattle.std.proofs.lemmas.List.Elements.{All-cons, All-nil, All-head, All-tail}
-use Rattle.std.proofs.lemmas.List.Sorted.{All-permutation, IsPermutation-cons, IsPermutation-middle, IsPermutation-refl, IsPermutation-sym, IsPermutation-trans}
-use Rattle.snippet_lines.specs.OrderedBy.{ordered_by, put_in}
-use Rattle.snippet_lines.proofs.OrderLemmas.{All-put_in, map-ordered_by, sorted-only}
-use Rattle.snippet_parts.specs.declared.entries.LineAnnotation.{LineAnnotation}
-use Rattle.snippet_labels.specs.declared.positions.PlacedEntry.{PlacedEntry}
-use Rattle.snippet_labels.specs.PlacedEntries.{entry_width}
-use Rattle.snippet_model.specs.AnnotationKind.{is_primary}
-use Rattle.snippet_strokes.specs.Painting.{is_painted_before, painting_order}
+use Rattle.snippet_strokes.proofs.Common.{◌≡◌, ℕ, zero, suc, ◌≤◌, ◌==◌, ◌&&◌, ◌||◌, nat_lt, not, Bool, true, false, List, []}
+use Rattle.snippet_strokes.proofs.Common.{◌∷◌, map, get_or, refl, All, ◌<◌, ◌++◌, ◌∙◌, ap, sym, subst, arith, inl, inr, nat_cmp, is_lt}
+use Rattle.snippet_strokes.proofs.Common.{reverse, IsStrictWeakOrder, IsPermutation, IsSortedBy, IsStableBy, ordering_then, bool_cmp, Reverse, cases_Bool}
+use Rattle.snippet_strokes.proofs.Common.{cond-false, cond-true, nat_tests, reverse-append, All-cons, All-nil, All-head, All-tail, All-permutation}
+use Rattle.snippet_strokes.proofs.Common.{IsPermutation-cons, IsPermutation-middle, IsPermutation-refl, IsPermutation-sym, IsPermutation-trans, ordered_by}
+use Rattle.snippet_strokes.proofs.Common.{put_in, All-put_in, map-ordered_by, sorted-only, LineAnnotation, PlacedEntry, entry_width, is_primary}
+use Rattle.snippet_strokes.proofs.Common.{is_painted_before, painting_order, sorted_same, stable_same}
 use Rattle.snippet_strokes.proofs.PaintedMarks.{CoversOver, IsPaintingOrder}
-use Rattle.snippet_labels.proofs.OrderLemmas.{sorted_same, stable_same}
 
 -- the key that entries are sorted by
 abbrev pub paint_key : PlacedEntry → Reverse ℕ × Bool

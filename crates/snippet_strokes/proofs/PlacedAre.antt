@@ -1,14 +1,7 @@
 -- The entries of a line that are placed are those of the value.
-use Rattle.std.proofs.Common.{◌≡◌, ℕ, List, [], ◌∷◌, map, All, refl, sym, ap, ◌∙◌}
-use Rattle.std.specs.List.{zip}
-use Rattle.std.proofs.lemmas.List.Elements.{All-head, All-tail}
-use Rattle.snippet_lines.specs.OrderedBy.{ordered_by}
-use Rattle.snippet_parts.specs.declared.entries.LineAnnotation.{LineAnnotation}
-use Rattle.snippet_labels.specs.declared.positions.PlacedEntry.{PlacedEntry}
-use Rattle.snippet_labels.specs.Positions.{is_placed_before, line_positions, look_counts, placed_of}
-use Rattle.snippet_labels.specs.Placing.{ArePlaced, HasItsBytes, unplaced}
-use Rattle.snippet_labels.proofs.PlacedLemmas.{line_positions-changed, look_counts-changed, placed_of-at}
-use Rattle.snippet_labels.proofs.LabelWords.{labelled, placed_at}
+use Rattle.snippet_strokes.proofs.Common.{◌≡◌, ℕ, List, [], ◌∷◌, map, All, refl, sym, ap, ◌∙◌, zip, All-head, All-tail, ordered_by}
+use Rattle.snippet_strokes.proofs.Common.{LineAnnotation, PlacedEntry, is_placed_before, line_positions, look_counts, placed_of, ArePlaced, HasItsBytes}
+use Rattle.snippet_strokes.proofs.Common.{unplaced, line_positions-changed, look_counts-changed, placed_of-at, labelled, placed_at}
 
 line_positions-unplaced : (es : List PlacedEntry) → line_positions (map unplaced es) ≡ line_positions es
 line_positions-unplaced = line_positions-changed unplaced (λ e. refl) (λ e. refl) (λ p e. refl) refl

@@ -1,25 +1,12 @@
 -- The placed entries of a line, as the value that the rule gives: they are placed as painters place them, where labels are texts.
-use Rattle.std.proofs.Common.{◌≡◌, ℕ, suc, zero, ◌≤◌, ◌==◌, ◌&&◌, ◌||◌, true, false, IfSome, List, [], ◌∷◌, ◌++◌, Option, None, Some, All}
-use Rattle.std.proofs.Common.{IsUtf8, chars, encode_utf8_all, get_or, length, map, nat_lt, refl, sym, ap, ◌∙◌, subst, arith, inl, inr}
-use Rattle.std.proofs.Math.Utf8.{scalars}
-use Rattle.std.specs.List.{flat_map, zip}
-use Rattle.std.proofs.lemmas.Bool.{cases_Bool, cond-false, cond-true}
-use Rattle.std.proofs.lemmas.Bool.Decides.{nat_tests}
-use Rattle.std.proofs.lemmas.List.{length-map}
-use Rattle.std.proofs.lemmas.List.Elements.{All-cons, All-head, All-nil, All-tail}
-use Rattle.std.proofs.lemmas.List.Sorted.{IsPermutation-map}
-use Rattle.std.proofs.lemmas.Str.{chars-encodes, chars-nil, scalars-chars}
-use Rattle.snippet_lines.specs.OrderedBy.{ordered_by, put_in}
-use Rattle.snippet_lines.proofs.OrderLemmas.{All-put_in}
-use Rattle.snippet_parts.specs.declared.entries.LineAnnotation.{LineAnnotation}
-use Rattle.snippet_text.specs.Normalized.{norm, shown}
-use Rattle.snippet_labels.specs.PlacedEntries.{shifted}
-use Rattle.snippet_labels.specs.Positions.{is_placed_before, line_positions}
-use Rattle.snippet_labels.specs.Positions.{look_counts, placed_of, position_after, position_at}
-use Rattle.snippet_labels.specs.Placing.{ArePlaced, HasItsBytes, HasItsLabel, IsFromRight, StandsLeft, unplaced}
-use Rattle.snippet_labels.specs.declared.positions.PlacedEntry.{PlacedEntry}
-use Rattle.snippet_labels.proofs.LabelWords.{label_chars, labelled, label_text, placed_at}
-use Rattle.snippet_labels.proofs.PlacedLemmas.{ArePlaced-from, length-line_positions, placed_of-at}
+use Rattle.snippet_strokes.proofs.Common.{◌≡◌, ℕ, suc, zero, ◌≤◌, ◌==◌, ◌&&◌, ◌||◌, true, false, IfSome, List, [], ◌∷◌}
+use Rattle.snippet_strokes.proofs.Common.{◌++◌, Option, None, Some, All, IsUtf8, encode_utf8_all, get_or, length, map, nat_lt, refl, sym, ap, ◌∙◌}
+use Rattle.snippet_strokes.proofs.Common.{subst, arith, inl, inr, scalars, flat_map, zip, cases_Bool, cond-false, cond-true, nat_tests, length-map, All-cons}
+use Rattle.snippet_strokes.proofs.Common.{All-head, All-nil, All-tail, IsPermutation-map, chars-encodes, chars-nil, scalars-chars, ordered_by, put_in}
+use Rattle.snippet_strokes.proofs.Common.{All-put_in, LineAnnotation, norm, shown, shifted, is_placed_before, line_positions, look_counts, placed_of}
+use Rattle.snippet_strokes.proofs.Common.{position_after, position_at, ArePlaced, HasItsBytes, HasItsLabel, IsFromRight, StandsLeft, unplaced, PlacedEntry}
+use Rattle.snippet_strokes.proofs.Common.{label_chars, labelled, label_text, placed_at, ArePlaced-from, length-line_positions, placed_of-at}
+use Rattle.std.proofs.Common.{chars}
 use Rattle.snippet_strokes.proofs.PaintOrder.{IsPermutation-ordered_by}
 
 -- the label of an entry, if it has one, is a text

@@ -1,16 +1,7 @@
 -- The entries of a line as they are placed: the one entry of a line, and lines that take one row.
-use Rattle.std.proofs.Common.{◌≡◌, ℕ, ◌≤◌, ◌==◌, not, false, List, [], ◌∷◌, length, map}
-use Rattle.std.proofs.Common.{get_or, sym, ap, ◌∙◌, subst, arith, All}
-use Rattle.std.specs.List.Sorted.{IsPermutation}
-use Rattle.std.proofs.lemmas.List.{length-map}
-use Rattle.std.proofs.lemmas.List.Elements.{All-nil, All-cons}
-use Rattle.std.proofs.lemmas.List.Sorted.{length_permutation}
-use Rattle.snippet_parts.specs.declared.entries.LineAnnotation.{LineAnnotation}
-use Rattle.snippet_labels.specs.declared.positions.PlacedEntry.{PlacedEntry}
-use Rattle.snippet_labels.proofs.LabelWords.{label_text}
-use Rattle.snippet_labels.specs.Positions.{has_label, positions, line_positions}
-use Rattle.snippet_labels.specs.Placing.{ArePlaced}
-use Rattle.snippet_labels.proofs.PlacedLemmas.{entries_all}
+use Rattle.snippet_strokes.proofs.Common.{◌≡◌, ℕ, ◌≤◌, ◌==◌, not, false, List, [], ◌∷◌, length, map, get_or, sym, ap, ◌∙◌, subst}
+use Rattle.snippet_strokes.proofs.Common.{arith, All, IsPermutation, length-map, All-nil, All-cons, length_permutation, LineAnnotation, PlacedEntry, label_text}
+use Rattle.snippet_strokes.proofs.Common.{has_label, positions, line_positions, ArePlaced, entries_all}
 use Rattle.snippet_strokes.proofs.PositionLemmas.{line_positions_low, of_positions, positions_sole}
 use Rattle.snippet_strokes.proofs.BegunLemmas.{sole, sole_same}
 

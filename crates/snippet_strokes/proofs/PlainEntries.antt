@@ -1,16 +1,8 @@
 -- Entries that stand for whole spans, and the marks that they leave below columns.
 use Rattle.std.specs.Prelude.{◌≡◌, ℕ, ◌<◌, ◌≤◌, ◌==◌, ◌&&◌, nat_lt, Bool, false, List, Contains}
-use Rattle.std.specs.List.{list_all}
-use Rattle.snippet_model.specs.AnnotationKind.{is_primary}
-use Rattle.snippet_model.specs.declared.snippet.AnnotationKind.{AnnotationKind}
-use Rattle.snippet_model.specs.declared.snippet.AnnotationKind.TheVariants.{Primary}
-use Rattle.snippet_parts.specs.declared.entries.LineAnnotation.{LineAnnotation}
-use Rattle.snippet_parts.specs.Entries.{is_single_part}
-use Rattle.snippet_style.specs.declared.glyphs.DecorStyle.{DecorStyle}
-use Rattle.snippet_labels.specs.PlacedEntries.{entry_width}
+use Rattle.snippet_strokes.proofs.Common.{list_all, is_primary, AnnotationKind, Primary, LineAnnotation, is_single_part, DecorStyle, entry_width, is_wide_entry}
+use Rattle.snippet_strokes.proofs.Common.{placeholder_of}
 use Rattle.std.specs.Prelude.{length, count_by}
-use Rattle.snippet_parts.specs.Entries.{is_wide_entry}
-use Rattle.snippet_style.specs.Glyphs.{placeholder_of}
 
 -- how many entries of a line are wide, in a room of so many columns
 abbrev pub wide_entries : ℕ → DecorStyle → List LineAnnotation → ℕ

@@ -1,22 +1,9 @@
 -- The marks of entries that stand for whole spans.
-use Rattle.std.proofs.Common.{◌≡◌, ℕ, ◌+◌, ◌<◌, ◌≤◌, ◌==◌, ◌&&◌, ◌||◌, cond, Bool, true, false, refl, sym, ap, subst, arith, inl, inr}
-use Rattle.std.proofs.lemmas.Bool.Decides.{nat_tests}
-use Rattle.snippet_model.specs.declared.snippet.AnnotationKind.{AnnotationKind}
-use Rattle.snippet_parts.specs.declared.entries.LineAnnotation.{LineAnnotation}
-use Rattle.snippet_parts.specs.declared.entries.LineAnnotationType.{LineAnnotationType}
-use Rattle.snippet_parts.specs.declared.entries.LineAnnotationType.TheVariants.{Singleline, MultilineStart, MultilineEnd, MultilineLine}
-use Rattle.snippet_parts.specs.Entries.{is_single_part}
-use Rattle.snippet_labels.specs.declared.positions.PlacedEntry.{PlacedEntry}
-use Rattle.snippet_labels.specs.Positions.{has_stem, takes_space}
-use Rattle.snippet_style.specs.declared.glyphs.DecorStyle.{DecorStyle}
-use Rattle.snippet_style.specs.Glyphs.{strokes_of, underline_role}
-use Rattle.snippet_style.specs.Cell.{unlinked_cell}
-use Rattle.snippet_grid.specs.Layout.{Layout}
-use Rattle.snippet_strokes.specs.EntryMarks.{IsMarkCell}
+use Rattle.snippet_strokes.proofs.Common.{◌≡◌, ℕ, ◌+◌, ◌<◌, ◌≤◌, ◌==◌, ◌&&◌, ◌||◌, cond, Bool, true, false, refl, sym, ap}
+use Rattle.snippet_strokes.proofs.Common.{subst, arith, inl, inr, nat_tests, AnnotationKind, LineAnnotation, LineAnnotationType, Singleline, MultilineStart}
+use Rattle.snippet_strokes.proofs.Common.{MultilineEnd, MultilineLine, is_single_part, PlacedEntry, has_stem, takes_space, DecorStyle, strokes_of}
+use Rattle.snippet_strokes.proofs.Common.{underline_role, unlinked_cell, Layout, IsMarkCell, is_end_part, is_primary, mark_end}
 use Rattle.snippet_strokes.proofs.PlainEntries.{EntryCovers, is_single}
-use Rattle.snippet_labels.specs.PlacedEntries.{is_end_part}
-use Rattle.snippet_model.specs.AnnotationKind.{is_primary}
-use Rattle.snippet_strokes.specs.PaintedStrokes.{mark_end}
 use Rattle.snippet_strokes.proofs.PaintedMarks.{IsPaintedAt, mark_cell}
 
 -- a mark cell of an entry that stands for a whole span is one of its kind

@@ -1,25 +1,12 @@
 -- The positions of labels.
-use Rattle.std.proofs.Common.{◌≡◌, ℕ, ◌+◌, ◌-◌, ◌<◌, ◌≤◌, ◌^◌, ◌==◌, ◌&&◌, ◌||◌, cond, max, nat_lt, not, None, Some, Bool, true, false, List, [], ◌∷◌, length}
-use Rattle.std.proofs.Common.{map, fold}
-use Rattle.std.proofs.Common.{get_or, refl, sym, ap, ◌∙◌, subst, arith, inl, inr, All}
-use Rattle.std.specs.List.{list_any, position, position_or_len}
-use Rattle.std.proofs.lemmas.Bool.{cases_Bool, cases_eq, eq-eqb, ltb-true, and_parts}
-use Rattle.std.proofs.lemmas.Bool.Decides.{nat_tests}
-use Rattle.std.proofs.lemmas.List.{length-map, get_or-map}
-use Rattle.std.proofs.lemmas.List.Elements.{All-cons, All-nil, All-head, All-tail, All-map}
-use Rattle.std.proofs.lemmas.List.Folds.{list_any_none}
-use Rattle.std.proofs.lemmas.List.Sums.{AllPass-from_list_all}
-use Rattle.snippet_parts.specs.declared.entries.LineAnnotation.{LineAnnotation}
-use Rattle.snippet_labels.specs.declared.positions.PlacedEntry.{PlacedEntry}
-use Rattle.snippet_labels.specs.Positions.{has_label, takes_space, has_stem, is_start_part, are_starts, crosses, position_at}
-use Rattle.snippet_labels.specs.Positions.{position_after, positions, line_positions, label_place, look_counts, looked_after}
-use Rattle.snippet_strokes.specs.Drawing.{row_count}
-use Rattle.snippet_strokes.specs.Places.{HasRows}
-use Rattle.snippet_parts.specs.Least.{greatest}
-use Rattle.snippet_strokes.specs.PaintedStrokes.{lowest_position}
-use Rattle.snippet_labels.specs.Placing.{ArePlaced, HasPlace}
+use Rattle.snippet_strokes.proofs.Common.{◌≡◌, ℕ, ◌+◌, ◌-◌, ◌<◌, ◌≤◌, ◌^◌, ◌==◌, ◌&&◌, ◌||◌, cond, max, nat_lt, not}
+use Rattle.snippet_strokes.proofs.Common.{None, Some, Bool, true, false, List, [], ◌∷◌, length, map, fold, get_or, refl, sym, ap, ◌∙◌, subst, arith}
+use Rattle.snippet_strokes.proofs.Common.{inl, inr, All, list_any, position, position_or_len, cases_Bool, cases_eq, eq-eqb, ltb-true, and_parts, nat_tests}
+use Rattle.snippet_strokes.proofs.Common.{length-map, get_or-map, All-cons, All-nil, All-head, All-tail, All-map, list_any_none, AllPass-from_list_all}
+use Rattle.snippet_strokes.proofs.Common.{LineAnnotation, PlacedEntry, has_label, takes_space, has_stem, is_start_part, are_starts, crosses, position_at}
+use Rattle.snippet_strokes.proofs.Common.{position_after, positions, line_positions, label_place, look_counts, looked_after, row_count, HasRows, greatest}
+use Rattle.snippet_strokes.proofs.Common.{lowest_position, ArePlaced, HasPlace, crowds, flipped, is_start, up_to}
 use Rattle.snippet_strokes.proofs.CellLemmas.{above_zero}
-use Rattle.snippet_labels.proofs.LabelWords.{crowds, flipped, is_start, up_to}
 
 -- the positions of a list that has no labels
 pub positions-unlabelled : (p : ℕ) (es : List PlacedEntry) → All (λ e. has_label e ≡ false) es → All (λ e. takes_space e ≡ false) es

@@ -1,8 +1,6 @@
 -- Which cells a write reaches, and what it leaves there.
 use Rattle.std.specs.Prelude.{ℕ, ◌+◌, ◌-◌, ◌<◌, ◌≤◌, ◌≡◌, false, All, length, slice_index_or}
-use Rattle.snippet_style.specs.Cell.{Cell, unlinked_cell}
-use Rattle.snippet_text.specs.Normalized.{is_listed}
-use Rattle.snippet_strokes.specs.Writes.{Write}
+use Rattle.snippet_strokes.proofs.Common.{Cell, unlinked_cell, is_listed, Write}
 
 -- the write reaches this cell
 pub record Reaches (r c : ℕ) (w : Write) : Type 0 where

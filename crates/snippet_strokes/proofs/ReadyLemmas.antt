@@ -1,14 +1,6 @@
 -- What each of some entries that can be drawn has.
-use Rattle.std.proofs.Common.{ℕ, List, All, map}
-use Rattle.snippet_grid.specs.Layout.{Layout}
-use Rattle.snippet_parts.specs.declared.entries.LineAnnotation.{LineAnnotation}
-use Rattle.snippet_style.specs.Bounds.{FitsRow}
-use Rattle.snippet_labels.specs.declared.positions.PlacedEntry.{PlacedEntry}
-use Rattle.snippet_labels.specs.PlacedEntries.{shifted}
-use Rattle.snippet_labels.proofs.LabelWords.{label_text}
-use Rattle.snippet_labels.proofs.PlacedLemmas.{entries_all}
-use Rattle.snippet_strokes.specs.Drawable.{AreDrawable, IsReady, HasBarCell}
-use Rattle.snippet_labels.specs.Placing.{HasPlace, ArePlaced, HasItsLabel}
+use Rattle.snippet_strokes.proofs.Common.{ℕ, List, All, map, Layout, LineAnnotation, FitsRow, PlacedEntry, shifted, label_text, entries_all, AreDrawable}
+use Rattle.snippet_strokes.proofs.Common.{IsReady, HasBarCell, HasPlace, ArePlaced, HasItsLabel}
 use Rattle.snippet_strokes.proofs.ShiftLemmas.{shifted_bars, shifted_places}
 use Rattle.snippet_strokes.proofs.TextLemmas.{labels_short}
 

@@ -1,29 +1,14 @@
 -- Rows over which the strokes of a line are painted, one list after another: they stay as many, so that each entry has the rows that
 -- it needs.
-use Rattle.std.proofs.Common.{All, ◌≡◌, drop, ℕ, ◌+◌, ◌-◌, ◌<◌, ◌≤◌, ◌^◌, List, [], ◌∷◌, ◌++◌, Bool, length, map, replicate, refl, sym, ap, ◌∙◌, subst, arith}
-use Rattle.snippet_parts.specs.declared.entries.LineAnnotation.{LineAnnotation}
-use Rattle.snippet_style.specs.Cell.{Cell}
-use Rattle.snippet_style.specs.Separators.{separator_row}
-use Rattle.snippet_grid.specs.Layout.{Layout}
-use Rattle.snippet_labels.specs.declared.positions.PlacedEntry.{PlacedEntry}
-use Rattle.snippet_labels.specs.PlacedEntries.{shifted}
-use Rattle.snippet_labels.proofs.PlacedLemmas.{entries_all}
-use Rattle.snippet_grid.specs.Grid.{row_at}
-use Rattle.snippet_strokes.specs.Painting.{painting_order}
+use Rattle.snippet_strokes.proofs.Common.{All, ◌≡◌, drop, ℕ, ◌+◌, ◌-◌, ◌<◌, ◌≤◌, ◌^◌, List, [], ◌∷◌, ◌++◌, Bool, length}
+use Rattle.snippet_strokes.proofs.Common.{map, replicate, refl, sym, ap, ◌∙◌, subst, arith, LineAnnotation, Cell, separator_row, Layout, PlacedEntry}
+use Rattle.snippet_strokes.proofs.Common.{shifted, entries_all, row_at, painting_order, bare_row, painted, AreDrawable, IsReady, HasBarCell, row_count}
+use Rattle.snippet_strokes.proofs.Common.{AreEnough, HasPlaceAmong, HasRows, is_uncut, connectors_of, corners_of, labels_of, HasPlace, ArePlaced, stems_of}
 use Rattle.snippet_strokes.proofs.PlainEntries.{wide_entries}
-use Rattle.snippet_strokes.specs.SourceRows.{bare_row}
-use Rattle.snippet_strokes.specs.Writes.{painted}
 use Rattle.snippet_strokes.proofs.LineRowLemmas.{rows_cut}
 use Rattle.snippet_strokes.proofs.MarkWriteLemmas.{Painted-marks}
-use Rattle.snippet_strokes.specs.Drawable.{AreDrawable, IsReady, HasBarCell}
-use Rattle.snippet_strokes.specs.Drawing.{row_count}
-use Rattle.snippet_strokes.specs.Places.{AreEnough, HasPlaceAmong, HasRows}
 use Rattle.snippet_strokes.proofs.LineFacts.{StrokesPainted}
-use Rattle.snippet_strokes.specs.Strokes.{is_uncut}
-use Rattle.snippet_strokes.specs.PaintedStrokes.{connectors_of, corners_of, labels_of}
-use Rattle.snippet_labels.specs.Placing.{HasPlace, ArePlaced}
 use Rattle.snippet_strokes.proofs.Drawn.{drawn_strokes, marks_of}
-use Rattle.snippet_strokes.specs.DrawnStems.{stems_of}
 use Rattle.snippet_strokes.proofs.StrokeWords.{begun_rows}
 use Rattle.snippet_strokes.proofs.BarWrites.{DrawsBarCells-corners, DrawsFrom-connectors}
 use Rattle.snippet_strokes.proofs.BegunLemmas.{rows_begun, rows_ready}

@@ -1,21 +1,8 @@
 -- Rows of strokes before any stroke is drawn, read cell by cell.
-use Rattle.std.proofs.Common.{◌≡◌, ℕ, ◌+◌, ◌<◌, ◌≤◌, Bool, true, false, List, ◌++◌, length, replicate, refl, ap, ◌∙◌, arith, All}
-use Rattle.std.specs.List.{slice_index_or}
-use Rattle.std.proofs.lemmas.List.{length-replicate, length-append, get_or_past}
-use Rattle.std.proofs.lemmas.List.Elements.{All-append, All-replicate}
-use Rattle.snippet_model.proofs.RowLemmas.{each_fails}
-use Rattle.snippet_style.specs.declared.glyphs.DecorStyle.{DecorStyle}
-use Rattle.snippet_style.specs.declared.glyphs.DecorStyle.TheVariants.{Ascii, Unicode}
-use Rattle.snippet_style.specs.declared.role.ElementStyle.TheVariants.{LineNumber}
-use Rattle.snippet_style.specs.Glyphs.{closing_of}
-use Rattle.snippet_style.specs.Cell.{Cell, SPACE, text_cells}
-use Rattle.snippet_style.proofs.CellLemmas.{length-text_cells}
-use Rattle.snippet_text.specs.Normalized.{is_listed}
-use Rattle.snippet_model.specs.FreeRows.{IsFreeCell, IsFree}
-use Rattle.snippet_model.proofs.RowLemmas.{free_drawn}
-use Rattle.snippet_strokes.specs.SourceRows.{bare_row}
-use Rattle.snippet_style.proofs.RowLemmas.{led_before}
-use Rattle.snippet_model.proofs.RowLemmas.{free_separator_row}
+use Rattle.snippet_strokes.proofs.Common.{◌≡◌, ℕ, ◌+◌, ◌<◌, ◌≤◌, Bool, true, false, List, ◌++◌, length, replicate, refl, ap}
+use Rattle.snippet_strokes.proofs.Common.{◌∙◌, arith, All, slice_index_or, length-replicate, length-append, get_or_past, All-append, All-replicate}
+use Rattle.snippet_strokes.proofs.Common.{each_fails, DecorStyle, Ascii, Unicode, LineNumber, closing_of, Cell, SPACE, text_cells, length-text_cells, is_listed}
+use Rattle.snippet_strokes.proofs.Common.{IsFreeCell, IsFree, free_drawn, bare_row, led_before, free_separator_row}
 use Rattle.snippet_strokes.proofs.SourceRowLemmas.{length-separator_row, separator_row_blank}
 
 -- spaces and characters are as many cells as both

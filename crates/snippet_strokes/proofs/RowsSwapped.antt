@@ -1,13 +1,7 @@
 -- Writes into different rows, in either order.
-use Rattle.std.proofs.Common.{◌≡◌, ◌≢◌, ℕ, ◌<◌, List, [], ◌∷◌, inl, inr, refl, sym, ap, ◌∙◌, arith, All}
-use Rattle.std.proofs.lemmas.Bool.{cases_eq}
-use Rattle.std.proofs.lemmas.List.{ext_get_or}
-use Rattle.std.proofs.lemmas.List.Elements.{All-head, All-tail}
-use Rattle.snippet_grid.proofs.GridLemmas.{row_at-cells_written_other, row_at-cells_written_same}
-use Rattle.snippet_grid.specs.Grid.{cells_written, row_at}
-use Rattle.snippet_style.proofs.CellLemmas.{length-written}
-use Rattle.snippet_style.specs.Cell.{Cell, SPACE, text_cells, written}
-use Rattle.snippet_strokes.specs.Writes.{Write, painted}
+use Rattle.snippet_strokes.proofs.Common.{◌≡◌, ◌≢◌, ℕ, ◌<◌, List, [], ◌∷◌, inl, inr, refl, sym, ap, ◌∙◌, arith, All, cases_eq}
+use Rattle.snippet_strokes.proofs.Common.{ext_get_or, All-head, All-tail, row_at-cells_written_other, row_at-cells_written_same, cells_written, row_at}
+use Rattle.snippet_strokes.proofs.Common.{length-written, Cell, SPACE, text_cells, written, Write, painted}
 use Rattle.snippet_strokes.proofs.OneStep.{written_by}
 
 -- cells of two rows may be written in either order

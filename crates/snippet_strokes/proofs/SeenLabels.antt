@@ -1,16 +1,8 @@
 -- What is seen of the labels of a line: none is lost.
 use Rattle.std.specs.Prelude.{ℕ, Bool, true, ◌+◌, ◌<◌, ◌≤◌, ◌≡◌, ◌⊎◌, ◌==◌, ◌&&◌, ◌||◌, nat_le, nat_lt, max, All, List, [], count_by, length, map}
 use Rattle.std.specs.Prelude.{slice_index_or}
-use Rattle.snippet_style.specs.Cell.{Cell, unlinked_cell}
-use Rattle.snippet_style.specs.declared.glyphs.DecorStyle.{DecorStyle}
-use Rattle.snippet_grid.specs.Grid.{cell_at}
-use Rattle.snippet_parts.specs.Entries.{is_bar}
-use Rattle.snippet_parts.specs.declared.entries.LineAnnotation.{LineAnnotation}
-use Rattle.snippet_grid.specs.Layout.{Layout, code_cell}
-use Rattle.snippet_labels.specs.PlacedEntries.{label_role}
-use Rattle.snippet_labels.proofs.LabelWords.{label_text}
-use Rattle.snippet_labels.specs.Positions.{is_start_part}
-use Rattle.snippet_strokes.specs.Labels.{IsStrokeCell, IsStemCell}
+use Rattle.snippet_strokes.proofs.Common.{Cell, unlinked_cell, DecorStyle, cell_at, is_bar, LineAnnotation, Layout, code_cell, label_role, label_text}
+use Rattle.snippet_strokes.proofs.Common.{is_start_part, IsStrokeCell, IsStemCell}
 
 -- where the label of an entry begins: in which row of a line's strokes, that of the marks first, and in which cell of it
 pub record PlacedLabel : Type 0 where

@@ -1,34 +1,14 @@
 -- What is seen of the rows of lines, which are a value: what stands in their source rows, and in the rows of their strokes.
-use Rattle.std.proofs.Common.{◌≡◌, ℕ, ◌+◌, ◌<◌, ◌≤◌, ◌==◌, ◌&&◌, cond, nat_lt, Bool, true, false, None, List, [], ◌∷◌, ◌++◌, length, map, refl, sym, ap}
-use Rattle.std.proofs.Common.{◌∙◌, subst, arith, inl, inr, All, chars}
-use Rattle.std.specs.List.{slice_index_or}
-use Rattle.std.proofs.lemmas.Bool.{cases_Bool, cases_lt, false≢true}
-use Rattle.std.proofs.lemmas.List.{get_or_past}
-use Rattle.std.proofs.lemmas.List.Elements.{All-append, All-cons, All-from_get_or, All-get_or, All-head, All-nil, All-same, All-tail}
-use Rattle.snippet_lines.specs.declared.number.LineNumbers.{LineNumbers}
-use Rattle.snippet_lines.specs.Number.{shown_number}
-use Rattle.snippet_parts.specs.declared.entries.AnnotatedLineInfo.{AnnotatedLineInfo}
-use Rattle.snippet_parts.specs.declared.entries.LineAnnotation.{LineAnnotation}
-use Rattle.snippet_style.specs.declared.role.ElementStyle.{ElementStyle}
-use Rattle.snippet_style.specs.declared.role.ElementStyle.TheVariants.{LineNumber}
-use Rattle.snippet_style.specs.Glyphs.{separator_of}
-use Rattle.snippet_style.specs.Cell.{Cell, SPACE, gives_way, unlinked_cell}
-use Rattle.snippet_grid.specs.Layout.{Layout}
-use Rattle.snippet_text.specs.Normalized.{norm}
-use Rattle.snippet_model.specs.FreeRows.{IsFree, IsFreeCell}
-use Rattle.snippet_window.specs.declared.margin.Margin.{Margin}
-use Rattle.snippet_labels.specs.PlacedEntries.{shifted}
-use Rattle.snippet_strokes.specs.declared.bars.OpenBar.{OpenBar}
-use Rattle.snippet_strokes.specs.declared.bars.BarStroke.TheVariants.{Solid, Top}
-use Rattle.snippet_strokes.specs.Bars.{bars_apart, ends_of_bars}
+use Rattle.snippet_strokes.proofs.Common.{◌≡◌, ℕ, ◌+◌, ◌<◌, ◌≤◌, ◌==◌, ◌&&◌, cond, nat_lt, Bool, true, false, None, List, []}
+use Rattle.snippet_strokes.proofs.Common.{◌∷◌, ◌++◌, length, map, refl, sym, ap, ◌∙◌, subst, arith, inl, inr, All, slice_index_or, cases_Bool}
+use Rattle.snippet_strokes.proofs.Common.{cases_lt, false≢true, get_or_past, All-append, All-cons, All-from_get_or, All-get_or, All-head, All-nil, All-same}
+use Rattle.snippet_strokes.proofs.Common.{All-tail, LineNumbers, shown_number, AnnotatedLineInfo, LineAnnotation, ElementStyle, LineNumber, separator_of, Cell}
+use Rattle.snippet_strokes.proofs.Common.{SPACE, gives_way, unlinked_cell, Layout, norm, IsFree, IsFreeCell, Margin, shifted, OpenBar, Solid, Top, bars_apart}
+use Rattle.snippet_strokes.proofs.Common.{ends_of_bars, AreDrawable, LineView, gap_row, gap_rows, info_rows, infos_rows, HasBarRoom, is_whole_line, open_below}
+use Rattle.snippet_strokes.proofs.Common.{window_cells}
+use Rattle.std.proofs.Common.{chars}
 use Rattle.snippet_strokes.proofs.BarParts.{with_parts}
-use Rattle.snippet_strokes.specs.Drawable.{AreDrawable}
 use Rattle.snippet_strokes.proofs.LineFacts.{AreLineRows, AreOwnRows, CanBeShown, IsHighlighted, IsSourceRow, ShowsLine}
-use Rattle.snippet_strokes.specs.declared.snippet.LineView.{LineView}
-use Rattle.snippet_strokes.specs.Snippet.{gap_row}
-use Rattle.snippet_strokes.specs.InfoRows.{gap_rows, info_rows, infos_rows}
-use Rattle.snippet_strokes.specs.DrawnBars.{HasBarRoom, is_whole_line, open_below}
-use Rattle.snippet_strokes.specs.SourceRows.{window_cells}
 use Rattle.snippet_strokes.proofs.BarLemmas.{AreSeen-drawn, BarsDrawn-with_parts, bar_space}
 use Rattle.snippet_strokes.proofs.ElisionLemmas.{gap_drawn}
 use Rattle.snippet_strokes.proofs.LineFromValue.{info_rows_show}

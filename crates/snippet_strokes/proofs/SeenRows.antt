@@ -1,24 +1,11 @@
 -- What is seen of the rows of a line: of its source row, with what stands in it, and of the rows of its strokes below it.
 use Rattle.std.specs.Prelude.{◌≡◌, ℕ, ◌+◌, ◌<◌, ◌≤◌, ◌==◌, ◌&&◌, Bool, true, false, List, [], ◌∷◌, All, length, take, drop}
-use Rattle.std.specs.List.{slice_index_or}
-use Rattle.snippet_model.specs.declared.snippet.AnnotationKind.{AnnotationKind}
-use Rattle.snippet_parts.specs.declared.entries.LineAnnotation.{LineAnnotation}
-use Rattle.snippet_window.specs.Window.{AreReplaced}
-use Rattle.snippet_style.specs.declared.glyphs.DecorStyle.{DecorStyle}
-use Rattle.snippet_style.specs.Glyphs.{placeholder_of}
-use Rattle.snippet_grid.specs.Print.{row_text}
-use Rattle.snippet_grid.specs.Grid.{row_at}
-use Rattle.snippet_style.specs.Cell.{Cell, SPACE, text_cells}
-use Rattle.snippet_grid.specs.Layout.{Layout, inner_cell, space_cell}
-use Rattle.snippet_strokes.specs.EntryMarks.{IsMarkCell, IsBarCell, is_mark_role}
+use Rattle.snippet_strokes.proofs.Common.{slice_index_or, AnnotationKind, LineAnnotation, AreReplaced, DecorStyle, placeholder_of, row_text, row_at, Cell}
+use Rattle.snippet_strokes.proofs.Common.{SPACE, text_cells, Layout, inner_cell, space_cell, IsMarkCell, IsBarCell, is_mark_role, label_role, label_text}
+use Rattle.snippet_strokes.proofs.Common.{IsFree, bare_row, is_uncut}
 use Rattle.snippet_strokes.proofs.PlainEntries.{EntryCovers, IsEntryMark, are_plain, wide_entries}
-use Rattle.snippet_labels.specs.PlacedEntries.{label_role}
-use Rattle.snippet_labels.proofs.LabelWords.{label_text}
-use Rattle.snippet_model.specs.FreeRows.{IsFree}
 use Rattle.snippet_strokes.proofs.SeenLabels.{IsLabelledAtEnd, LabelsStand}
 use Rattle.snippet_strokes.proofs.DrawnCells.{StandsFrom}
-use Rattle.snippet_strokes.specs.SourceRows.{bare_row}
-use Rattle.snippet_strokes.specs.Strokes.{is_uncut}
 
 -- below each column that has a mark the row holds it, and below each column that no entry covers no cell is in the role of
 -- marks. Where no entry has a label that shows anything, a space stands there; after the mark of a line's one entry stand

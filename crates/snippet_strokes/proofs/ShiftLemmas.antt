@@ -1,11 +1,5 @@
 -- Entries of a line of which columns are dropped.
-use Rattle.std.proofs.Common.{ℕ, List, All, map, arith}
-use Rattle.std.proofs.lemmas.List.Elements.{All-map}
-use Rattle.snippet_grid.specs.Layout.{Layout}
-use Rattle.snippet_parts.specs.declared.entries.LineAnnotation.{LineAnnotation}
-use Rattle.snippet_labels.specs.PlacedEntries.{shifted}
-use Rattle.snippet_strokes.specs.Drawable.{HasBarCell}
-use Rattle.snippet_labels.specs.Placing.{HasPlace}
+use Rattle.snippet_strokes.proofs.Common.{ℕ, List, All, map, arith, All-map, Layout, LineAnnotation, shifted, HasBarCell, HasPlace}
 
 -- and they have their places, and their bars
 pub shifted_places : (dropped : ℕ) (es : List LineAnnotation) → All HasPlace es → All HasPlace (map (shifted dropped) es)

@@ -1,19 +1,9 @@
 -- What highlighting leaves in a source row.
-use Rattle.std.proofs.Common.{◌≡◌, ℕ, ◌+◌, ◌-◌, ◌<◌, ◌&&◌, false, List, length, max, get_or, sym}
-use Rattle.std.proofs.Common.{ap, ◌∙◌, arith, inl, inr}
+use Rattle.snippet_strokes.proofs.Common.{◌≡◌, ℕ, ◌+◌, ◌-◌, ◌<◌, ◌&&◌, false, List, length, max, get_or, sym, ap, ◌∙◌, arith, inl}
+use Rattle.snippet_strokes.proofs.Common.{inr, slice_index_or, list_any, cases_lt, and_left, and_right, lt-leb, get_or_past, get_or-map, length-map, ext_get_or}
+use Rattle.snippet_strokes.proofs.Common.{list_any_none, LineAnnotation, ElementStyle, Cell, SPACE, row_text, is_primary, highlights}
 use Rattle.std.specs.Prelude.{nat_le, nat_lt}
-use Rattle.std.specs.List.{slice_index_or, list_any}
-use Rattle.std.proofs.lemmas.Bool.{cases_lt, and_left, and_right, lt-leb}
-use Rattle.std.proofs.lemmas.List.{get_or_past}
-use Rattle.std.proofs.lemmas.List.{get_or-map, length-map, ext_get_or}
-use Rattle.std.proofs.lemmas.List.Folds.{list_any_none}
-use Rattle.snippet_parts.specs.declared.entries.LineAnnotation.{LineAnnotation}
-use Rattle.snippet_style.specs.declared.role.ElementStyle.{ElementStyle}
-use Rattle.snippet_style.specs.Cell.{Cell, SPACE}
-use Rattle.snippet_grid.specs.Print.{row_text}
-use Rattle.snippet_model.specs.AnnotationKind.{is_primary}
 use Rattle.snippet_strokes.proofs.LineFacts.{IsHighlighted}
-use Rattle.snippet_strokes.specs.StrokeRows.{highlights}
 use Rattle.snippet_strokes.proofs.StrokeWords.{role_in_source}
 
 -- highlighting leaves the row's text as it was

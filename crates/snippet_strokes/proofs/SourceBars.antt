@@ -1,17 +1,7 @@
 -- The source row of a line with the bars that are drawn in it: left of them and from the code on it is what it was.
-use Rattle.std.proofs.Common.{◌≡◌, ℕ, ◌+◌, ◌<◌, ◌≤◌, List, length, take, drop}
-use Rattle.std.proofs.Common.{sym, ap, ◌∙◌, subst, arith}
-use Rattle.std.specs.List.{slice_index_or}
-use Rattle.std.proofs.lemmas.List.{take-take}
-use Rattle.std.proofs.lemmas.List.Elements.{All-from_get_or}
-use Rattle.snippet_window.specs.Window.{AreReplaced}
-use Rattle.snippet_style.specs.Glyphs.{placeholder_of}
-use Rattle.snippet_grid.specs.Print.{row_text}
-use Rattle.snippet_grid.specs.Grid.{cell_at, row_at}
-use Rattle.snippet_style.specs.Cell.{Cell, SPACE}
-use Rattle.snippet_grid.specs.Layout.{Layout}
-use Rattle.snippet_strokes.specs.EntryMarks.{IsBarCell}
-use Rattle.snippet_model.specs.FreeRows.{IsFreeCell, IsFree}
+use Rattle.snippet_strokes.proofs.Common.{◌≡◌, ℕ, ◌+◌, ◌<◌, ◌≤◌, List, length, take, drop, sym, ap, ◌∙◌, subst, arith}
+use Rattle.snippet_strokes.proofs.Common.{slice_index_or, take-take, All-from_get_or, AreReplaced, placeholder_of, row_text, cell_at, row_at, Cell, SPACE}
+use Rattle.snippet_strokes.proofs.Common.{Layout, IsBarCell, IsFreeCell, IsFree}
 use Rattle.snippet_strokes.proofs.DrawnCells.{DrawsBarCells}
 use Rattle.snippet_strokes.proofs.SeenRows.{HasNoBars, IsBeside, IsCut}
 use Rattle.snippet_strokes.proofs.BegunLemmas.{free_cell, cut_left}

@@ -1,39 +1,19 @@
 -- Laws of the cells of bars beside a line and beside lines that are left out: where no bar has its place the row stays as it is.
-use Rattle.std.proofs.Common.{◌≡◌, ◌≢◌, ℕ, ◌+◌, ◌<◌, Bool, false, not, Some, List, [], ◌∷◌, ◌++◌, ◌==◌, All, Contains, map, length, get_or, ap, ◌∙◌, refl}
-use Rattle.std.proofs.Common.{arith, inl, inr}
-use Rattle.std.proofs.lemmas.Bool.{cases_Bool, false_from_ne_true, eqb-true}
-use Rattle.std.proofs.lemmas.List.{get_or-map, get_or_past, length-map}
-use Rattle.std.proofs.lemmas.List.Elements.{All-append, All-cons, All-filter, All-map, All-nil}
-use Rattle.snippet_style.specs.Cell.{Cell, SPACE}
-use Rattle.snippet_style.specs.Glyphs.{strokes_of}
-use Rattle.snippet_grid.specs.Grid.{cell_at, row_at}
-use Rattle.snippet_model.specs.AnnotationKind.{is_primary}
-use Rattle.snippet_parts.specs.declared.entries.LineAnnotation.{LineAnnotation}
-use Rattle.snippet_parts.specs.declared.entries.LineAnnotationType.{LineAnnotationType}
-use Rattle.snippet_parts.specs.declared.entries.LineAnnotationType.TheVariants.{Singleline, MultilineStart, MultilineEnd, MultilineLine}
-use Rattle.snippet_parts.proofs.AmongLemmas.{all_among, among_filter_map}
-use Rattle.snippet_grid.specs.Layout.{Layout}
-use Rattle.snippet_labels.specs.declared.positions.PlacedEntry.{PlacedEntry}
-use Rattle.snippet_labels.specs.PlacedEntries.{shifted}
-use Rattle.snippet_strokes.specs.Painting.{painting_order, stroke_role}
-use Rattle.snippet_strokes.specs.Writes.{Write, glyph_at, painted}
-use Rattle.snippet_labels.proofs.PlacedLemmas.{entries_all}
-use Rattle.snippet_strokes.specs.declared.bars.BarStroke.TheVariants.{Dotted, Solid, Top}
-use Rattle.snippet_strokes.specs.Bars.{Bar, bar_at, bars_apart, ends_of_bars}
+use Rattle.snippet_strokes.proofs.Common.{◌≡◌, ◌≢◌, ℕ, ◌+◌, ◌<◌, Bool, false, not, Some, List, [], ◌∷◌, ◌++◌, ◌==◌, All}
+use Rattle.snippet_strokes.proofs.Common.{Contains, map, length, get_or, ap, ◌∙◌, refl, arith, inl, inr, cases_Bool, false_from_ne_true, eqb-true}
+use Rattle.snippet_strokes.proofs.Common.{get_or-map, get_or_past, length-map, All-append, All-cons, All-filter, All-map, All-nil, Cell, SPACE, strokes_of}
+use Rattle.snippet_strokes.proofs.Common.{cell_at, row_at, is_primary, LineAnnotation, LineAnnotationType, Singleline, MultilineStart, MultilineEnd}
+use Rattle.snippet_strokes.proofs.Common.{MultilineLine, all_among, among_filter_map, Layout, PlacedEntry, shifted, painting_order, stroke_role, Write}
+use Rattle.snippet_strokes.proofs.Common.{glyph_at, painted, entries_all, Dotted, Solid, Top, Bar, bar_at, bars_apart, ends_of_bars, row_count}
+use Rattle.snippet_strokes.proofs.Common.{bare_elision_row, gap_row, column_of, connector_of, corner_of, connectors_of, corners_of, labels_of, HasOwnDepth}
+use Rattle.snippet_strokes.proofs.Common.{bar_of, has_depth, is_whole_line, stems_of}
 use Rattle.snippet_strokes.proofs.BarParts.{with_parts}
-use Rattle.snippet_strokes.specs.Drawing.{row_count}
 use Rattle.snippet_strokes.proofs.BarFacts.{BarBegins}
 use Rattle.snippet_strokes.proofs.LineFacts.{AreLineRows, AreOwnRows, StrokesPainted}
 use Rattle.snippet_strokes.proofs.LineRowLemmas.{rows_cut}
 use Rattle.snippet_strokes.proofs.Reach.{Reaches}
-use Rattle.snippet_strokes.specs.StrokeRows.{bare_elision_row}
-use Rattle.snippet_strokes.specs.Snippet.{gap_row}
-use Rattle.snippet_strokes.specs.Strokes.{column_of, connector_of, corner_of}
-use Rattle.snippet_strokes.specs.PaintedStrokes.{connectors_of, corners_of, labels_of}
-use Rattle.snippet_strokes.specs.DrawnBars.{HasOwnDepth, bar_of, has_depth, is_whole_line}
 use Rattle.snippet_strokes.proofs.StrokeWords.{begun_rows, corner_by}
 use Rattle.snippet_strokes.proofs.Drawn.{drawn_strokes, marks_of}
-use Rattle.snippet_strokes.specs.DrawnStems.{stems_of}
 use Rattle.snippet_strokes.proofs.AmongLaws.{all_from_among}
 use Rattle.snippet_strokes.proofs.BarWrites.{All-column_of, All-connector_of, All-stretch_of}
 use Rattle.snippet_strokes.proofs.ElisionLemmas.{bare_elision_short}

@@ -1,27 +1,14 @@
 -- What the writes of a source row make of it.
-use Rattle.std.proofs.Common.{◌≡◌, ◌≢◌, ℕ, ◌+◌, ◌-◌, ◌<◌, ◌≤◌, false, List, [], ◌∷◌, ◌++◌, length, take, drop, replicate, refl, sym, ap, ◌∙◌, arith, inl, inr}
-use Rattle.std.proofs.Common.{All, chars, max}
-use Rattle.std.specs.List.{slice_index_or}
-use Rattle.std.proofs.lemmas.Bool.{cases_lt}
-use Rattle.std.proofs.lemmas.List.{places, same_lists, append-nil, length-replicate, length-append, get_or_at, get_or_append_left, get_or-replicate}
-use Rattle.std.proofs.lemmas.List.{get_or_past, take_at, take-take, take-append-le, drop_all}
-use Rattle.std.proofs.lemmas.Str.{chars-nil}
-use Rattle.snippet_style.specs.declared.glyphs.DecorStyle.{DecorStyle}
-use Rattle.snippet_style.specs.declared.role.ElementStyle.TheVariants.{LineNumber}
-use Rattle.snippet_style.specs.Glyphs.{separator_of}
-use Rattle.snippet_grid.specs.Grid.{cells_written}
-use Rattle.snippet_style.specs.Cell.{Cell, SPACE, text_cells, unlinked_cell, written}
-use Rattle.snippet_style.proofs.CellLemmas.{length-text_cells, length-written, drop-written, take-written_past, slice_index_or-written_before}
-use Rattle.snippet_style.proofs.CellLemmas.{slice_index_or-written_after}
-use Rattle.snippet_text.specs.Normalized.{is_listed}
-use Rattle.snippet_model.specs.FreeRows.{IsFreeCell, IsFree}
-use Rattle.snippet_model.proofs.RowLemmas.{free_drawn}
-use Rattle.snippet_grid.specs.Layout.{Layout}
+use Rattle.snippet_strokes.proofs.Common.{◌≡◌, ◌≢◌, ℕ, ◌+◌, ◌-◌, ◌<◌, ◌≤◌, false, List, [], ◌∷◌, ◌++◌, length, take}
+use Rattle.snippet_strokes.proofs.Common.{drop, replicate, refl, sym, ap, ◌∙◌, arith, inl, inr, All, max, slice_index_or, cases_lt, places, same_lists}
+use Rattle.snippet_strokes.proofs.Common.{append-nil, length-replicate, length-append, get_or_at, get_or_append_left, get_or-replicate, get_or_past, take_at}
+use Rattle.snippet_strokes.proofs.Common.{take-take, take-append-le, drop_all, chars-nil, DecorStyle, LineNumber, separator_of, cells_written, Cell, SPACE}
+use Rattle.snippet_strokes.proofs.Common.{text_cells, unlinked_cell, written, length-text_cells, length-written, drop-written, take-written_past}
+use Rattle.snippet_strokes.proofs.Common.{slice_index_or-written_before, slice_index_or-written_after, is_listed, IsFreeCell, IsFree, free_drawn, Layout}
+use Rattle.snippet_strokes.proofs.Common.{source_row, with_cells, separator_row, texted, text_put, free_separator_row, free_written}
+use Rattle.std.proofs.Common.{chars}
 use Rattle.snippet_strokes.proofs.LineFacts.{IsSourceRow}
-use Rattle.snippet_strokes.specs.SourceRows.{source_row, with_cells}
-use Rattle.snippet_style.specs.Separators.{separator_row}
-use Rattle.snippet_grid.proofs.RowLemmas.{separator_row-begun as begun, texted, text_put}
-use Rattle.snippet_model.proofs.RowLemmas.{free_separator_row, free_written}
+use Rattle.snippet_grid.proofs.RowLemmas.{separator_row-begun as begun}
 
 -- writing from a list's start on
 written_start : (xs new : List Cell) → written SPACE xs 0 new ≡ new ++ drop (length new) xs

@@ -1,29 +1,12 @@
 -- Strokes are painted into the source row of a line apart from the rows below it: what stands in these is the same over any source row.
-use Rattle.std.proofs.Common.{◌≡◌, ℕ, zero, suc, ◌+◌, ◌-◌, ◌<◌, ◌≤◌, ◌==◌, ◌&&◌, Bool, cond, inl, inr, replicate, nat_lt, true}
-use Rattle.std.proofs.Common.{false, List, [], ◌∷◌, ◌++◌, length, map, take, drop, fold, All, get_or, subst, refl, sym, ap, ◌∙◌, arith}
-use Rattle.std.specs.List.{range_with_len}
-use Rattle.std.proofs.lemmas.List.{append_assoc, get_or-drop, get_or_default, length-drop, length-take-le, length_push, take-append-drop}
-use Rattle.std.proofs.lemmas.Bool.{cases_eq}
-use Rattle.std.proofs.lemmas.Bool.Decides.{nat_tests}
-use Rattle.std.proofs.lemmas.List.Concat.{flat_map-cons}
-use Rattle.std.proofs.lemmas.List.Elements.{All-append, All-cons, All-head, All-nil, All-tail}
-use Rattle.std.proofs.lemmas.List.Sums.{fold-append}
-use Rattle.snippet_grid.proofs.GridLemmas.{WritesCells-cells_written}
-use Rattle.snippet_grid.specs.Grid.{cells_written, row_at}
-use Rattle.snippet_grid.specs.Layout.{Layout}
-use Rattle.snippet_labels.specs.declared.positions.PlacedEntry.{PlacedEntry}
-use Rattle.snippet_model.specs.AnnotationKind.{is_primary}
-use Rattle.snippet_parts.specs.declared.entries.LineAnnotationType.{LineAnnotationType}
-use Rattle.snippet_parts.specs.declared.entries.LineAnnotationType.TheVariants.{Singleline, MultilineStart, MultilineEnd, MultilineLine}
-use Rattle.snippet_style.specs.Cell.{Cell, SPACE, text_cells, written}
-use Rattle.snippet_style.specs.Glyphs.{strokes_of}
-use Rattle.snippet_style.specs.Separators.{separator_row}
-use Rattle.snippet_strokes.specs.SourceRows.{bare_row}
-use Rattle.snippet_strokes.specs.Painting.{stroke_role}
-use Rattle.snippet_strokes.specs.DrawnStems.{stems_of}
-use Rattle.snippet_strokes.specs.Strokes.{connector_of, corner_of, label_of}
-use Rattle.snippet_strokes.specs.PaintedStrokes.{first_glyph, mark_end, connectors_of, corners_of, labels_of, top_of, tops_of}
-use Rattle.snippet_strokes.specs.Writes.{Write, glyph_at, painted, stretch_of}
+use Rattle.snippet_strokes.proofs.Common.{◌≡◌, ℕ, zero, suc, ◌+◌, ◌-◌, ◌<◌, ◌≤◌, ◌==◌, ◌&&◌, Bool, cond, inl, inr, replicate}
+use Rattle.snippet_strokes.proofs.Common.{nat_lt, true, false, List, [], ◌∷◌, ◌++◌, length, map, take, drop, fold, All, get_or, subst, refl, sym, ap}
+use Rattle.snippet_strokes.proofs.Common.{◌∙◌, arith, range_with_len, append_assoc, get_or-drop, get_or_default, length-drop, length-take-le, length_push}
+use Rattle.snippet_strokes.proofs.Common.{take-append-drop, cases_eq, nat_tests, flat_map-cons, All-append, All-cons, All-head, All-nil, All-tail, fold-append}
+use Rattle.snippet_strokes.proofs.Common.{WritesCells-cells_written, cells_written, row_at, Layout, PlacedEntry, is_primary, LineAnnotationType, Singleline}
+use Rattle.snippet_strokes.proofs.Common.{MultilineStart, MultilineEnd, MultilineLine, Cell, SPACE, text_cells, written, strokes_of, separator_row, bare_row}
+use Rattle.snippet_strokes.proofs.Common.{stroke_role, stems_of, connector_of, corner_of, label_of, first_glyph, mark_end, connectors_of, corners_of, labels_of}
+use Rattle.snippet_strokes.proofs.Common.{top_of, tops_of, Write, glyph_at, painted, stretch_of}
 use Rattle.snippet_strokes.proofs.BarWrites.{All-column_of, All-connector_of, All-stretch_of}
 use Rattle.snippet_strokes.proofs.BegunLemmas.{begun_row, sole}
 use Rattle.snippet_strokes.proofs.Drawn.{drawn_mark, drawn_strokes, marks_of}

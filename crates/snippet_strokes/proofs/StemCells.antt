@@ -1,30 +1,16 @@
 -- Stems lead to labels: below a mark whose label hangs, a stem stands in each row down to the label, unless a label stands there.
-use Rattle.std.proofs.Common.{◌≡◌, ℕ, zero, suc, ◌+◌, ◌-◌, ◌<◌, ◌≤◌, ◌==◌, ◌&&◌, ◌||◌, nat_le, nat_lt, cond, Bool, true, false, List, [], ◌∷◌, ◌++◌, length}
-use Rattle.std.proofs.Common.{get_or, map, refl, sym, ap, subst, arith, inl, inr, All}
-use Rattle.std.specs.List.{list_any, range_with_len}
-use Rattle.std.proofs.lemmas.Bool.{and_parts, cases_Bool}
-use Rattle.std.proofs.lemmas.Bool.Decides.{nat_tests}
-use Rattle.std.proofs.lemmas.List.Elements.{All-cons, All-head, All-nil, All-tail}
-use Rattle.std.proofs.lemmas.List.FromFn.{get_or-map-range_with_len, length-map-range_with_len}
-use Rattle.snippet_grid.specs.Grid.{cell_at}
-use Rattle.snippet_model.specs.AnnotationKind.{is_primary}
-use Rattle.snippet_style.specs.Cell.{Cell, unlinked_cell}
-use Rattle.snippet_style.specs.Glyphs.{strokes_of, underline_role}
-use Rattle.snippet_style.specs.declared.glyphs.DecorStyle.{DecorStyle}
+use Rattle.snippet_strokes.proofs.Common.{◌≡◌, ℕ, zero, suc, ◌+◌, ◌-◌, ◌<◌, ◌≤◌, ◌==◌, ◌&&◌, ◌||◌, nat_le, nat_lt, cond}
+use Rattle.snippet_strokes.proofs.Common.{Bool, true, false, List, [], ◌∷◌, ◌++◌, length, get_or, map, refl, sym, ap, subst, arith, inl, inr, All}
+use Rattle.snippet_strokes.proofs.Common.{list_any, range_with_len, and_parts, cases_Bool, nat_tests, All-cons, All-head, All-nil, All-tail}
+use Rattle.snippet_strokes.proofs.Common.{get_or-map-range_with_len, length-map-range_with_len, cell_at, is_primary, Cell, unlinked_cell, strokes_of}
+use Rattle.snippet_strokes.proofs.Common.{underline_role, DecorStyle, Layout, PlacedEntry, stroke_role, has_label, has_stem, takes_space, Write, glyph_at}
+use Rattle.snippet_strokes.proofs.Common.{painted, stretch_of, IsStemCell, stem_glyphs, label_of, stem_of, first_glyph, mark_end, foot_glyph, connectors_of}
+use Rattle.snippet_strokes.proofs.Common.{corners_of, labels_of, is_stem_covered, stems_of}
 use Rattle.snippet_strokes.proofs.StrokeGlyphs.{of_foot, stems_among}
-use Rattle.snippet_grid.specs.Layout.{Layout}
-use Rattle.snippet_labels.specs.declared.positions.PlacedEntry.{PlacedEntry}
-use Rattle.snippet_strokes.specs.Painting.{stroke_role}
-use Rattle.snippet_labels.specs.Positions.{has_label, has_stem, takes_space}
-use Rattle.snippet_strokes.specs.Writes.{Write, glyph_at, painted, stretch_of}
 use Rattle.snippet_strokes.proofs.OneStep.{written_by}
 use Rattle.snippet_strokes.proofs.WriteLemmas.{painted-append}
-use Rattle.snippet_strokes.specs.Labels.{IsStemCell, stem_glyphs}
 use Rattle.snippet_strokes.proofs.Reach.{Reaches, cell_of_write}
-use Rattle.snippet_strokes.specs.Strokes.{label_of, stem_of}
-use Rattle.snippet_strokes.specs.PaintedStrokes.{first_glyph, mark_end, foot_glyph, connectors_of, corners_of, labels_of}
 use Rattle.snippet_strokes.proofs.Drawn.{drawn_mark, drawn_strokes, marks_of}
-use Rattle.snippet_strokes.specs.DrawnStems.{is_stem_covered, stems_of}
 use Rattle.snippet_strokes.proofs.StrokeWords.{stem_write}
 use Rattle.snippet_strokes.proofs.BarWrites.{All-stretch_of}
 use Rattle.snippet_strokes.proofs.LabelWrites.{All-label_of}

@@ -1,17 +1,8 @@
 -- Rows in which no stem leads to a label contradict what is promised of labels.
-use Rattle.std.proofs.Common.{◌≡◌, ℕ, ◌+◌, ◌-◌, ◌<◌, ◌≤◌, ◌==◌, ◌&&◌, nat_le, nat_lt, true, false, List, length, count_by, get_or, refl, sym, ap, ◌∙◌, arith}
-use Rattle.std.proofs.Common.{inl, inr}
-use Rattle.std.proofs.lemmas.Bool.{and_parts, cases_Bool, false≢true}
-use Rattle.std.proofs.lemmas.Bool.Decides.{nat_tests}
-use Rattle.snippet_grid.specs.Grid.{cell_at}
-use Rattle.snippet_model.specs.declared.snippet.AnnotationKind.{AnnotationKind}
-use Rattle.snippet_model.specs.declared.snippet.AnnotationKind.TheVariants.{Primary, Context, Visible}
-use Rattle.snippet_style.specs.Cell.{Cell, SPACE, gives_way}
-use Rattle.snippet_parts.specs.declared.entries.LineAnnotation.{LineAnnotation}
-use Rattle.snippet_grid.specs.Layout.{Layout}
-use Rattle.snippet_labels.specs.PlacedEntries.{label_role}
-use Rattle.snippet_labels.proofs.LabelWords.{label_text}
-use Rattle.snippet_strokes.specs.EntryMarks.{is_mark_role}
+use Rattle.snippet_strokes.proofs.Common.{◌≡◌, ℕ, ◌+◌, ◌-◌, ◌<◌, ◌≤◌, ◌==◌, ◌&&◌, nat_le, nat_lt, true, false, List, length}
+use Rattle.snippet_strokes.proofs.Common.{count_by, get_or, refl, sym, ap, ◌∙◌, arith, inl, inr, and_parts, cases_Bool, false≢true, nat_tests, cell_at}
+use Rattle.snippet_strokes.proofs.Common.{AnnotationKind, Primary, Context, Visible, Cell, SPACE, gives_way, LineAnnotation, Layout, label_role, label_text}
+use Rattle.snippet_strokes.proofs.Common.{is_mark_role}
 use Rattle.snippet_strokes.proofs.SeenLabels.{LabelsStand, PlacedLabel, StandsIn, is_cell_of}
 use Rattle.snippet_strokes.proofs.LabelPlaces.{none_pass}
 

@@ -1,24 +1,11 @@
 -- The writes of stems.
-use Rattle.std.proofs.Common.{◌≡◌, ℕ, suc, ◌+◌, ◌<◌, ◌≤◌, ◌==◌, cond, Bool, true, false, List, [], ◌∷◌, ◌++◌, length, map, get_or, refl, sym, ap, ◌∙◌, subst}
-use Rattle.std.proofs.Common.{arith, All}
-use Rattle.std.specs.List.{range_with_len}
-use Rattle.std.proofs.lemmas.List.Elements.{All-append, All-cons, All-head, All-map, All-nil, All-tail, All-weaker}
-use Rattle.std.proofs.lemmas.List.FromFn.{get_or-range_with_len, length-range_with_len}
-use Rattle.snippet_style.specs.Glyphs.{strokes_of}
-use Rattle.snippet_style.specs.Cell.{Cell}
-use Rattle.snippet_text.specs.Normalized.{is_listed}
-use Rattle.snippet_grid.specs.Layout.{Layout}
-use Rattle.snippet_labels.specs.declared.positions.PlacedEntry.{PlacedEntry}
-use Rattle.snippet_strokes.specs.EntryMarks.{is_mark_role}
-use Rattle.snippet_model.specs.AnnotationKind.{is_primary}
-use Rattle.snippet_strokes.specs.Places.{HasRows}
-use Rattle.snippet_strokes.specs.PaintedStrokes.{foot_glyph}
+use Rattle.snippet_strokes.proofs.Common.{◌≡◌, ℕ, suc, ◌+◌, ◌<◌, ◌≤◌, ◌==◌, cond, Bool, true, false, List, [], ◌∷◌, ◌++◌}
+use Rattle.snippet_strokes.proofs.Common.{length, map, get_or, refl, sym, ap, ◌∙◌, subst, arith, All, range_with_len, All-append, All-cons, All-head}
+use Rattle.snippet_strokes.proofs.Common.{All-map, All-nil, All-tail, All-weaker, get_or-range_with_len, length-range_with_len, strokes_of, Cell, is_listed}
+use Rattle.snippet_strokes.proofs.Common.{Layout, PlacedEntry, is_mark_role, is_primary, HasRows, foot_glyph, has_label, has_stem, Write, painted, stem_of}
+use Rattle.snippet_strokes.proofs.Common.{is_stem_covered, stems_of}
 use Rattle.snippet_strokes.proofs.DrawnCells.{DrawsFrom, MarksStarts, StandsFrom}
-use Rattle.snippet_labels.specs.Positions.{has_label, has_stem}
-use Rattle.snippet_strokes.specs.Writes.{Write, painted}
 use Rattle.snippet_strokes.proofs.Reach.{Reaches, IsWithin, cell_of_write}
-use Rattle.snippet_strokes.specs.Strokes.{stem_of}
-use Rattle.snippet_strokes.specs.DrawnStems.{is_stem_covered, stems_of}
 use Rattle.snippet_strokes.proofs.StrokeWords.{stem_write}
 use Rattle.snippet_strokes.proofs.MarkStrokeLemmas.{free_strokes}
 use Rattle.snippet_strokes.proofs.StrokeGlyphs.{of_foot}

@@ -1,30 +1,15 @@
 -- What strokes leave from the code on: spaces, glyphs of strokes and labels, and nothing else.
-use Rattle.std.proofs.Common.{◌≡◌, ℕ, ◌+◌, ◌-◌, ◌<◌, ◌≤◌, ◌==◌, nat_lt, cond, Bool, true, false, List, [], ◌∷◌, ◌++◌, get_or, replicate, refl, arith, inr, All}
-use Rattle.std.specs.List.{list_any}
-use Rattle.std.proofs.lemmas.List.Elements.{All-append, All-cons, All-nil, All-replicate}
-use Rattle.snippet_grid.specs.Grid.{cell_at}
-use Rattle.snippet_model.specs.AnnotationKind.{is_primary}
-use Rattle.snippet_style.specs.Cell.{Cell, unlinked_cell}
-use Rattle.snippet_style.specs.Glyphs.{strokes_of, underline_role}
-use Rattle.snippet_style.specs.declared.glyphs.DecorStyle.{DecorStyle}
+use Rattle.snippet_strokes.proofs.Common.{◌≡◌, ℕ, ◌+◌, ◌-◌, ◌<◌, ◌≤◌, ◌==◌, nat_lt, cond, Bool, true, false, List, [], ◌∷◌}
+use Rattle.snippet_strokes.proofs.Common.{◌++◌, get_or, replicate, refl, arith, inr, All, list_any, All-append, All-cons, All-nil, All-replicate, cell_at}
+use Rattle.snippet_strokes.proofs.Common.{is_primary, Cell, unlinked_cell, strokes_of, underline_role, DecorStyle, LineAnnotationType, Singleline}
+use Rattle.snippet_strokes.proofs.Common.{MultilineStart, MultilineEnd, MultilineLine, Layout, PlacedEntry, IsStrokeCell, stroke_glyphs, stroke_role, has_label}
+use Rattle.snippet_strokes.proofs.Common.{Write, glyph_at, painted, stretch_of, connector_of, corner_of, label_of, first_glyph, mark_end, foot_glyph}
+use Rattle.snippet_strokes.proofs.Common.{connectors_of, corners_of, labels_of, HasBarCell, HasBarCellAt, stem_of, stems_of}
 use Rattle.snippet_strokes.proofs.MarkStrokeLemmas.{of_first}
 use Rattle.snippet_strokes.proofs.StrokeGlyphs.{code_among, of_foot}
-use Rattle.snippet_parts.specs.declared.entries.LineAnnotationType.{LineAnnotationType}
-use Rattle.snippet_parts.specs.declared.entries.LineAnnotationType.TheVariants.{Singleline, MultilineStart, MultilineEnd, MultilineLine}
-use Rattle.snippet_grid.specs.Layout.{Layout}
-use Rattle.snippet_labels.specs.declared.positions.PlacedEntry.{PlacedEntry}
-use Rattle.snippet_strokes.specs.Labels.{IsStrokeCell, stroke_glyphs}
-use Rattle.snippet_strokes.specs.Painting.{stroke_role}
-use Rattle.snippet_labels.specs.Positions.{has_label}
 use Rattle.snippet_strokes.proofs.Reach.{Reaches, cell_of_write}
-use Rattle.snippet_strokes.specs.Writes.{Write, glyph_at, painted, stretch_of}
-use Rattle.snippet_strokes.specs.Strokes.{connector_of, corner_of, label_of}
-use Rattle.snippet_strokes.specs.PaintedStrokes.{first_glyph, mark_end, foot_glyph, connectors_of, corners_of, labels_of}
-use Rattle.snippet_strokes.specs.Drawable.{HasBarCell, HasBarCellAt}
 use Rattle.snippet_strokes.proofs.StrokeWords.{bar_writes, corner_by, label_write}
-use Rattle.snippet_strokes.specs.Strokes.{stem_of}
 use Rattle.snippet_strokes.proofs.Drawn.{drawn_mark, drawn_strokes, marks_of}
-use Rattle.snippet_strokes.specs.DrawnStems.{stems_of}
 use Rattle.snippet_strokes.proofs.BarWrites.{All-column_of, All-connector_of, All-stretch_of}
 use Rattle.snippet_strokes.proofs.LabelWrites.{All-label_of}
 use Rattle.snippet_strokes.proofs.StemWrites.{All-stem_of, All-stems_of}

@@ -1,16 +1,7 @@
 -- The table of strokes: each glyph is among those of its kind, and none is a listed character.
-use Rattle.std.proofs.Common.{◌≡◌, ℕ, ◌==◌, ◌&&◌, cond, Bool, true, false, refl}
-use Rattle.std.specs.List.{list_any}
-use Rattle.snippet_text.specs.Normalized.{is_listed}
-use Rattle.snippet_style.specs.Glyphs.{strokes_of}
-use Rattle.snippet_style.specs.declared.glyphs.DecorStyle.{DecorStyle}
-use Rattle.snippet_style.specs.declared.glyphs.DecorStyle.TheVariants.{Ascii, Unicode}
-use Rattle.snippet_style.proofs.StrokeLemmas.{EachBar, EachCode, EachStem, each_bar, each_code, each_stem}
-use Rattle.snippet_parts.specs.declared.entries.LineAnnotationType.{LineAnnotationType}
-use Rattle.snippet_parts.specs.declared.entries.LineAnnotationType.TheVariants.{Singleline, MultilineStart, MultilineEnd, MultilineLine}
-use Rattle.snippet_labels.specs.PlacedEntries.{is_end_part}
-use Rattle.snippet_labels.specs.Positions.{is_start_part}
-use Rattle.snippet_strokes.specs.Labels.{stem_glyphs, stroke_glyphs}
+use Rattle.snippet_strokes.proofs.Common.{◌≡◌, ℕ, ◌==◌, ◌&&◌, cond, Bool, true, false, refl, list_any, is_listed, strokes_of, DecorStyle, Ascii}
+use Rattle.snippet_strokes.proofs.Common.{Unicode, EachBar, EachCode, EachStem, each_bar, each_code, each_stem, LineAnnotationType, Singleline, MultilineStart}
+use Rattle.snippet_strokes.proofs.Common.{MultilineEnd, MultilineLine, is_end_part, is_start_part, stem_glyphs, stroke_glyphs}
 
 -- each glyph of stems is among those of its decor
 pub stems_among : (decor : DecorStyle) (primary : Bool) → EachStem (λ ch. list_any (λ g. ch == g) (stem_glyphs decor) ≡ true) (strokes_of decor primary)

@@ -1,50 +1,25 @@
 -- The rows of a line's strokes, once all are drawn.
-use Rattle.std.proofs.Common.{◌≡◌, ◌≢◌, ℕ, zero, suc, ◌+◌, ◌-◌, ◌<◌, ◌≤◌, ◌==◌, ◌&&◌, max, not, Bool, true, false, List, [], ◌∷◌, ◌++◌, length, map, drop}
-use Rattle.std.proofs.Common.{replicate, get_or, refl, sym, ap, ◌∙◌, subst, arith, inl, inr, All, chars}
-use Rattle.std.specs.List.{slice_index_or}
-use Rattle.std.specs.List.Sorted.{IsPermutation}
-use Rattle.std.proofs.lemmas.Bool.{cases_lt}
-use Rattle.std.proofs.lemmas.Bool.Decides.{nat_tests}
-use Rattle.std.proofs.lemmas.List.{length-append, length-replicate, length-drop, get_or_append_left, get_or_past, get_or_push, length_push}
-use Rattle.std.proofs.lemmas.List.{get_or-drop}
-use Rattle.std.proofs.lemmas.List.Elements.{All-from_get_or, All-nil, All-cons}
-use Rattle.std.proofs.lemmas.List.Sorted.{IsPermutation-map, IsPermutation-trans, length_permutation}
-use Rattle.snippet_parts.specs.declared.entries.LineAnnotation.{LineAnnotation}
-use Rattle.snippet_grid.specs.Grid.{cell_at, row_at, cells_written}
-use Rattle.snippet_style.specs.Cell.{Cell, SPACE, text_cells, written}
-use Rattle.snippet_grid.proofs.GridLemmas.{row_at-cells_written_same}
-use Rattle.snippet_style.proofs.CellLemmas.{length-written}
-use Rattle.snippet_grid.specs.Layout.{Layout}
-use Rattle.snippet_labels.specs.declared.positions.PlacedEntry.{PlacedEntry}
-use Rattle.snippet_strokes.specs.EntryMarks.{IsBarCell, is_mark_role}
+use Rattle.snippet_strokes.proofs.Common.{◌≡◌, ◌≢◌, ℕ, zero, suc, ◌+◌, ◌-◌, ◌<◌, ◌≤◌, ◌==◌, ◌&&◌, max, not, Bool, true}
+use Rattle.snippet_strokes.proofs.Common.{false, List, [], ◌∷◌, ◌++◌, length, map, drop, replicate, get_or, refl, sym, ap, ◌∙◌, subst, arith}
+use Rattle.snippet_strokes.proofs.Common.{inl, inr, All, slice_index_or, IsPermutation, cases_lt, nat_tests, length-append, length-replicate, length-drop}
+use Rattle.snippet_strokes.proofs.Common.{get_or_append_left, get_or_past, get_or_push, length_push, get_or-drop, All-from_get_or, All-nil, All-cons}
+use Rattle.snippet_strokes.proofs.Common.{IsPermutation-map, IsPermutation-trans, length_permutation, LineAnnotation, cell_at, row_at, cells_written, Cell}
+use Rattle.snippet_strokes.proofs.Common.{SPACE, text_cells, written, row_at-cells_written_same, length-written, Layout, PlacedEntry, IsBarCell, is_mark_role}
+use Rattle.snippet_strokes.proofs.Common.{label_role, label_text, IsFreeCell, painting_order, painted, row_count, HasRows, has_label, has_stem, takes_space}
+use Rattle.snippet_strokes.proofs.Common.{bare_row, separator_row, IsStrokeCell, is_uncut, mark_end, connectors_of, corners_of, labels_of, HasPlace}
+use Rattle.snippet_strokes.proofs.Common.{HasItsLabel, ArePlaced, HasBarCell, stems_of, entries_all}
+use Rattle.std.proofs.Common.{chars}
 use Rattle.snippet_strokes.proofs.PlainEntries.{EntryCovers, are_plain, is_single, wide_entries}
-use Rattle.snippet_labels.specs.PlacedEntries.{label_role}
-use Rattle.snippet_labels.proofs.LabelWords.{label_text}
-use Rattle.snippet_model.specs.FreeRows.{IsFreeCell}
-use Rattle.snippet_strokes.specs.Painting.{painting_order}
 use Rattle.snippet_strokes.proofs.PaintedMarks.{IsPaintedAt, AreMarked, StandsWhole}
-use Rattle.snippet_strokes.specs.Writes.{painted}
-use Rattle.snippet_strokes.specs.Drawing.{row_count}
-use Rattle.snippet_strokes.specs.Places.{HasRows}
 use Rattle.snippet_strokes.proofs.DrawnCells.{DrawsFrom, DrawsBarCells, KeepsBarCells, MarksStarts, StandsFrom}
-use Rattle.snippet_labels.specs.Positions.{has_label, has_stem, takes_space}
-use Rattle.snippet_strokes.specs.SourceRows.{bare_row}
 use Rattle.snippet_strokes.proofs.SeenRows.{AreSeen, CutsRows, HasNoBars, IsCut, IsStrokeRow, ShowsMarks}
-use Rattle.snippet_style.specs.Separators.{separator_row}
 use Rattle.snippet_strokes.proofs.DrawLemmas.{DrawsFrom-more, bar_space}
-use Rattle.snippet_strokes.specs.Labels.{IsStrokeCell}
-use Rattle.snippet_strokes.specs.Strokes.{is_uncut}
-use Rattle.snippet_strokes.specs.PaintedStrokes.{mark_end, connectors_of, corners_of, labels_of}
-use Rattle.snippet_labels.specs.Placing.{HasPlace, HasItsLabel, ArePlaced}
-use Rattle.snippet_strokes.specs.Drawable.{HasBarCell}
 use Rattle.snippet_strokes.proofs.Drawn.{drawn_strokes, marks_of}
-use Rattle.snippet_strokes.specs.DrawnStems.{stems_of}
 use Rattle.snippet_strokes.proofs.LabelPlaces.{HasStrokesBeside, LabelsStand-placed}
 use Rattle.snippet_strokes.proofs.StrokeCells.{cell_of_strokes}
 use Rattle.snippet_strokes.proofs.StemCells.{IsHung, all_hung}
 use Rattle.snippet_strokes.proofs.MarkLemmas.{mark_shown}
 use Rattle.snippet_strokes.proofs.PlainMarks.{IsPlainEntry, covered_painted, mark_end_plain, spaceless}
-use Rattle.snippet_labels.proofs.PlacedLemmas.{entries_all}
 use Rattle.snippet_strokes.proofs.LabelKept.{labels_kept}
 use Rattle.snippet_strokes.proofs.MarkWriteLemmas.{AreMarked-marks}
 use Rattle.snippet_strokes.proofs.BarWrites.{DrawsBarCells-corners, DrawsFrom-connectors, KeepsBarCells-connectors, connectors_none, corners_none}

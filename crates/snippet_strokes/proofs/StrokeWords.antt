@@ -1,30 +1,10 @@
 -- Words for the parts of the strokes of a line, which proofs cite.
-use Rattle.std.proofs.Common.{ℕ, ◌+◌, ◌-◌, ◌==◌, ◌++◌, Bool, List, [], ◌∷◌, ◌&&◌}
-use Rattle.std.specs.Prelude.{if◌then◌else◌, replicate, fold}
-use Rattle.std.specs.Option.{option_map_or}
-use Rattle.snippet_grid.specs.Layout.{Layout, bar_cell, code_cell, inner_cell}
-use Rattle.snippet_labels.specs.PlacedEntries.{label_role}
-use Rattle.snippet_labels.proofs.LabelWords.{label_text}
-use Rattle.snippet_labels.specs.Positions.{is_start_part, label_place}
-use Rattle.snippet_labels.specs.declared.positions.PlacedEntry.{PlacedEntry}
-use Rattle.snippet_model.specs.AnnotationKind.{is_primary}
-use Rattle.snippet_parts.specs.declared.entries.LineAnnotationType.{LineAnnotationType}
-use Rattle.snippet_style.specs.Cell.{Cell, gives_way, text_cells}
-use Rattle.snippet_style.specs.Glyphs.{strokes_of, placeholder_of}
-use Rattle.snippet_style.specs.Separators.{separator_row}
-use Rattle.snippet_strokes.specs.Bars.{bar_at}
-use Rattle.snippet_strokes.specs.PaintedStrokes.{foot_glyph}
-use Rattle.snippet_strokes.specs.Painting.{stroke_role}
-use Rattle.snippet_strokes.specs.SourceRows.{bare_row}
-use Rattle.snippet_strokes.specs.Strokes.{column_of}
-use Rattle.snippet_strokes.specs.Writes.{Write, glyph_at, stretch_of}
-use Rattle.std.specs.List.{list_any}
-use Rattle.snippet_parts.specs.declared.entries.LineAnnotation.{LineAnnotation}
-use Rattle.snippet_style.specs.declared.role.ElementStyle.{ElementStyle}
-use Rattle.snippet_style.specs.declared.role.ElementStyle.TheVariants.{UnderlinePrimary, UnderlineSecondary, LineNumber}
-use Rattle.snippet_strokes.specs.StrokeRows.{highlights}
-use Rattle.snippet_grid.specs.Grid.{replaced_within}
-use Rattle.snippet_style.specs.declared.glyphs.DecorStyle.{DecorStyle}
+use Rattle.snippet_strokes.proofs.Common.{ℕ, ◌+◌, ◌-◌, ◌==◌, ◌++◌, Bool, List, [], ◌∷◌, ◌&&◌, if◌then◌else◌, option_map_or}
+use Rattle.snippet_strokes.proofs.Common.{Layout, bar_cell, code_cell, inner_cell, label_role, label_text, is_start_part, label_place, PlacedEntry, is_primary}
+use Rattle.snippet_strokes.proofs.Common.{LineAnnotationType, Cell, gives_way, text_cells, strokes_of, placeholder_of, separator_row, bar_at, foot_glyph}
+use Rattle.snippet_strokes.proofs.Common.{stroke_role, bare_row, column_of, Write, glyph_at, stretch_of, list_any, LineAnnotation, ElementStyle}
+use Rattle.snippet_strokes.proofs.Common.{UnderlinePrimary, UnderlineSecondary, LineNumber, highlights, replaced_within, DecorStyle}
+use Rattle.std.specs.Prelude.{replicate, fold}
 use Rattle.snippet_strokes.proofs.CutWords.{Stretch}
 
 -- the label of an entry

@@ -1,25 +1,12 @@
 -- Labels, stems, columns and all strokes of a line, as writes one after another.
-use Rattle.std.proofs.Common.{◌≡◌, ℕ, ◌+◌, ◌-◌, ◌≤◌, List, [], ◌∷◌, ◌++◌, sym, ap, ◌∙◌, arith, inl, inr, cond, true, false, map, ◌==◌}
-use Rattle.std.proofs.lemmas.Bool.{cases_Bool}
-use Rattle.std.specs.List.{range_with_len}
-use Rattle.std.proofs.lemmas.List.FromFn.{map-range_with_len_more}
-use Rattle.snippet_style.specs.declared.role.ElementStyle.{ElementStyle}
-use Rattle.snippet_style.specs.Cell.{Cell, text_cells}
-use Rattle.snippet_grid.specs.Grid.{cells_written}
-use Rattle.snippet_grid.specs.Layout.{Layout}
-use Rattle.snippet_labels.specs.declared.positions.PlacedEntry.{PlacedEntry}
-use Rattle.snippet_style.specs.Glyphs.{strokes_of, underline_role}
-use Rattle.snippet_model.specs.AnnotationKind.{is_primary}
-use Rattle.snippet_labels.specs.PlacedEntries.{label_role}
-use Rattle.snippet_labels.proofs.LabelWords.{label_text}
-use Rattle.snippet_labels.specs.Positions.{has_label, label_place}
-use Rattle.snippet_strokes.specs.Writes.{Write, glyph_at, painted}
+use Rattle.snippet_strokes.proofs.Common.{◌≡◌, ℕ, ◌+◌, ◌-◌, ◌≤◌, List, [], ◌∷◌, ◌++◌, sym, ap, ◌∙◌, arith, inl, inr, cond}
+use Rattle.snippet_strokes.proofs.Common.{true, false, map, ◌==◌, cases_Bool, range_with_len, map-range_with_len_more, ElementStyle, Cell, text_cells}
+use Rattle.snippet_strokes.proofs.Common.{cells_written, Layout, PlacedEntry, strokes_of, underline_role, is_primary, label_role, label_text, has_label}
+use Rattle.snippet_strokes.proofs.Common.{label_place, Write, glyph_at, painted, column_of, label_of, foot_glyph, connectors_of, corners_of, labels_of}
+use Rattle.snippet_strokes.proofs.Common.{stems_of}
 use Rattle.snippet_strokes.proofs.OneStep.{written_by}
-use Rattle.snippet_strokes.specs.Strokes.{column_of, label_of}
-use Rattle.snippet_strokes.specs.PaintedStrokes.{foot_glyph, connectors_of, corners_of, labels_of}
 use Rattle.snippet_strokes.proofs.StrokeWords.{label_write, stem_write}
 use Rattle.snippet_strokes.proofs.Drawn.{drawn_strokes, drawn_under_marks, marks_of}
-use Rattle.snippet_strokes.specs.DrawnStems.{stems_of}
 use Rattle.snippet_strokes.proofs.WriteLemmas.{painted-append}
 
 -- a label is written where the entry has one

@@ -1,36 +1,16 @@
 -- Strokes stay in the rows that there are, so a line has as many rows as its entries ask for, and its source row.
-use Rattle.std.proofs.Common.{◌≡◌, ℕ, ◌+◌, ◌-◌, ◌<◌, ◌≤◌, cond, Bool, true, false, List, [], ◌∷◌, ◌++◌, All, length, map, take, drop, replicate, get_or}
-use Rattle.std.proofs.Common.{nat_lt, sym, ap, ◌∙◌, arith, inl, inr}
-use Rattle.std.specs.List.{range_with_len}
-use Rattle.std.proofs.lemmas.Bool.{cases_eq, eq-eqb}
-use Rattle.std.proofs.lemmas.List.{length-append, length-map, length-replicate, take-append-drop}
-use Rattle.std.proofs.lemmas.List.Elements.{All-append, All-cons, All-map, All-nil}
-use Rattle.std.proofs.lemmas.List.FromFn.{get_or-range_with_len, length-range_with_len}
-use Rattle.snippet_grid.specs.Layout.{Layout, bar_cell, code_cell, inner_cell}
-use Rattle.snippet_model.specs.AnnotationKind.{is_primary}
-use Rattle.snippet_style.specs.Cell.{Cell}
-use Rattle.snippet_style.specs.Glyphs.{strokes_of}
-use Rattle.snippet_style.specs.Separators.{separator_row}
-use Rattle.snippet_style.specs.declared.role.ElementStyle.{ElementStyle}
-use Rattle.snippet_parts.specs.declared.entries.LineAnnotation.{LineAnnotation}
-use Rattle.snippet_parts.specs.declared.entries.LineAnnotationType.{LineAnnotationType}
-use Rattle.snippet_parts.specs.declared.entries.LineAnnotationType.TheVariants.{MultilineEnd, MultilineLine, MultilineStart, Singleline}
-use Rattle.snippet_labels.specs.Positions.{has_label, label_place, placed_of}
-use Rattle.snippet_labels.specs.declared.positions.PlacedEntry.{PlacedEntry}
-use Rattle.snippet_strokes.specs.Cuts.{overlapped}
+use Rattle.snippet_strokes.proofs.Common.{◌≡◌, ℕ, ◌+◌, ◌-◌, ◌<◌, ◌≤◌, cond, Bool, true, false, List, [], ◌∷◌, ◌++◌, All}
+use Rattle.snippet_strokes.proofs.Common.{length, map, take, drop, replicate, get_or, nat_lt, sym, ap, ◌∙◌, arith, inl, inr, range_with_len, cases_eq}
+use Rattle.snippet_strokes.proofs.Common.{eq-eqb, length-append, length-map, length-replicate, take-append-drop, All-append, All-cons, All-map, All-nil}
+use Rattle.snippet_strokes.proofs.Common.{get_or-range_with_len, length-range_with_len, Layout, bar_cell, code_cell, inner_cell, is_primary, Cell, strokes_of}
+use Rattle.snippet_strokes.proofs.Common.{separator_row, ElementStyle, LineAnnotation, LineAnnotationType, MultilineEnd, MultilineLine, MultilineStart}
+use Rattle.snippet_strokes.proofs.Common.{Singleline, has_label, label_place, placed_of, PlacedEntry, overlapped, row_count, HasRows, painting_order}
+use Rattle.snippet_strokes.proofs.Common.{stroke_role, bare_row, column_of, connector_of, corner_of, label_of, stroke_rows, first_glyph, mark_end}
+use Rattle.snippet_strokes.proofs.Common.{connectors_of, corners_of, labels_of, stems_of, Write, glyph_at, painted, stretch_of}
 use Rattle.snippet_strokes.proofs.StrokeWords.{cut_row}
 use Rattle.snippet_strokes.proofs.CutWords.{cuts_of}
-use Rattle.snippet_strokes.specs.Drawing.{row_count}
-use Rattle.snippet_strokes.specs.Places.{HasRows}
-use Rattle.snippet_strokes.specs.Painting.{painting_order, stroke_role}
-use Rattle.snippet_strokes.specs.SourceRows.{bare_row}
-use Rattle.snippet_strokes.specs.Strokes.{column_of, connector_of, corner_of, label_of}
 use Rattle.snippet_strokes.proofs.StrokeWords.{bar_writes, begun_rows, corner_by}
-use Rattle.snippet_strokes.specs.Strokes.{stroke_rows}
-use Rattle.snippet_strokes.specs.PaintedStrokes.{first_glyph, mark_end, connectors_of, corners_of, labels_of}
 use Rattle.snippet_strokes.proofs.Drawn.{drawn_mark, drawn_strokes, marks_of}
-use Rattle.snippet_strokes.specs.DrawnStems.{stems_of}
-use Rattle.snippet_strokes.specs.Writes.{Write, glyph_at, painted, stretch_of}
 use Rattle.snippet_strokes.proofs.CellLemmas.{above_zero}
 use Rattle.snippet_strokes.proofs.BarWrites.{All-connector_of, All-stretch_of}
 use Rattle.snippet_strokes.proofs.LabelWrites.{All-label_of}

@@ -1,12 +1,8 @@
 -- Writes that don't meet may change places.
-use Rattle.std.proofs.Common.{◌≡◌, ℕ, ◌+◌, ◌-◌, ◌<◌, ◌≤◌, List, [], ◌∷◌, length, get_or, inl, inr, sym, ap, ◌∙◌, arith}
-use Rattle.std.proofs.lemmas.Bool.{cases_eq, cases_lt}
-use Rattle.std.proofs.lemmas.List.{ext_get_or}
-use Rattle.snippet_grid.proofs.GridLemmas.{row_at-cells_written_same, row_at-cells_written_other}
-use Rattle.snippet_grid.specs.Grid.{cells_written, row_at}
-use Rattle.snippet_style.proofs.CellLemmas.{length-text_cells, length-written, slice_index_or-written_after, slice_index_or-written_before}
-use Rattle.snippet_style.proofs.CellLemmas.{slice_index_or-written_inside}
-use Rattle.snippet_style.specs.Cell.{Cell, SPACE, written}
+use Rattle.snippet_strokes.proofs.Common.{◌≡◌, ℕ, ◌+◌, ◌-◌, ◌<◌, ◌≤◌, List, [], ◌∷◌, length, get_or, inl, inr, sym, ap}
+use Rattle.snippet_strokes.proofs.Common.{◌∙◌, arith, cases_eq, cases_lt, ext_get_or, row_at-cells_written_same, row_at-cells_written_other}
+use Rattle.snippet_strokes.proofs.Common.{cells_written, row_at, length-text_cells, length-written, slice_index_or-written_after, slice_index_or-written_before}
+use Rattle.snippet_strokes.proofs.Common.{slice_index_or-written_inside, Cell, SPACE, written}
 use Rattle.snippet_strokes.proofs.RowsSwapped.{rows-swap}
 
 -- cells of a row that end before others begin may be written after them

@@ -1,17 +1,8 @@
 -- The characters of labels, stems and their feet: they are few, and none is listed.
-use Rattle.std.proofs.Common.{◌≡◌, ◌==◌, true, false, not, ap, ◌∙◌, ℕ, ◌<◌, ◌^◌, List, [], length, map, get_or, arith, All, IfSome, Option, Some, None}
-use Rattle.std.proofs.Common.{IsUtf8}
-use Rattle.snippet_parts.specs.declared.entries.LineAnnotation.{LineAnnotation}
-use Rattle.snippet_text.proofs.NormLemmas.{list_any-norm}
-use Rattle.snippet_labels.specs.PlacedEntries.{shifted}
+use Rattle.snippet_strokes.proofs.Common.{◌≡◌, ◌==◌, true, false, not, ap, ◌∙◌, ℕ, ◌<◌, ◌^◌, List, [], length, map, get_or, arith}
+use Rattle.snippet_strokes.proofs.Common.{All, IfSome, Option, Some, None, IsUtf8, LineAnnotation, list_any-norm, shifted, nat_tests, nil_from_length, All-nil}
+use Rattle.snippet_strokes.proofs.Common.{All-map, is_listed, norm, each_fails, is_empty-chars, norm_short, label_chars, label_text}
 use Rattle.std.specs.Str.{chars}
-use Rattle.std.proofs.lemmas.Bool.Decides.{nat_tests}
-use Rattle.std.proofs.lemmas.List.{nil_from_length}
-use Rattle.std.proofs.lemmas.List.Elements.{All-nil, All-map}
-use Rattle.snippet_text.specs.Normalized.{is_listed, norm}
-use Rattle.snippet_model.proofs.RowLemmas.{each_fails}
-use Rattle.snippet_labels.proofs.CharLemmas.{is_empty-chars, norm_short}
-use Rattle.snippet_labels.proofs.LabelWords.{label_chars, label_text}
 
 -- a label's characters aren't listed
 pub free_label_text : (e : LineAnnotation) → All (λ c. is_listed c ≡ false) (label_text e)

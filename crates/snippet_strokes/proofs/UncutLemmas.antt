@@ -1,22 +1,9 @@
 -- Where no entry of a line is wide none is cut; and a wide one that others overlap isn't, either.
-use Rattle.std.proofs.Common.{◌≡◌, ◌∙◌, ℕ, ◌+◌, Bool, true, false, not, cond, List, [], ◌∷◌, length, map, refl, sym, ap, All}
-use Rattle.std.proofs.Common.{arith}
-use Rattle.std.proofs.lemmas.Bool.{and_from}
-use Rattle.std.proofs.lemmas.List.Sums.{sum_by-cons}
+use Rattle.snippet_strokes.proofs.Common.{◌≡◌, ◌∙◌, ℕ, ◌+◌, Bool, true, false, not, cond, List, [], ◌∷◌, length, map, refl, sym, ap}
+use Rattle.snippet_strokes.proofs.Common.{All, arith, and_from, sum_by-cons, list_all, zip, placed_of, PlacedEntry, is_wide_entry, LineAnnotation}
+use Rattle.snippet_strokes.proofs.Common.{placeholder_of, DecorStyle, Ascii, Primary, Context, is_cut, overlapped, painting_order, is_uncut}
 use Rattle.std.specs.Prelude.{◌&&◌}
-use Rattle.std.specs.List.{list_all, zip}
 use Rattle.std.specs.Str.{chars}
-use Rattle.snippet_labels.specs.Positions.{placed_of}
-use Rattle.snippet_labels.specs.declared.positions.PlacedEntry.{PlacedEntry}
-use Rattle.snippet_parts.specs.Entries.{is_wide_entry}
-use Rattle.snippet_parts.specs.declared.entries.LineAnnotation.{LineAnnotation}
-use Rattle.snippet_style.specs.Glyphs.{placeholder_of}
-use Rattle.snippet_style.specs.declared.glyphs.DecorStyle.{DecorStyle}
-use Rattle.snippet_style.specs.declared.glyphs.DecorStyle.TheVariants.{Ascii}
-use Rattle.snippet_model.specs.declared.snippet.AnnotationKind.TheVariants.{Primary, Context}
-use Rattle.snippet_strokes.specs.Cuts.{is_cut, overlapped}
-use Rattle.snippet_strokes.specs.Painting.{painting_order}
-use Rattle.snippet_strokes.specs.Strokes.{is_uncut}
 use Rattle.snippet_strokes.proofs.BegunLemmas.{wide_entries-order}
 use Rattle.snippet_strokes.proofs.Examples.{entry}
 use Rattle.snippet_strokes.proofs.PlacedOf.{HasTextLabel, placed_of_are}

@@ -1,17 +1,8 @@
 -- A line that fits the room is shown as it is, where lines aren't cut on the left.
-use Rattle.std.proofs.Common.{◌≡◌, ℕ, ◌+◌, ◌-◌, ◌≤◌, min, cond, ltb, false, None, Some, List, length, ap, ◌∙◌, arith, unwrap_or, reverse}
-use Rattle.std.proofs.lemmas.Bool.{le-leb}
-use Rattle.std.proofs.lemmas.List.{take_all}
-use Rattle.snippet_window.specs.declared.margin.Margin.{Margin}
-use Rattle.snippet_window.specs.Window.{reaching, window_left, window_right, inner_part, covered_columns, uncovered_part, covered_end}
-use Rattle.snippet_style.specs.declared.glyphs.DecorStyle.{DecorStyle}
-use Rattle.snippet_style.specs.declared.role.ElementStyle.TheVariants.{Quotation}
-use Rattle.snippet_style.specs.Glyphs.{placeholder_of}
-use Rattle.snippet_style.specs.Cell.{Cell, text_cells}
-use Rattle.snippet_text.specs.Width.{width_of}
-use Rattle.snippet_strokes.specs.SourceRows.{window_cells}
-use Rattle.snippet_strokes.specs.BegunRow.{begun_cells, ended_cells}
-use Rattle.snippet_window.proofs.LineWindowLemmas.{reaching-none, fitting_all}
+use Rattle.snippet_strokes.proofs.Common.{◌≡◌, ℕ, ◌+◌, ◌-◌, ◌≤◌, min, cond, ltb, false, None, Some, List, length, ap, ◌∙◌, arith}
+use Rattle.snippet_strokes.proofs.Common.{unwrap_or, reverse, le-leb, take_all, Margin, reaching, window_left, window_right, inner_part, covered_columns}
+use Rattle.snippet_strokes.proofs.Common.{uncovered_part, covered_end, DecorStyle, Quotation, placeholder_of, Cell, text_cells, width_of, window_cells}
+use Rattle.snippet_strokes.proofs.Common.{begun_cells, ended_cells, reaching-none, fitting_all}
 
 -- a window with no bound on the left begins at column 0
 pub left_none : (text : List ℕ) → window_left 0 text ≡ 0

@@ -1,26 +1,11 @@
 -- Lines that are marked as a whole.
-use Rattle.std.proofs.Common.{inl, ◌≡◌, ℕ, ◌∷◌, ◌&&◌, ◌||◌, [], List, Bool, true, false, zero, suc, take, map, refl, sym, arith, All}
-use Rattle.std.specs.Char.{is_whitespace}
-use Rattle.std.specs.List.{list_all}
-use Rattle.std.proofs.lemmas.Bool.{false≢true}
-use Rattle.snippet_parts.specs.declared.entries.LineAnnotation.{LineAnnotation}
-use Rattle.snippet_parts.specs.declared.entries.LineAnnotationType.{LineAnnotationType}
-use Rattle.snippet_parts.specs.declared.entries.LineAnnotationType.TheVariants.{Singleline, MultilineStart, MultilineEnd, MultilineLine}
-use Rattle.snippet_parts.specs.Entries.{is_bar, is_single_part}
-use Rattle.snippet_window.specs.Window.{AreReplaced}
-use Rattle.snippet_style.specs.declared.glyphs.DecorStyle.{DecorStyle}
-use Rattle.snippet_style.specs.Glyphs.{placeholder_of}
-use Rattle.snippet_style.specs.Cell.{Cell}
-use Rattle.snippet_grid.specs.Layout.{Layout}
+use Rattle.snippet_strokes.proofs.Common.{inl, ◌≡◌, ℕ, ◌∷◌, ◌&&◌, ◌||◌, [], List, Bool, true, false, zero, suc, take, map, refl, sym}
+use Rattle.snippet_strokes.proofs.Common.{arith, All, is_whitespace, list_all, false≢true, LineAnnotation, LineAnnotationType, Singleline, MultilineStart}
+use Rattle.snippet_strokes.proofs.Common.{MultilineEnd, MultilineLine, is_bar, is_single_part, AreReplaced, DecorStyle, placeholder_of, Cell, Layout, shifted}
+use Rattle.snippet_strokes.proofs.Common.{label_text, All-cons, All-head, All-nil, All-tail, is_beside, is_whole_line, is_start_part}
 use Rattle.snippet_strokes.proofs.PlainEntries.{are_plain, is_single, wide_entries}
-use Rattle.snippet_labels.specs.PlacedEntries.{shifted}
-use Rattle.snippet_labels.proofs.LabelWords.{label_text}
 use Rattle.snippet_strokes.proofs.SeenLabels.{IsLabelledAtEnd}
 use Rattle.snippet_strokes.proofs.LabelPlaces.{LabelsStand-none}
-use Rattle.std.proofs.lemmas.List.Elements.{All-cons, All-head, All-nil, All-tail}
-use Rattle.snippet_strokes.specs.Bars.{is_beside}
-use Rattle.snippet_strokes.specs.DrawnBars.{is_whole_line}
-use Rattle.snippet_labels.specs.Positions.{is_start_part}
 use Rattle.snippet_strokes.proofs.SeenRows.{AreSeen, AreStrokes, HasNoBars, IsBeside}
 
 -- an entry that is drawn by bars alone isn't a whole span

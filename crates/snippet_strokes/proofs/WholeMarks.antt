@@ -1,21 +1,10 @@
 -- A mark whose first glyph is its underline is one text.
-use Rattle.std.proofs.Common.{◌≡◌, ℕ, suc, ◌+◌, ◌-◌, ◌<◌, ◌≤◌, cond, List, [], ◌∷◌, length, replicate, get_or, inl, inr, sym, ap, ◌∙◌, arith}
-use Rattle.std.proofs.lemmas.Bool.{cases_eq, cases_lt}
-use Rattle.std.proofs.lemmas.List.{ext_get_or}
-use Rattle.snippet_grid.proofs.GridLemmas.{row_at-cells_written_same}
-use Rattle.snippet_grid.specs.Grid.{cells_written, row_at}
-use Rattle.snippet_grid.specs.Layout.{Layout}
-use Rattle.snippet_labels.specs.declared.positions.PlacedEntry.{PlacedEntry}
-use Rattle.snippet_model.specs.AnnotationKind.{is_primary}
-use Rattle.snippet_style.proofs.CellLemmas.{length-written, slice_index_or-written_after, slice_index_or-written_before}
-use Rattle.snippet_style.proofs.CellLemmas.{slice_index_or-written_inside}
-use Rattle.snippet_style.specs.Cell.{Cell, SPACE, text_cells, unlinked_cell, written}
-use Rattle.snippet_style.specs.Glyphs.{strokes_of}
-use Rattle.snippet_style.specs.declared.role.ElementStyle.{ElementStyle}
-use Rattle.snippet_strokes.specs.Painting.{stroke_role}
-use Rattle.snippet_strokes.specs.PaintedStrokes.{first_glyph, mark_end}
+use Rattle.snippet_strokes.proofs.Common.{◌≡◌, ℕ, suc, ◌+◌, ◌-◌, ◌<◌, ◌≤◌, cond, List, [], ◌∷◌, length, replicate, get_or, inl}
+use Rattle.snippet_strokes.proofs.Common.{inr, sym, ap, ◌∙◌, arith, cases_eq, cases_lt, ext_get_or, row_at-cells_written_same, cells_written, row_at}
+use Rattle.snippet_strokes.proofs.Common.{Layout, PlacedEntry, is_primary, length-written, slice_index_or-written_after, slice_index_or-written_before}
+use Rattle.snippet_strokes.proofs.Common.{slice_index_or-written_inside, Cell, SPACE, text_cells, unlinked_cell, written, strokes_of, ElementStyle, stroke_role}
+use Rattle.snippet_strokes.proofs.Common.{first_glyph, mark_end, Write, glyph_at, painted, stretch_of}
 use Rattle.snippet_strokes.proofs.Drawn.{drawn_mark}
-use Rattle.snippet_strokes.specs.Writes.{Write, glyph_at, painted, stretch_of}
 use Rattle.snippet_strokes.proofs.WriteLemmas.{less, stretch_of-none}
 
 -- one thing and then others right of it are all of them

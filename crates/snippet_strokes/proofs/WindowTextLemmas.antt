@@ -1,18 +1,9 @@
 -- The text that the cells of a window print.
-use Rattle.std.proofs.Common.{◌≡◌, ℕ, ◌+◌, ◌-◌, ◌==◌, cond, Option, None, Some, List, [], ◌∷◌, ◌++◌, length, map, take, drop, replicate}
-use Rattle.std.proofs.Common.{zero, suc, refl, sym, ap, ◌∙◌, arith}
-use Rattle.std.specs.Option.{option_map_or}
-use Rattle.std.proofs.lemmas.List.{map-append, take-map, drop-map, length-map}
-use Rattle.snippet_window.specs.declared.margin.Margin.{Margin}
-use Rattle.snippet_window.specs.Window.{inner_part, covered_columns, uncovered_part, covered_end, window}
-use Rattle.snippet_style.specs.declared.glyphs.DecorStyle.{DecorStyle}
-use Rattle.snippet_style.specs.declared.role.ElementStyle.TheVariants.{LineNumber, Quotation}
-use Rattle.snippet_style.specs.Glyphs.{placeholder_of}
-use Rattle.snippet_style.specs.Cell.{Cell, SPACE, text_cells, written}
-use Rattle.snippet_grid.specs.Print.{row_text}
-use Rattle.snippet_strokes.specs.SourceRows.{window_cells}
-use Rattle.snippet_strokes.specs.BegunRow.{begun_cells, ended_cells}
-use Rattle.snippet_grid.proofs.RowLemmas.{row_text-text_cells}
+use Rattle.snippet_strokes.proofs.Common.{◌≡◌, ℕ, ◌+◌, ◌-◌, ◌==◌, cond, Option, None, Some, List, [], ◌∷◌, ◌++◌, length, map}
+use Rattle.snippet_strokes.proofs.Common.{take, drop, replicate, zero, suc, refl, sym, ap, ◌∙◌, arith, option_map_or, map-append, take-map, drop-map}
+use Rattle.snippet_strokes.proofs.Common.{length-map, Margin, inner_part, covered_columns, uncovered_part, covered_end, window, DecorStyle, LineNumber}
+use Rattle.snippet_strokes.proofs.Common.{Quotation, placeholder_of, Cell, SPACE, text_cells, written, row_text, window_cells, begun_cells, ended_cells}
+use Rattle.snippet_strokes.proofs.Common.{row_text-text_cells}
 use Rattle.snippet_strokes.proofs.CellLemmas.{above_zero}
 
 -- the characters of cells that were written

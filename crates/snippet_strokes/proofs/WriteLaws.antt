@@ -1,16 +1,10 @@
 -- Laws of rows after writes: what no write reaches stays, the last write of a cell stands, and writes with a property leave
 -- rows with it.
-use Rattle.std.proofs.Common.{◌≡◌, ◌≢◌, ℕ, ◌+◌, ◌-◌, ◌<◌, List, [], ◌∷◌, ◌++◌, length, get_or, refl, sym, ap, ◌∙◌, subst, arith, inl, inr, ◌⊎◌, All}
-use Rattle.std.proofs.lemmas.Bool.{cases_lt, cases_eq}
-use Rattle.std.proofs.lemmas.List.Elements.{All-append, All-head, All-tail, All-nil, All-weaker}
-use Rattle.std.specs.List.{flat_map}
-use Rattle.snippet_style.specs.Cell.{Cell, SPACE, text_cells}
-use Rattle.snippet_grid.specs.Grid.{cell_at, row_at}
-use Rattle.snippet_grid.proofs.GridLemmas.{WritesCells-cells_written}
-use Rattle.snippet_style.proofs.CellLemmas.{length-text_cells, slice_index_or-text_cells}
-use Rattle.snippet_model.specs.FreeRows.{IsFreeCell}
+use Rattle.snippet_strokes.proofs.Common.{◌≡◌, ◌≢◌, ℕ, ◌+◌, ◌-◌, ◌<◌, List, [], ◌∷◌, ◌++◌, length, get_or, refl, sym, ap}
+use Rattle.snippet_strokes.proofs.Common.{◌∙◌, subst, arith, inl, inr, ◌⊎◌, All, cases_lt, cases_eq, All-append, All-head, All-tail, All-nil}
+use Rattle.snippet_strokes.proofs.Common.{All-weaker, flat_map, Cell, SPACE, text_cells, cell_at, row_at, WritesCells-cells_written, length-text_cells}
+use Rattle.snippet_strokes.proofs.Common.{slice_index_or-text_cells, IsFreeCell, Write, painted}
 use Rattle.snippet_strokes.proofs.DrawnCells.{DrawsFrom}
-use Rattle.snippet_strokes.specs.Writes.{Write, painted}
 use Rattle.snippet_strokes.proofs.OneStep.{written_by}
 use Rattle.snippet_strokes.proofs.Reach.{Reaches, IsWithin, cell_of_write}
 use Rattle.snippet_strokes.proofs.WriteLemmas.{painted-append}

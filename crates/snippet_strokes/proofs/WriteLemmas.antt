@@ -1,21 +1,9 @@
 -- Rows after writes.
-use Rattle.std.proofs.Common.{◌≡◌, ℕ, ◌+◌, ◌-◌, ◌<◌, ◌≤◌, List, [], ◌∷◌, ◌++◌, length, take, get_or, sym, ap, ◌∙◌, arith, cond, true, false, nat_lt, replicate}
-use Rattle.std.proofs.lemmas.Bool.Decides.{nat_tests}
-use Rattle.std.proofs.lemmas.List.{take_more, append-nil}
-use Rattle.std.proofs.lemmas.List.Concat.{flat_map-append}
-use Rattle.std.proofs.lemmas.List.Sums.{fold-append}
-use Rattle.std.specs.List.{flat_map}
-use Rattle.snippet_style.specs.declared.role.ElementStyle.{ElementStyle}
-use Rattle.snippet_style.specs.Cell.{Cell, text_cells}
-use Rattle.snippet_grid.specs.Grid.{cells_written}
-use Rattle.snippet_grid.specs.Layout.{Layout}
-use Rattle.snippet_labels.specs.declared.positions.PlacedEntry.{PlacedEntry}
-use Rattle.snippet_style.specs.Glyphs.{strokes_of}
-use Rattle.snippet_model.specs.AnnotationKind.{is_primary}
-use Rattle.snippet_strokes.specs.Painting.{stroke_role}
-use Rattle.snippet_strokes.specs.PaintedStrokes.{first_glyph, mark_end}
+use Rattle.snippet_strokes.proofs.Common.{◌≡◌, ℕ, ◌+◌, ◌-◌, ◌<◌, ◌≤◌, List, [], ◌∷◌, ◌++◌, length, take, get_or, sym, ap}
+use Rattle.snippet_strokes.proofs.Common.{◌∙◌, arith, cond, true, false, nat_lt, replicate, nat_tests, take_more, append-nil, flat_map-append}
+use Rattle.snippet_strokes.proofs.Common.{fold-append, flat_map, ElementStyle, Cell, text_cells, cells_written, Layout, PlacedEntry, strokes_of, is_primary}
+use Rattle.snippet_strokes.proofs.Common.{stroke_role, first_glyph, mark_end, Write, glyph_at, painted, stretch_of}
 use Rattle.snippet_strokes.proofs.Drawn.{drawn_mark}
-use Rattle.snippet_strokes.specs.Writes.{Write, glyph_at, painted, stretch_of}
 use Rattle.snippet_strokes.proofs.OneStep.{written_by}
 
 -- one write more, and some more

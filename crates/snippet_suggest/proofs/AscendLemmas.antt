@@ -1,6 +1,5 @@
 -- Numbers that ascend: in pairs, between their bounds, and counted from elsewhere.
-use Rattle.std.proofs.Common.{◌≡◌, ℕ, ◌+◌, List, [], ◌∷◌, map, subst, arith}
-use Rattle.snippet_suggest.specs.Offered.{AreRising}
+use Rattle.snippet_suggest.proofs.Common.{◌≡◌, ℕ, ◌+◌, List, [], ◌∷◌, map, subst, arith, AreRising}
 
 -- so do they counted from elsewhere
 pub rising-moved : (base from to : ℕ) (ks : List ℕ) → AreRising from to ks → AreRising (base + from) (base + to) (map (λ k. base + k) ks)

@@ -1,25 +1,10 @@
 -- Rows that show no line: of a placeholder or a glyph.
-use Rattle.std.proofs.Common.{◌≡◌, ℕ, zero, suc, ◌+◌, ◌-◌, ◌≤◌, true, false, List, [], ◌∷◌, ◌++◌, length, replicate, refl, sym, ap, ◌∙◌, arith, inl, inr}
-use Rattle.std.proofs.Common.{All, subst}
-use Rattle.std.specs.List.{list_all, list_any, slice_index_or}
-use Rattle.std.proofs.lemmas.Bool.{cases_lt}
-use Rattle.std.proofs.lemmas.List.{get_or-append_right, get_or_append_left, get_or_past, length-append, length-replicate}
-use Rattle.std.proofs.lemmas.List.Elements.{All-append, All-nil, All-replicate}
-use Rattle.std.proofs.lemmas.List.Sums.{AllPass-from_list_all}
-use Rattle.snippet_grid.specs.Print.{row_text}
-use Rattle.snippet_grid.proofs.RowLemmas.{row_text-text_cells}
-use Rattle.snippet_model.specs.FreeRows.{IsFreeCell}
-use Rattle.snippet_model.proofs.RowLemmas.{each_fails, free_drawn, free_led}
-use Rattle.snippet_style.specs.declared.glyphs.DecorStyle.{DecorStyle}
-use Rattle.snippet_style.specs.declared.glyphs.SuggestionGlyph.{SuggestionGlyph}
-use Rattle.snippet_style.specs.declared.role.ElementStyle.{ElementStyle}
-use Rattle.snippet_style.specs.Cell.{Cell, SPACE, text_cells}
-use Rattle.snippet_style.specs.Glyphs.{suggestion_glyph_of}
-use Rattle.snippet_style.proofs.CellLemmas.{All-text_cells, length-text_cells}
-use Rattle.snippet_text.specs.Normalized.{is_listed}
-use Rattle.snippet_suggest.specs.Cells.{put}
-use Rattle.snippet_suggest.specs.SuggestionRows.{HasLeft, IsBareRow, IsMarkOrSpace, beside_gutter, is_stroke}
-use Rattle.snippet_suggest.specs.ShownRows.{IsEdgeRow}
+use Rattle.snippet_suggest.proofs.Common.{◌≡◌, ℕ, zero, suc, ◌+◌, ◌-◌, ◌≤◌, true, false, List, [], ◌∷◌, ◌++◌, length, replicate}
+use Rattle.snippet_suggest.proofs.Common.{refl, sym, ap, ◌∙◌, arith, inl, inr, All, subst, list_all, list_any, slice_index_or, cases_lt}
+use Rattle.snippet_suggest.proofs.Common.{get_or-append_right, get_or_append_left, get_or_past, length-append, length-replicate, All-append, All-nil}
+use Rattle.snippet_suggest.proofs.Common.{All-replicate, AllPass-from_list_all, row_text, row_text-text_cells, IsFreeCell, each_fails, free_drawn, free_led}
+use Rattle.snippet_suggest.proofs.Common.{DecorStyle, SuggestionGlyph, ElementStyle, Cell, SPACE, text_cells, suggestion_glyph_of, All-text_cells}
+use Rattle.snippet_suggest.proofs.Common.{length-text_cells, is_listed, put, HasLeft, IsBareRow, IsMarkOrSpace, beside_gutter, is_stroke, IsEdgeRow}
 use Rattle.snippet_suggest.proofs.GlyphLemmas.{glyph_short, glyph_strokes, glyph_unlisted, is_sign}
 use Rattle.snippet_suggest.proofs.PutRows.{ch_at, put_after, put_before, put_cell, put_free, put_inside}
 

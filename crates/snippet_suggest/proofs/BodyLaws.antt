@@ -1,47 +1,22 @@
 -- What the rows of a suggestion show, one below the other.
-use Rattle.std.proofs.Common.{◌≡◌, ℕ, ◌+◌, ◌-◌, ◌^◌, ◌<◌, Bool, true, false, if◌then◌else◌, ◌&&◌, All, List, [], ◌∷◌, ◌++◌, chars, length, map, ◌∙◌, ◌==◌}
-use Rattle.std.proofs.Common.{arith, subst, sym}
-use Rattle.std.specs.Cow.{cow_str_bytes}
-use Rattle.std.specs.List.{AllZip}
-use Rattle.std.specs.Str.{bytes_eq}
-use Rattle.std.proofs.lemmas.Bool.{cond_both}
-use Rattle.std.proofs.lemmas.List.Elements.{All-append, All-cons, All-head, All-nil, All-tail}
-use Rattle.std.proofs.lemmas.List.FromFn.{get_or-range_with_len, length-range_with_len}
-use Rattle.snippet_model.specs.declared.snippet.Snippet.{Snippet}
-use Rattle.snippet_model.specs.declared.snippet.Patch.{Patch}
-use Rattle.snippet_style.specs.Cell.{Cell}
-use Rattle.snippet_style.specs.declared.role.ElementStyle.TheVariants.{Addition, NoStyle, Removal}
-use Rattle.snippet_lines.specs.Lines.{source_lines}
-use Rattle.snippet_lines.specs.Place.{line_of}
-use Rattle.snippet_lines.proofs.PlaceLemmas.{line_of-within}
-use Rattle.snippet_parts.specs.Numbered.{numbered_source}
-use Rattle.snippet_splice.specs.ShownText.{first_start}
-use Rattle.snippet_splice.specs.Edits.{in_order}
-use Rattle.snippet_splice.specs.Spliced.{last_line_reached}
-use Rattle.snippet_splice.specs.declared.stretches.SubstitutionHighlight.{SubstitutionHighlight}
-use Rattle.snippet_suggest.specs.declared.kind.DisplaySuggestion.{DisplaySuggestion}
-use Rattle.snippet_suggest.specs.declared.kind.DisplaySuggestion.TheVariants.{Add, Diff, Plain, Underline}
-use Rattle.snippet_suggest.specs.declared.layout.SuggestionLayout.{SuggestionLayout}
-use Rattle.snippet_suggest.specs.declared.layout.SuggestionStart.{SuggestionStart}
-use Rattle.snippet_suggest.specs.declared.shown_lines.SuggestionLine.{SuggestionLine}
-use Rattle.snippet_suggest.specs.declared.shown_lines.SuggestionLine.TheVariants.{Gap, Line}
-use Rattle.snippet_suggest.specs.Cells.{end_cells, left_out_cells, on_last}
-use Rattle.snippet_suggest.specs.Given.{edits_of, emptied_lines, first_end, first_given, given_lines, given_ranges, is_left_out, last_reached, lines_touched}
-use Rattle.snippet_suggest.specs.Given.{removed_lines, replaced_lines, shown_kind, trimmed_of}
+use Rattle.snippet_suggest.proofs.Common.{◌≡◌, ℕ, ◌+◌, ◌-◌, ◌^◌, ◌<◌, Bool, true, false, if◌then◌else◌, ◌&&◌, All, List, []}
+use Rattle.snippet_suggest.proofs.Common.{◌∷◌, ◌++◌, length, map, ◌∙◌, ◌==◌, arith, subst, sym, cow_str_bytes, AllZip, bytes_eq, cond_both}
+use Rattle.snippet_suggest.proofs.Common.{All-append, All-cons, All-head, All-nil, All-tail, get_or-range_with_len, length-range_with_len, Snippet, Patch, Cell}
+use Rattle.snippet_suggest.proofs.Common.{Addition, NoStyle, Removal, source_lines, line_of, line_of-within, numbered_source, first_start, in_order}
+use Rattle.snippet_suggest.proofs.Common.{last_line_reached, SubstitutionHighlight, DisplaySuggestion, Add, Diff, Plain, Underline, SuggestionLayout}
+use Rattle.snippet_suggest.proofs.Common.{SuggestionStart, SuggestionLine, Gap, Line, end_cells, left_out_cells, on_last, edits_of, emptied_lines, first_end}
+use Rattle.snippet_suggest.proofs.Common.{first_given, given_lines, given_ranges, is_left_out, last_reached, lines_touched, removed_lines, replaced_lines}
+use Rattle.snippet_suggest.proofs.Common.{shown_kind, trimmed_of, IsSuggestible, Begins, Empty, Ends, Offers, Removes, Skips, SuggestionRow, removed_number}
+use Rattle.snippet_suggest.proofs.Common.{rows_of_suggestion, body_cells, suggested_cells, cells_over, marked_edits, new_on, removed_in, suggested_stretches}
+use Rattle.snippet_suggest.proofs.Common.{with_left_out, is_touched, shown_from, IsBareRow, HasGutter, IsRowOfRemoved, IsUnder, NumberFits, Shows, capped_sum}
+use Rattle.snippet_suggest.proofs.Common.{nat_tests}
+use Rattle.std.proofs.Common.{chars}
 use Rattle.snippet_suggest.proofs.ByKind.{removed_of, row_of_shown, rows_where}
-use Rattle.snippet_suggest.specs.PreparedSuggestion.{IsSuggestible}
-use Rattle.snippet_suggest.specs.RowOrder.{Begins, Empty, Ends, Offers, Removes, Skips, SuggestionRow, removed_number, rows_of_suggestion}
-use Rattle.snippet_suggest.specs.Suggested.{body_cells, suggested_cells, cells_over, marked_edits, new_on, removed_in, suggested_stretches, with_left_out}
-use Rattle.snippet_suggest.specs.SuggestedLines.{is_touched, shown_from}
-use Rattle.snippet_suggest.specs.SuggestionRows.{IsBareRow}
-use Rattle.snippet_suggest.specs.ShownRows.{HasGutter, IsRowOfRemoved, IsUnder, NumberFits, Shows}
 use Rattle.snippet_suggest.proofs.BareLemmas.{bare_none, stroke_none}
 use Rattle.snippet_suggest.proofs.GutterFits.{numbers_fit}
 use Rattle.snippet_suggest.proofs.RepaintLemmas.{same_shows, without_role}
 use Rattle.snippet_suggest.proofs.RisingLemmas.{rooms_shown}
 use Rattle.snippet_suggest.proofs.RowLaws.{begin_shows, end_shows, gap_shows, marks_show, offered_shows, removed_shows, replaced_shows, under_bare, with_same}
-use Rattle.snippet_window.specs.Margin.{capped_sum}
-use Rattle.std.proofs.lemmas.Bool.Decides.{nat_tests}
 use Rattle.snippet_suggest.proofs.OrderLaws.{removed_row, changed_rows}
 
 -- two lists, and others after them

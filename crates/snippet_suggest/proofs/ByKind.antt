@@ -1,16 +1,8 @@
 -- What the rows, the removed lines and the counted number of a suggestion are, by the lines that are given and how these are shown.
-use Rattle.std.proofs.Common.{◌≡◌, ℕ, ◌==◌, ◌&&◌, ◌||◌, not, nat_le, Bool, true, false, Some, None, is_none, if◌then◌else◌, List, [], ◌∷◌, length, refl}
-use Rattle.std.specs.List.{slice_range}
-use Rattle.std.specs.Option.{option_map_or}
-use Rattle.std.specs.Str.{trim}
-use Rattle.snippet_splice.specs.Edits.{Edit}
-use Rattle.snippet_splice.specs.Trim.{sandwich}
-use Rattle.snippet_suggest.specs.declared.kind.DisplaySuggestion.{DisplaySuggestion}
-use Rattle.snippet_suggest.specs.declared.kind.DisplaySuggestion.TheVariants.{Underline, Diff}
-use Rattle.snippet_suggest.specs.declared.shown_lines.SuggestionLine.{SuggestionLine}
-use Rattle.snippet_suggest.specs.declared.shown_lines.SuggestionLine.TheVariants.{Line, Gap}
-use Rattle.snippet_suggest.specs.Kind.{is_blank_text, is_under_text, takes_away, text_under}
-use Rattle.snippet_suggest.specs.RowOrder.{Offers, Skips, SuggestionRow}
+use Rattle.snippet_suggest.proofs.Common.{◌≡◌, ℕ, ◌==◌, ◌&&◌, ◌||◌, not, nat_le, Bool, true, false, Some, None, is_none}
+use Rattle.snippet_suggest.proofs.Common.{if◌then◌else◌, List, [], ◌∷◌, length, refl, slice_range, option_map_or, trim, Edit, sandwich}
+use Rattle.snippet_suggest.proofs.Common.{DisplaySuggestion, Underline, Diff, SuggestionLine, Line, Gap, is_blank_text, is_under_text, takes_away, text_under}
+use Rattle.snippet_suggest.proofs.Common.{Offers, Skips, SuggestionRow}
 
 -- the number that is counted where lines are folded
 abbrev pub counted_folded : DisplaySuggestion → ℕ → ℕ → ℕ → ℕ

@@ -1,30 +1,11 @@
 -- The rows of small suggestions, cell by cell, in ASCII and with a gutter of one cell.
-use Rattle.std.proofs.Common.{ℕ, ◌≡◌, Bool, true, false, Vec, List, [], ◌∷◌, ◌++◌, codes, refl, replicate}
-use Rattle.std.specs.declared.alloc.Global.{Global}
-use Rattle.std.specs.Fmt.{digits}
+use Rattle.snippet_suggest.proofs.Common.{ℕ, ◌≡◌, Bool, true, false, Vec, List, [], ◌∷◌, ◌++◌, codes, refl, replicate, Global, digits, Patch}
+use Rattle.snippet_suggest.proofs.Common.{Cell, SPACE, text_cells, written, Ascii, Addition, LineNumber, NoStyle, Removal, norm, char_width, unicode_width}
+use Rattle.snippet_suggest.proofs.Common.{changed_within, newline_count, start_of, end_location, line_of, location_of, locations_of, place_of, start_location}
+use Rattle.snippet_suggest.proofs.Common.{steps_after_text, Shown, trimmed_edit, shown_text, last_line_reached, new_stretches, replaced_stretches, kept_before}
+use Rattle.snippet_suggest.proofs.Common.{sandwich, SuggestionLayout, Opening, begin_cells, end_cells, line_cells, offered_cells, on_last, put, removed_cells}
+use Rattle.snippet_suggest.proofs.Common.{sign_of, with_stretches, with_mark, with_marks, body_cells, suggested_cells, suggestion_cells}
 use Rattle.std.specs.Str.{chars, trim_end, trim_start}
-use Rattle.snippet_model.specs.declared.snippet.Patch.{Patch}
-use Rattle.snippet_style.specs.Cell.{Cell, SPACE, text_cells, written}
-use Rattle.snippet_style.specs.declared.glyphs.DecorStyle.TheVariants.{Ascii}
-use Rattle.snippet_style.specs.declared.role.ElementStyle.TheVariants.{Addition, LineNumber, NoStyle, Removal}
-use Rattle.snippet_text.specs.Normalized.{norm}
-use Rattle.snippet_text.specs.Width.{char_width}
-use Rattle.snippet_text.proofs.WidthLemmas.{unicode_width}
-use Rattle.snippet_grid.specs.Grid.{changed_within}
-use Rattle.snippet_lines.specs.Lines.{newline_count, start_of}
-use Rattle.snippet_lines.specs.Place.{end_location, line_of, location_of, locations_of, place_of, start_location, steps_after_text}
-use Rattle.snippet_lines.specs.declared.number.LineNumbers.TheVariants.{Shown}
-use Rattle.snippet_splice.specs.Edits.{trimmed_edit}
-use Rattle.snippet_splice.specs.ShownText.{shown_text}
-use Rattle.snippet_splice.specs.Spliced.{last_line_reached}
-use Rattle.snippet_splice.specs.EditStretches.{new_stretches, replaced_stretches}
-use Rattle.snippet_splice.specs.Trim.{kept_before, sandwich}
-use Rattle.snippet_suggest.specs.declared.layout.SuggestionLayout.{SuggestionLayout}
-use Rattle.snippet_suggest.specs.declared.layout.SuggestionStart.TheVariants.{Opening}
-use Rattle.snippet_suggest.specs.Cells.{begin_cells, end_cells, line_cells, offered_cells, on_last, put, removed_cells, sign_of, with_stretches}
-use Rattle.snippet_suggest.specs.Marks.{with_mark, with_marks}
-use Rattle.snippet_suggest.specs.Suggested.{body_cells, suggested_cells}
-use Rattle.snippet_suggest.specs.ShownRows.{suggestion_cells}
 use Rattle.snippet_suggest.proofs.Examples.{deleted_line, first_line_deleted, one_word, text_put_in, third_unfolded, two_lines}
 
 -- suggestions in ASCII, with a gutter of one digit

@@ -1,24 +1,10 @@
 -- The definitions, computed on small suggestions. In these LF is 10.
-use Rattle.std.proofs.Common.{◌≡◌, ℕ, ◌<◌, ◌^◌, Bool, true, false, None, Vec, List, [], ◌∷◌, ◌++◌, codes, length, refl, arith}
-use Rattle.std.specs.declared.alloc.Global.{Global}
-use Rattle.std.specs.declared.borrow.CowStr.{CowStr}
-use Rattle.std.specs.declared.borrow.CowStr.TheVariants.{Borrowed}
+use Rattle.snippet_suggest.proofs.Common.{◌≡◌, ℕ, ◌<◌, ◌^◌, Bool, true, false, None, Vec, List, [], ◌∷◌, ◌++◌, codes, length, refl}
+use Rattle.snippet_suggest.proofs.Common.{arith, Global, CowStr, Borrowed, unindexed, Snippet, Patch, newline_count, start_of, line_of, trimmed_edit}
+use Rattle.snippet_suggest.proofs.Common.{shown_text, last_line_reached, kept_before, sandwich, DisplaySuggestion, Add, Diff, Plain, Underline, Opening, Begins}
+use Rattle.snippet_suggest.proofs.Common.{Empty, Offers, Removes, Skips, SuggestionRow, rows_of_suggestion, counted_line, given_lines, removed_lines}
+use Rattle.snippet_suggest.proofs.Common.{shown_kind, offered_lines}
 use Rattle.std.specs.Str.{chars, trim_end, trim_start}
-use Rattle.snippet_model.specs.Source.{unindexed}
-use Rattle.snippet_model.specs.declared.snippet.Snippet.{Snippet}
-use Rattle.snippet_model.specs.declared.snippet.Patch.{Patch}
-use Rattle.snippet_lines.specs.Lines.{newline_count, start_of}
-use Rattle.snippet_lines.specs.Place.{line_of}
-use Rattle.snippet_splice.specs.Edits.{trimmed_edit}
-use Rattle.snippet_splice.specs.ShownText.{shown_text}
-use Rattle.snippet_splice.specs.Spliced.{last_line_reached}
-use Rattle.snippet_splice.specs.Trim.{kept_before, sandwich}
-use Rattle.snippet_suggest.specs.declared.kind.DisplaySuggestion.{DisplaySuggestion}
-use Rattle.snippet_suggest.specs.declared.kind.DisplaySuggestion.TheVariants.{Add, Diff, Plain, Underline}
-use Rattle.snippet_suggest.specs.declared.layout.SuggestionStart.TheVariants.{Opening}
-use Rattle.snippet_suggest.specs.RowOrder.{Begins, Empty, Offers, Removes, Skips, SuggestionRow, rows_of_suggestion}
-use Rattle.snippet_suggest.specs.Given.{counted_line, given_lines, removed_lines, shown_kind}
-use Rattle.snippet_suggest.specs.Offered.{offered_lines}
 
 -- a patch that puts a text in place of the bytes from one to another, and a snippet of such patches, whose first line has number 1
 abbrev pub text_of : List ℕ → CowStr Global

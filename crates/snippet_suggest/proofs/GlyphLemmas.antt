@@ -1,14 +1,8 @@
 -- The characters of the glyphs of suggestions, and what is known of each.
-use Rattle.std.proofs.Common.{Bool, ◌≡◌, ◌≤◌, true, false, refl, inl, inr, length, arith}
-use Rattle.std.specs.Char.{is_ascii_alphanumeric}
-use Rattle.std.specs.List.{list_all, list_any, slice_index_or}
-use Rattle.snippet_style.specs.declared.glyphs.DecorStyle.{DecorStyle}
-use Rattle.snippet_style.specs.declared.glyphs.DecorStyle.TheVariants.{Ascii, Unicode}
-use Rattle.snippet_style.specs.declared.glyphs.SuggestionGlyph.{SuggestionGlyph}
-use Rattle.snippet_style.specs.declared.glyphs.SuggestionGlyph.TheVariants.{Opening, Next, Leading, Closing, Kept, Alone, Changed, Added}
-use Rattle.snippet_text.specs.Normalized.{is_listed}
-use Rattle.snippet_style.specs.Glyphs.{removed_sign_of, suggestion_glyph_of}
-use Rattle.snippet_suggest.specs.SuggestionRows.{IsSign, is_stroke}
+use Rattle.snippet_suggest.proofs.Common.{Bool, ◌≡◌, ◌≤◌, true, false, refl, inl, inr, length, arith, is_ascii_alphanumeric, list_all, list_any}
+use Rattle.snippet_suggest.proofs.Common.{slice_index_or, DecorStyle, Ascii, Unicode, SuggestionGlyph, Leading, Closing, Kept, Alone, Changed, Added, is_listed}
+use Rattle.snippet_suggest.proofs.Common.{removed_sign_of, suggestion_glyph_of, IsSign, is_stroke}
+use Rattle.snippet_style.specs.declared.glyphs.SuggestionGlyph.TheVariants.{Opening, Next}
 
 -- the sign of a removed line has two characters
 pub removed_sign_short : (decor : DecorStyle) → length (removed_sign_of decor) ≤ 2

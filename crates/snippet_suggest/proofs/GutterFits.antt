@@ -1,37 +1,14 @@
 -- Why the gutter that has room for the number that a suggestion counts has room for the number of each line that it gives.
-use Rattle.std.proofs.Common.{◌≡◌, ℕ, ◌+◌, ◌<◌, ◌≤◌, ◌^◌, nat_le, ◌&&◌, Bool, true, false, if◌then◌else◌, List, [], ◌∷◌, All, length, map, refl, sym, ap, ◌∙◌}
-use Rattle.std.proofs.Common.{arith, subst, ◌==◌}
-use Rattle.std.specs.Cow.{cow_str_bytes}
-use Rattle.std.specs.List.{list_any, list_all}
-use Rattle.std.proofs.lemmas.Bool.{cond-true, cond_both}
-use Rattle.std.proofs.lemmas.Bool.Decides.{nat_tests}
-use Rattle.std.proofs.lemmas.List.{length-map}
-use Rattle.std.proofs.lemmas.List.Elements.{All-map}
-use Rattle.snippet_model.specs.declared.snippet.Snippet.{Snippet}
-use Rattle.snippet_model.specs.declared.snippet.Patch.{Patch}
-use Rattle.snippet_lines.specs.Lines.{lines_of, source_lines, newline_count, last_byte}
-use Rattle.snippet_lines.specs.Number.{number_width, shown_number}
-use Rattle.snippet_lines.specs.declared.number.LineNumbers.{LineNumbers}
-use Rattle.snippet_lines.specs.Place.{line_of}
-use Rattle.snippet_lines.specs.IsSpan.{IsSpan}
-use Rattle.snippet_lines.proofs.LinesLemmas.{length-source_lines}
-use Rattle.snippet_lines.proofs.NumberLemmas.{length-shown_number, number_width_monotone}
-use Rattle.snippet_lines.proofs.PlaceLemmas.{line_of-mono, line_of-within}
-use Rattle.snippet_splice.specs.Edits.{Edit, edit_of, in_order, trimmed_edit}
-use Rattle.snippet_splice.specs.ShownText.{first_start}
-use Rattle.snippet_splice.proofs.EditLemmas.{trimmed_edit-shrunk}
-use Rattle.snippet_suggest.specs.declared.kind.DisplaySuggestion.{DisplaySuggestion}
-use Rattle.snippet_suggest.specs.declared.kind.DisplaySuggestion.TheVariants.{Underline, Diff, Plain, Add}
-use Rattle.snippet_suggest.specs.declared.layout.SuggestionLayout.{SuggestionLayout}
-use Rattle.snippet_suggest.specs.declared.shown_lines.SuggestionLine.TheVariants.{Line}
-use Rattle.snippet_suggest.specs.Given.{counted_line, edits_of, first_end, first_given, given_lines, given_text, shown_kind, trimmed_of}
+use Rattle.snippet_suggest.proofs.Common.{◌≡◌, ℕ, ◌+◌, ◌<◌, ◌≤◌, ◌^◌, nat_le, ◌&&◌, Bool, true, false, if◌then◌else◌, List}
+use Rattle.snippet_suggest.proofs.Common.{[], ◌∷◌, All, length, map, refl, sym, ap, ◌∙◌, arith, subst, ◌==◌, cow_str_bytes, list_any, list_all}
+use Rattle.snippet_suggest.proofs.Common.{cond-true, cond_both, nat_tests, length-map, All-map, Snippet, Patch, lines_of, source_lines, newline_count}
+use Rattle.snippet_suggest.proofs.Common.{last_byte, number_width, shown_number, LineNumbers, line_of, IsSpan, length-source_lines, length-shown_number}
+use Rattle.snippet_suggest.proofs.Common.{number_width_monotone, line_of-mono, line_of-within, Edit, edit_of, in_order, trimmed_edit, first_start}
+use Rattle.snippet_suggest.proofs.Common.{trimmed_edit-shrunk, DisplaySuggestion, Underline, Diff, Plain, Add, SuggestionLayout, Line, counted_line, edits_of}
+use Rattle.snippet_suggest.proofs.Common.{first_end, first_given, given_lines, given_text, shown_kind, trimmed_of, kind_of, takes_away, IsSuggestible}
+use Rattle.snippet_suggest.proofs.Common.{HasGutter, NumberFits, capped_sum, bytes_eq, trim}
 use Rattle.snippet_suggest.proofs.ByKind.{counted_folded}
-use Rattle.snippet_suggest.specs.Kind.{kind_of, takes_away}
-use Rattle.snippet_suggest.specs.PreparedSuggestion.{IsSuggestible}
-use Rattle.snippet_suggest.specs.ShownRows.{HasGutter, NumberFits}
 use Rattle.snippet_suggest.proofs.SpanLemmas.{spans_in_order}
-use Rattle.snippet_window.specs.Margin.{capped_sum}
-use Rattle.std.specs.Str.{bytes_eq, trim}
 
 -- the test of the kinds, each question answered. Of a kind that gives one line at most the last one is never counted
 abbrev kind_by : Bool → Bool → Bool → Bool → DisplaySuggestion

@@ -1,26 +1,10 @@
 -- What is known of the lines that a diff removes, and of its rows.
-use Rattle.std.proofs.Common.{◌≡◌, ℕ, ◌+◌, ◌-◌, ◌^◌, ◌<◌, ◌≤◌, Bool, true, List, [], ◌∷◌, length, map, refl, sym, ap, ◌∙◌, arith}
-use Rattle.std.specs.Cow.{cow_str_bytes}
-use Rattle.std.specs.List.{range_with_len}
-use Rattle.std.specs.Str.{bytes_eq}
-use Rattle.std.proofs.lemmas.List.{length-map}
-use Rattle.std.proofs.lemmas.List.FromFn.{length-range_with_len}
-use Rattle.snippet_lines.specs.Lines.{Source, source_lines, text_at}
-use Rattle.snippet_lines.specs.Place.{line_of}
-use Rattle.snippet_parts.specs.declared.source_map.LineInfo.{LineInfo}
-use Rattle.snippet_parts.specs.LineTable.{table_entry, touched_entries}
-use Rattle.snippet_splice.specs.Copied.{end_from}
-use Rattle.snippet_splice.specs.Edits.{Edit}
-use Rattle.snippet_splice.specs.TrimmedEdits.{trimmed_edit_of}
-use Rattle.snippet_splice.specs.ShownText.{first_start}
-use Rattle.snippet_suggest.specs.declared.kind.DisplaySuggestion.TheVariants.{Diff}
-use Rattle.snippet_suggest.specs.declared.layout.SuggestionStart.{SuggestionStart}
-use Rattle.snippet_suggest.specs.declared.prepared.PreparedSuggestion.{PreparedSuggestion}
-use Rattle.snippet_suggest.specs.Given.{edits_of, first_given, given_lines, given_ranges, is_left_out, last_reached, trimmed_of}
-use Rattle.snippet_suggest.specs.RowOrder.{Begins, SuggestionRow, rows_of_suggestion}
-use Rattle.snippet_suggest.specs.RemovedRows.{last_removed, texts_at, unless_stays, counted_from, numbered_at, removed_from}
-use Rattle.snippet_suggest.specs.PreparedSuggestion.{IsPrepared}
-use Rattle.snippet_suggest.specs.SuggestedLines.{is_touched}
+use Rattle.snippet_suggest.proofs.Common.{◌≡◌, ℕ, ◌+◌, ◌-◌, ◌^◌, ◌<◌, ◌≤◌, Bool, true, List, [], ◌∷◌, length, map, refl}
+use Rattle.snippet_suggest.proofs.Common.{sym, ap, ◌∙◌, arith, cow_str_bytes, range_with_len, bytes_eq, length-map, length-range_with_len, Source}
+use Rattle.snippet_suggest.proofs.Common.{source_lines, text_at, line_of, LineInfo, table_entry, touched_entries, end_from, Edit, trimmed_edit_of, first_start}
+use Rattle.snippet_suggest.proofs.Common.{Diff, SuggestionStart, PreparedSuggestion, edits_of, first_given, given_lines, given_ranges, is_left_out}
+use Rattle.snippet_suggest.proofs.Common.{last_reached, trimmed_of, Begins, SuggestionRow, rows_of_suggestion, last_removed, texts_at, unless_stays}
+use Rattle.snippet_suggest.proofs.Common.{counted_from, numbered_at, removed_from, IsPrepared, is_touched}
 use Rattle.snippet_suggest.proofs.KnownLemmas.{known_apart, known_reached}
 use Rattle.snippet_suggest.proofs.KnownRemoved.{known_replaced, known_replaced_rows, replaced_touched, unless_range}
 use Rattle.snippet_suggest.proofs.OrderLaws.{rows_diff, changed_rows}

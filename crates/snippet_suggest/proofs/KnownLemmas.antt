@@ -1,25 +1,11 @@
 -- What follows for a suggestion that is prepared.
-use Rattle.std.proofs.Common.{◌≡◌, ℕ, ◌+◌, ◌<◌, ◌≤◌, List, [], ◌∷◌, All, length, map, refl, sym, ap, ◌∙◌, arith, subst, if◌then◌else◌}
-use Rattle.std.specs.Cow.{cow_str_bytes}
-use Rattle.std.proofs.lemmas.List.Elements.{All-map}
-use Rattle.snippet_lines.specs.Lines.{source_lines, text_at}
-use Rattle.snippet_lines.specs.Place.{line_of}
-use Rattle.snippet_lines.specs.IsSpan.{IsSpan}
-use Rattle.snippet_parts.specs.declared.source_map.LineInfo.{LineInfo}
-use Rattle.snippet_parts.specs.LineTable.{table_entry, touched_entries}
-use Rattle.snippet_splice.specs.Copied.{end_from}
-use Rattle.snippet_splice.specs.declared.patches.TrimmedPatch.{TrimmedPatch}
-use Rattle.snippet_splice.specs.Edits.{Edit, edit_of, in_order, trimmed_edits}
-use Rattle.snippet_splice.specs.TrimmedEdits.{AreApart, edit_bounds, original_bounds_of, trimmed_edit_of}
-use Rattle.snippet_splice.specs.ShownText.{first_start}
-use Rattle.snippet_splice.proofs.EditLemmas.{trimmed-apart}
-use Rattle.snippet_splice.proofs.OverlapLemmas.{apart-in_order, ordered-spans}
-use Rattle.snippet_splice.proofs.ShownLemmas.{none_given}
-use Rattle.snippet_suggest.specs.declared.prepared.PreparedSuggestion.{PreparedSuggestion}
-use Rattle.snippet_suggest.specs.Given.{edits_of, first_end, first_given, last_reached}
-use Rattle.snippet_suggest.specs.RemovedRows.{last_removed}
+use Rattle.snippet_suggest.proofs.Common.{◌≡◌, ℕ, ◌+◌, ◌<◌, ◌≤◌, List, [], ◌∷◌, All, length, map, refl, sym, ap, ◌∙◌, arith}
+use Rattle.snippet_suggest.proofs.Common.{subst, if◌then◌else◌, cow_str_bytes, All-map, source_lines, text_at, line_of, IsSpan, LineInfo, table_entry}
+use Rattle.snippet_suggest.proofs.Common.{touched_entries, end_from, TrimmedPatch, Edit, edit_of, in_order, trimmed_edits, AreApart, edit_bounds}
+use Rattle.snippet_suggest.proofs.Common.{original_bounds_of, trimmed_edit_of, first_start, trimmed-apart, apart-in_order, ordered-spans, none_given}
+use Rattle.snippet_suggest.proofs.Common.{PreparedSuggestion, edits_of, first_end, first_given, last_reached, last_removed, IsPrepared, first_original}
+use Rattle.snippet_suggest.proofs.Common.{first_original_end}
 use Rattle.snippet_suggest.proofs.ReachLemmas.{reached, touched_last}
-use Rattle.snippet_suggest.specs.PreparedSuggestion.{IsPrepared, first_original, first_original_end}
 use Rattle.snippet_suggest.proofs.SpanLemmas.{original_spans, trimmed_spans}
 use Rattle.snippet_suggest.proofs.PreparedLemmas.{first_original-start}
 

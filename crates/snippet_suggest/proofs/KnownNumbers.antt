@@ -1,20 +1,10 @@
 -- Which lines a suggestion that is prepared shows.
-use Rattle.std.proofs.Common.{◌≡◌, ℕ, ◌≤◌, Bool, true, false, None, Some, if◌then◌else◌, List, [], ◌∷◌, ◌++◌, length, map, refl, sym, ap, ◌∙◌, arith}
-use Rattle.std.specs.Cow.{cow_str_bytes}
-use Rattle.std.specs.List.{slice_get}
-use Rattle.std.proofs.lemmas.List.{length-map}
-use Rattle.snippet_lines.specs.Lines.{lines_of}
-use Rattle.snippet_splice.specs.declared.splice.LineRange.{LineRange}
-use Rattle.snippet_suggest.specs.declared.prepared.PreparedSuggestion.{PreparedSuggestion}
-use Rattle.snippet_suggest.specs.declared.kind.DisplaySuggestion.{DisplaySuggestion}
-use Rattle.snippet_suggest.specs.declared.kind.DisplaySuggestion.TheVariants.{Diff}
-use Rattle.snippet_suggest.specs.declared.shown_lines.SuggestionLine.TheVariants.{Line}
-use Rattle.snippet_suggest.specs.Given.{given_lines, given_text, is_left_out, shown_kind, trimmed_of}
+use Rattle.snippet_suggest.proofs.Common.{◌≡◌, ℕ, ◌≤◌, Bool, true, false, None, Some, if◌then◌else◌, List, [], ◌∷◌, ◌++◌, length}
+use Rattle.snippet_suggest.proofs.Common.{map, refl, sym, ap, ◌∙◌, arith, cow_str_bytes, slice_get, length-map, lines_of, LineRange, PreparedSuggestion}
+use Rattle.snippet_suggest.proofs.Common.{DisplaySuggestion, Diff, Line, given_lines, given_text, is_left_out, shown_kind, trimmed_of, is_touched, shown_run}
+use Rattle.snippet_suggest.proofs.Common.{numbers_of, numbers_shown, IsPrepared}
 use Rattle.snippet_suggest.proofs.ByKind.{counted_folded}
-use Rattle.snippet_suggest.specs.SuggestedLines.{is_touched, shown_run}
-use Rattle.snippet_suggest.specs.Offered.{numbers_of, numbers_shown}
 use Rattle.snippet_suggest.proofs.GutterFits.{one_given}
-use Rattle.snippet_suggest.specs.PreparedSuggestion.{IsPrepared}
 
 cond_same : (b : Bool) → ◌≡◌ {A = List ℕ} (if b then [] else []) []
 cond_same true = refl

@@ -1,33 +1,14 @@
 -- Which lines a suggestion that is prepared shows as removed, and their texts.
-use Rattle.std.proofs.Common.{◌==◌}
-use Rattle.std.proofs.Common.{◌≡◌, ℕ, zero, suc, ◌+◌, ◌-◌, ◌≤◌, Bool, true, false, if◌then◌else◌, List, [], ◌∷◌, length, map, take, refl, sym, ap, ◌∙◌, arith}
-use Rattle.std.specs.Cow.{cow_str_bytes}
-use Rattle.std.specs.List.{range_with_len, slice_index_or}
-use Rattle.std.specs.Str.{bytes_eq}
-use Rattle.std.proofs.lemmas.List.{length-map, take-map}
-use Rattle.std.proofs.lemmas.List.FromFn.{length-range_with_len}
-use Rattle.snippet_lines.specs.Lines.{source_lines, text_at}
-use Rattle.snippet_lines.specs.Place.{line_of}
-use Rattle.snippet_parts.specs.declared.source_map.LineInfo.{LineInfo}
-use Rattle.snippet_parts.specs.LineTable.{table_entry, touched_entries}
-use Rattle.snippet_splice.specs.Copied.{end_from}
-use Rattle.snippet_splice.specs.Edits.{in_order}
-use Rattle.snippet_splice.specs.TrimmedEdits.{trimmed_edit_of}
-use Rattle.snippet_splice.specs.ShownText.{first_start}
-use Rattle.snippet_suggest.specs.declared.prepared.PreparedSuggestion.{PreparedSuggestion}
-use Rattle.snippet_suggest.specs.declared.kind.DisplaySuggestion.TheVariants.{Diff}
-use Rattle.snippet_suggest.specs.Given.{edits_of, emptied_lines, first_end, first_given, given_lines, last_reached}
-use Rattle.snippet_suggest.specs.Given.{lines_touched, removed_lines, replaced_lines, shown_kind}
+use Rattle.snippet_suggest.proofs.Common.{◌==◌, ◌≡◌, ℕ, zero, suc, ◌+◌, ◌-◌, ◌≤◌, Bool, true, false, if◌then◌else◌, List, []}
+use Rattle.snippet_suggest.proofs.Common.{◌∷◌, length, map, take, refl, sym, ap, ◌∙◌, arith, cow_str_bytes, range_with_len, slice_index_or}
+use Rattle.snippet_suggest.proofs.Common.{bytes_eq, length-map, take-map, length-range_with_len, source_lines, text_at, line_of, LineInfo, table_entry}
+use Rattle.snippet_suggest.proofs.Common.{touched_entries, end_from, in_order, trimmed_edit_of, first_start, PreparedSuggestion, Diff, edits_of, emptied_lines}
+use Rattle.snippet_suggest.proofs.Common.{first_end, first_given, given_lines, last_reached, lines_touched, removed_lines, replaced_lines, shown_kind}
+use Rattle.snippet_suggest.proofs.Common.{trimmed_of, Removes, SuggestionRow, texts_of_source, last_removed, texts_at, unless_stays, counted_from, numbered_at}
+use Rattle.snippet_suggest.proofs.Common.{removed_from, IsPrepared, first_original, first_original_end, is_touched, capped_sum}
 use Rattle.snippet_suggest.proofs.ByKind.{removed_of}
-use Rattle.snippet_suggest.specs.Given.{trimmed_of}
-use Rattle.snippet_suggest.specs.RowOrder.{Removes, SuggestionRow}
-use Rattle.snippet_suggest.specs.Offered.{texts_of_source}
-use Rattle.snippet_suggest.specs.RemovedRows.{last_removed, texts_at, unless_stays, counted_from, numbered_at, removed_from}
-use Rattle.snippet_suggest.specs.PreparedSuggestion.{IsPrepared, first_original, first_original_end}
-use Rattle.snippet_suggest.specs.SuggestedLines.{is_touched}
 use Rattle.snippet_suggest.proofs.KnownLemmas.{known_first_end, known_first_start}
 use Rattle.snippet_suggest.proofs.ReachLemmas.{touched_numbered, touched_texts}
-use Rattle.snippet_window.specs.Margin.{capped_sum}
 use Rattle.snippet_suggest.proofs.OrderLaws.{removed_row}
 
 -- the texts of the lines that a span touches are those of the source

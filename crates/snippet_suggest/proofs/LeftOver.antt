@@ -1,14 +1,8 @@
 -- What stands beside a removed line: its number, what a row that was there held, and the end of a long number.
-use Rattle.std.proofs.Common.{◌≡◌, ◌⊎◌, true, ℕ, ◌-◌, ◌+◌, ◌^◌, ◌<◌, ◌≤◌, ◌%◌, List, [], ◌∷◌, All, length, replicate, refl, arith, inl, inr}
-use Rattle.std.specs.Fmt.{decimal}
-use Rattle.std.proofs.lemmas.Fmt.{decimal_by_steps}
-use Rattle.std.proofs.lemmas.List.{length-append, length-replicate}
-use Rattle.std.proofs.lemmas.List.Elements.{All-append, All-cons, All-nil, All-push, All-replicate}
-use Rattle.snippet_style.specs.declared.glyphs.DecorStyle.{DecorStyle}
-use Rattle.snippet_lines.specs.Number.{set_right, shown_number}
-use Rattle.snippet_lines.specs.declared.number.LineNumbers.{LineNumbers}
-use Rattle.snippet_lines.specs.declared.number.LineNumbers.TheVariants.{Shown, Anonymized, Hidden}
-use Rattle.snippet_suggest.specs.SuggestionRows.{IsMarkOrSpace, IsOfNumber, is_stroke}
+use Rattle.snippet_suggest.proofs.Common.{◌≡◌, ◌⊎◌, true, ℕ, ◌-◌, ◌+◌, ◌^◌, ◌<◌, ◌≤◌, ◌%◌, List, [], ◌∷◌, All}
+use Rattle.snippet_suggest.proofs.Common.{length, replicate, refl, arith, inl, inr, decimal, decimal_by_steps, length-append, length-replicate, All-append}
+use Rattle.snippet_suggest.proofs.Common.{All-cons, All-nil, All-push, All-replicate, DecorStyle, set_right, shown_number, LineNumbers, Shown, Anonymized}
+use Rattle.snippet_suggest.proofs.Common.{Hidden, IsMarkOrSpace, IsOfNumber, is_stroke}
 
 -- what stands left of the sign of a line that is removed, and what may stand after its text
 abbrev pub IsBeforeSign : LineNumbers → DecorStyle → ℕ → Type 0

@@ -1,3 +1,4 @@
+pub mod Common
 pub mod AscendLemmas
 pub mod BareLemmas
 pub mod BodyLaws

@@ -1,23 +1,10 @@
 -- Marks as values: what the patches before one move, and the cells that the marks take.
-use Rattle.std.proofs.Common.{◌≡◌, ℕ, suc, ◌+◌, ◌-◌, ◌^◌, ◌<◌, ◌≤◌, leb, All, List, [], ◌∷◌, ◌++◌, length, min, replicate, take, get_or, refl, sym, ap}
-use Rattle.std.proofs.Common.{◌∙◌, arith, inl, inr, sum_by}
-use Rattle.std.proofs.lemmas.Bool.{cases_Bool}
-use Rattle.std.proofs.lemmas.Bool.Decides.{nat_tests}
-use Rattle.std.proofs.lemmas.List.Sums.{sum_by-append}
-use Rattle.snippet_style.specs.declared.role.ElementStyle.{ElementStyle}
-use Rattle.snippet_style.specs.declared.role.ElementStyle.TheVariants.{Addition}
-use Rattle.snippet_style.specs.Cell.{Cell, SPACE, text_cells, unlinked_cell, written}
-use Rattle.snippet_style.proofs.CellLemmas.{length-text_cells}
-use Rattle.snippet_grid.specs.Grid.{cells_written}
-use Rattle.snippet_grid.proofs.GridLemmas.{cells_written_last}
-use Rattle.snippet_lines.specs.Lines.{Source}
-use Rattle.snippet_splice.specs.Edits.{Edit}
-use Rattle.snippet_splice.specs.EditStretches.{capped}
-use Rattle.snippet_suggest.specs.declared.layout.SuggestionLayout.{SuggestionLayout}
-use Rattle.snippet_suggest.specs.declared.marks.PatchColumns.{PatchColumns}
-use Rattle.snippet_suggest.specs.Cells.{put}
-use Rattle.std.proofs.lemmas.List.{length-replicate, map-append, places, same_lists, take_more}
-use Rattle.snippet_suggest.specs.Marks.{edit_columns, left_of, patch_mark_end, mark_glyph_of, mark_start, with_mark, with_marks}
+use Rattle.snippet_suggest.proofs.Common.{◌≡◌, ℕ, suc, ◌+◌, ◌-◌, ◌^◌, ◌<◌, ◌≤◌, leb, All, List, [], ◌∷◌, ◌++◌, length}
+use Rattle.snippet_suggest.proofs.Common.{min, replicate, take, get_or, refl, sym, ap, ◌∙◌, arith, inl, inr, cases_Bool, nat_tests, sum_by-append}
+use Rattle.snippet_suggest.proofs.Common.{ElementStyle, Addition, Cell, SPACE, text_cells, unlinked_cell, written, length-text_cells, cells_written}
+use Rattle.snippet_suggest.proofs.Common.{cells_written_last, Source, Edit, capped, SuggestionLayout, PatchColumns, put, length-replicate, map-append, places}
+use Rattle.snippet_suggest.proofs.Common.{same_lists, take_more, edit_columns, left_of, patch_mark_end, mark_glyph_of, mark_start, with_mark, with_marks}
+use Rattle.std.proofs.Common.{sum_by}
 use Rattle.snippet_suggest.proofs.PutLemmas.{put_none}
 
 -- ---- what patches move

@@ -1,16 +1,7 @@
 -- There are numbers for the lines that a suggestion gives.
-use Rattle.std.proofs.Common.{◌≡◌, ◌+◌, ◌<◌, ◌≤◌, ◌^◌, ◌==◌, List, [], ◌∷◌, length, map, count_by, refl, sym, ap, ◌∙◌, arith}
-use Rattle.std.proofs.lemmas.List.{length-map}
-use Rattle.std.proofs.lemmas.List.Sums.{sum_by-cons}
-use Rattle.std.specs.Cow.{cow_str_bytes}
-use Rattle.std.specs.List.{sum_by}
-use Rattle.snippet_model.specs.declared.snippet.Snippet.{Snippet}
-use Rattle.snippet_model.specs.declared.snippet.Patch.{Patch}
-use Rattle.snippet_lines.specs.Lines.{lines_of, source_lines}
-use Rattle.snippet_splice.specs.Edits.{edit_of}
-use Rattle.snippet_splice.specs.FirstOverlap.{AreDisjoint}
-use Rattle.snippet_splice.proofs.FeedLemmas.{shown-bound, text_feeds}
-use Rattle.snippet_suggest.specs.Given.{added_lines, edits_of, first_given, given_lines, given_text}
+use Rattle.snippet_suggest.proofs.Common.{◌≡◌, ◌+◌, ◌<◌, ◌≤◌, ◌^◌, ◌==◌, List, [], ◌∷◌, length, map, count_by, refl, sym, ap}
+use Rattle.snippet_suggest.proofs.Common.{◌∙◌, arith, length-map, sum_by-cons, cow_str_bytes, sum_by, Snippet, Patch, lines_of, source_lines, edit_of}
+use Rattle.snippet_suggest.proofs.Common.{AreDisjoint, shown-bound, text_feeds, added_lines, edits_of, first_given, given_lines, given_text}
 use Rattle.snippet_suggest.proofs.OfferLaws.{HaveSpans, edits-apart}
 
 edits-feeds : (ps : List Patch) → text_feeds (map edit_of ps) ≡ added_lines ps

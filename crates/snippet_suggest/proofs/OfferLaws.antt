@@ -1,24 +1,11 @@
 -- What a suggestion offers: lines of the patched source, in ascending order.
-use Rattle.std.proofs.Common.{◌≡◌, ◌≢◌, ℕ, ◌+◌, ◌<◌, Bool, true, false, if◌then◌else◌, List, [], All, length, sym, subst, ◌∙◌, arith}
-use Rattle.std.proofs.lemmas.List.{length-map, get_or-map}
-use Rattle.std.specs.Cow.{cow_str_bytes}
-use Rattle.std.specs.List.{slice_index_or}
-use Rattle.snippet_model.specs.declared.snippet.Snippet.{Snippet}
-use Rattle.snippet_model.specs.declared.snippet.Patch.{Patch}
-use Rattle.snippet_lines.specs.declared.lines.EndLine.TheVariants.{Eof}
-use Rattle.snippet_lines.specs.Lines.{Line, lines_of, source_lines, text_at}
-use Rattle.snippet_lines.specs.IsSpan.{IsSpan}
-use Rattle.snippet_splice.specs.Edits.{in_order, patched}
-use Rattle.snippet_splice.specs.Patched.{AreFrom, texts_of}
-use Rattle.snippet_splice.specs.FirstOverlap.{AreDisjoint}
-use Rattle.snippet_splice.specs.TrimmedEdits.{AreApart}
-use Rattle.snippet_splice.proofs.OverlapLemmas.{apart-in_order, ordered-spans}
-use Rattle.snippet_splice.proofs.ShownLemmas.{some-edits}
-use Rattle.snippet_splice.proofs.SpliceLemmas.{IsShownPart, IsShownPart-plain}
-use Rattle.snippet_splice.proofs.LineLemmas.{AreFrom-at, AreFrom-shown}
-use Rattle.snippet_suggest.specs.Given.{IsOfferable, edits_of, first_given, given_lines, given_ranges, is_left_out, last_reached, shown_kind}
-use Rattle.snippet_suggest.specs.SuggestedLines.{is_touched, shown_from}
-use Rattle.snippet_suggest.specs.Offered.{numbers_given, offered_lines, AreRising, numbers_shown}
+use Rattle.snippet_suggest.proofs.Common.{◌≡◌, ◌≢◌, ℕ, ◌+◌, ◌<◌, Bool, true, false, if◌then◌else◌, List, [], All, length, sym}
+use Rattle.snippet_suggest.proofs.Common.{subst, ◌∙◌, arith, length-map, get_or-map, cow_str_bytes, slice_index_or, Snippet, Patch, Eof, lines_of}
+use Rattle.snippet_suggest.proofs.Common.{source_lines, text_at, IsSpan, in_order, patched, AreFrom, texts_of, AreDisjoint, AreApart, apart-in_order}
+use Rattle.snippet_suggest.proofs.Common.{ordered-spans, some-edits, IsShownPart, IsShownPart-plain, AreFrom-at, AreFrom-shown, IsOfferable, edits_of}
+use Rattle.snippet_suggest.proofs.Common.{first_given, given_lines, given_ranges, is_left_out, last_reached, shown_kind, is_touched, shown_from, numbers_given}
+use Rattle.snippet_suggest.proofs.Common.{offered_lines, AreRising, numbers_shown}
+use Rattle.snippet_lines.specs.Lines.{Line}
 use Rattle.snippet_suggest.proofs.AscendLemmas.{rising-moved}
 use Rattle.snippet_suggest.proofs.RisingLemmas.{rising_shown}
 

@@ -1,23 +1,12 @@
 -- What the rows of a suggestion show in order: by cases, and which lines they offer and show as removed.
-use Rattle.std.proofs.Common.{◌≡◌, ◌≢◌, ℕ, ◌≤◌, Bool, true, false, if◌then◌else◌, List, [], ◌∷◌, ◌++◌, All, length, map, refl, sym, ap, ◌∙◌, arith}
-use Rattle.std.specs.Cow.{cow_str_bytes}
-use Rattle.std.proofs.lemmas.List.{append-nil, length-map}
-use Rattle.std.proofs.lemmas.List.Elements.{All-append, All-cons, All-nil, filter_map-append}
-use Rattle.snippet_model.specs.declared.snippet.Snippet.{Snippet}
-use Rattle.snippet_model.specs.declared.snippet.Patch.{Patch}
-use Rattle.snippet_lines.specs.Lines.{lines_of, source_lines, text_at}
-use Rattle.snippet_splice.specs.declared.splice.LineRange.{LineRange}
-use Rattle.snippet_suggest.specs.declared.kind.DisplaySuggestion.{DisplaySuggestion}
-use Rattle.snippet_suggest.specs.declared.kind.DisplaySuggestion.TheVariants.{Add, Diff, Plain, Underline}
-use Rattle.snippet_suggest.specs.declared.layout.SuggestionStart.{SuggestionStart}
-use Rattle.snippet_suggest.specs.declared.shown_lines.SuggestionLine.{SuggestionLine}
-use Rattle.snippet_suggest.specs.declared.shown_lines.SuggestionLine.TheVariants.{Gap, Line}
-use Rattle.snippet_suggest.specs.Given.{emptied_lines, given_lines, given_ranges, given_text, is_left_out, last_reached}
+use Rattle.snippet_suggest.proofs.Common.{◌≡◌, ◌≢◌, ℕ, ◌≤◌, Bool, true, false, if◌then◌else◌, List, [], ◌∷◌, ◌++◌, All}
+use Rattle.snippet_suggest.proofs.Common.{length, map, refl, sym, ap, ◌∙◌, arith, cow_str_bytes, append-nil, length-map, All-append, All-cons, All-nil}
+use Rattle.snippet_suggest.proofs.Common.{filter_map-append, Snippet, Patch, lines_of, source_lines, text_at, LineRange, DisplaySuggestion, Add, Diff, Plain}
+use Rattle.snippet_suggest.proofs.Common.{Underline, SuggestionStart, SuggestionLine, Gap, Line, emptied_lines, given_lines, given_ranges, given_text}
+use Rattle.snippet_suggest.proofs.Common.{is_left_out, last_reached, removed_lines, replaced_lines, shown_kind, trimmed_of, Begins, Empty, Ends, Offers}
+use Rattle.snippet_suggest.proofs.Common.{Removes, Skips, SuggestionRow, removed_number, rows_of_suggestion, is_touched, shown_from, numbers_given, numbers_of}
+use Rattle.snippet_suggest.proofs.Common.{line_taken, lines_taken, number_offered, numbers_offered, numbers_shown}
 use Rattle.snippet_suggest.proofs.ByKind.{counted_folded, removed_of, row_of_shown, rows_where}
-use Rattle.snippet_suggest.specs.Given.{removed_lines, replaced_lines, shown_kind, trimmed_of}
-use Rattle.snippet_suggest.specs.RowOrder.{Begins, Empty, Ends, Offers, Removes, Skips, SuggestionRow, removed_number, rows_of_suggestion}
-use Rattle.snippet_suggest.specs.SuggestedLines.{is_touched, shown_from}
-use Rattle.snippet_suggest.specs.Offered.{numbers_given, numbers_of, line_taken, lines_taken, number_offered, numbers_offered, numbers_shown}
 use Rattle.snippet_suggest.proofs.GutterFits.{one_given}
 use Rattle.snippet_suggest.proofs.KnownNumbers.{diff_numbers, none_numbers}
 

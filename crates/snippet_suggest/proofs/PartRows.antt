@@ -1,24 +1,12 @@
 -- A line that is put into a row part by part, where some of it has a role.
-use Rattle.std.proofs.Common.{◌≡◌, ℕ, zero, suc, ◌+◌, ◌-◌, ◌≤◌, ◌<◌, ◌==◌, true, List, [], ◌∷◌, ◌++◌, length, map, max, take, drop, replicate, get_or, refl}
-use Rattle.std.proofs.Common.{sym}
-use Rattle.std.proofs.Common.{All, ap, ◌∙◌, arith, chars, count_by, subst}
-use Rattle.std.proofs.lemmas.Bool.Decides.{nat_tests}
-use Rattle.std.proofs.lemmas.List.{append-nil, get_or-drop, get_or-take, length-append, length-drop, length-map, length-take, places, same_lists, take_all}
-use Rattle.std.proofs.lemmas.List.{drop_more, take_more}
-use Rattle.std.specs.Str.{IsCharBoundary}
-use Rattle.snippet_style.specs.Bounds.{max_usize}
-use Rattle.snippet_style.specs.declared.role.ElementStyle.{ElementStyle}
-use Rattle.snippet_style.specs.declared.role.ElementStyle.TheVariants.{NoStyle}
-use Rattle.snippet_style.specs.Cell.{Cell, SPACE, text_cells, unlinked_cell, written}
-use Rattle.snippet_style.proofs.CellLemmas.{length-text_cells, length-written, text_cells-append}
-use Rattle.snippet_text.specs.Normalized.{norm}
-use Rattle.snippet_text.specs.Plain.{IsPlain}
-use Rattle.snippet_text.proofs.NormLemmas.{norm-unlisted}
-use Rattle.snippet_text.proofs.PlainLemmas.{chars-plain, list_any-plain}
-use Rattle.snippet_grid.specs.Grid.{changed_within, restyled}
-use Rattle.snippet_splice.specs.declared.stretches.SubstitutionHighlight.{SubstitutionHighlight}
-use Rattle.snippet_suggest.specs.Cells.{put, stretch_cell, with_stretches}
-use Rattle.snippet_suggest.specs.InOrder.{AreInOrder}
+use Rattle.snippet_suggest.proofs.Common.{◌≡◌, ℕ, zero, suc, ◌+◌, ◌-◌, ◌≤◌, ◌<◌, ◌==◌, true, List, [], ◌∷◌, ◌++◌}
+use Rattle.snippet_suggest.proofs.Common.{length, map, max, take, drop, replicate, get_or, refl, sym, All, ap, ◌∙◌, arith, count_by, subst, nat_tests}
+use Rattle.snippet_suggest.proofs.Common.{append-nil, get_or-drop, get_or-take, length-append, length-drop, length-map, length-take, places, same_lists}
+use Rattle.snippet_suggest.proofs.Common.{take_all, drop_more, take_more, IsCharBoundary, max_usize, ElementStyle, NoStyle, Cell, SPACE, text_cells}
+use Rattle.snippet_suggest.proofs.Common.{unlinked_cell, written, length-text_cells, length-written, text_cells-append, norm, IsPlain, norm-unlisted}
+use Rattle.snippet_suggest.proofs.Common.{chars-plain, list_any-plain, changed_within, restyled, SubstitutionHighlight, put, stretch_cell, with_stretches}
+use Rattle.snippet_suggest.proofs.Common.{AreInOrder}
+use Rattle.std.proofs.Common.{chars}
 use Rattle.snippet_suggest.proofs.StretchRows.{empty_stretch, with_append, with_none}
 
 -- ---- lists

@@ -1,26 +1,12 @@
 -- Laws of what is known of a suggestion before any row is drawn.
-use Rattle.std.proofs.Common.{◌≡◌, ◌≢◌, ℕ, ◌+◌, ◌<◌, ◌≤◌, ◌^◌, Bool, if◌then◌else◌, Some, List, [], ◌∷◌, length, map, refl, sym, ap, ◌∙◌, arith}
-use Rattle.std.proofs.lemmas.Bool.{cond_both}
-use Rattle.std.proofs.lemmas.List.{length-map}
-use Rattle.std.specs.Cow.{cow_str_bytes}
-use Rattle.std.specs.List.{slice_get}
-use Rattle.snippet_lines.specs.Lines.{Line, Source, lines_of, source_lines, newline_count}
-use Rattle.snippet_lines.specs.Place.{line_of}
-use Rattle.snippet_lines.proofs.LinesLemmas.{length-source_lines}
-use Rattle.snippet_lines.proofs.PlaceLemmas.{line_of-within}
-use Rattle.snippet_model.specs.declared.snippet.Patch.{Patch}
-use Rattle.snippet_model.specs.declared.snippet.Snippet.{Snippet}
-use Rattle.snippet_splice.specs.declared.patches.TrimmedPatch.{TrimmedPatch}
-use Rattle.snippet_splice.specs.Edits.{Edit, edit_of, in_order, trimmed_edits}
-use Rattle.snippet_splice.specs.ShownText.{first_start}
-use Rattle.snippet_splice.specs.Patched.{texts_of}
-use Rattle.snippet_splice.specs.TrimmedEdits.{edit_bounds, original_bounds_of, trimmed_edit_of}
-use Rattle.snippet_splice.proofs.ShownLemmas.{none_given}
-use Rattle.snippet_suggest.specs.declared.kind.DisplaySuggestion.{DisplaySuggestion}
-use Rattle.snippet_suggest.specs.Given.{counted_line, edits_of, first_end, first_given, given_text, shown_kind, trimmed_of}
+use Rattle.snippet_suggest.proofs.Common.{◌≡◌, ◌≢◌, ℕ, ◌+◌, ◌<◌, ◌≤◌, ◌^◌, Bool, if◌then◌else◌, Some, List, [], ◌∷◌}
+use Rattle.snippet_suggest.proofs.Common.{length, map, refl, sym, ap, ◌∙◌, arith, cond_both, length-map, cow_str_bytes, slice_get, Source, lines_of}
+use Rattle.snippet_suggest.proofs.Common.{source_lines, newline_count, line_of, length-source_lines, line_of-within, Patch, Snippet, TrimmedPatch, Edit}
+use Rattle.snippet_suggest.proofs.Common.{edit_of, in_order, trimmed_edits, first_start, texts_of, edit_bounds, original_bounds_of, trimmed_edit_of, none_given}
+use Rattle.snippet_suggest.proofs.Common.{DisplaySuggestion, counted_line, edits_of, first_end, first_given, given_text, shown_kind, trimmed_of}
+use Rattle.snippet_suggest.proofs.Common.{numbered_source, IsSuggestible, first_original}
+use Rattle.snippet_lines.specs.Lines.{Line}
 use Rattle.snippet_suggest.proofs.ByKind.{counted_folded}
-use Rattle.snippet_parts.specs.Numbered.{numbered_source}
-use Rattle.snippet_suggest.specs.PreparedSuggestion.{IsSuggestible, first_original}
 
 -- the first of the trimmed patches started where the first edit does
 pub first_original-start : (ts : List TrimmedPatch) (os : List Edit) → map original_bounds_of ts ≡ map edit_bounds os → first_original ts ≡ first_start os

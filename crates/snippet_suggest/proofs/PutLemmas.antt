@@ -1,40 +1,16 @@
 -- Rows as values: what the texts that are put into them make of them.
-use Rattle.std.proofs.Common.{◌≡◌, ◌≢◌, ℕ, ◌+◌, ◌-◌, ◌<◌, ◌≤◌, Bool, List, [], ◌∷◌, ◌++◌, length, replicate, refl, sym, ap, ◌∙◌, arith, chars}
-use Rattle.std.proofs.Common.{append_assoc}
-use Rattle.std.proofs.lemmas.List.{append-nil}
-use Rattle.std.proofs.lemmas.Str.{chars-nil, encodes-chars}
-use Rattle.std.specs.Str.{IsUtf8}
+use Rattle.snippet_suggest.proofs.Common.{◌≡◌, ◌≢◌, ℕ, ◌+◌, ◌-◌, ◌<◌, ◌≤◌, Bool, List, [], ◌∷◌, ◌++◌, length}
+use Rattle.snippet_suggest.proofs.Common.{replicate, refl, sym, ap, ◌∙◌, arith, append_assoc, append-nil, chars-nil, encodes-chars, IsUtf8, DecorStyle}
+use Rattle.snippet_suggest.proofs.Common.{Ascii, Unicode, ElementStyle, Addition, LineNumber, NoStyle, Removal, Cell, SPACE, text_cells, written}
+use Rattle.snippet_suggest.proofs.Common.{placeholder_of, removed_sign_of, length-chars_le, length-text_cells, cells_written, row_at, cells_written_below}
+use Rattle.snippet_suggest.proofs.Common.{cells_written_last, norm, width_of, shown_number, SuggestionGlyph, SuggestionLayout, SubstitutionHighlight}
+use Rattle.snippet_suggest.proofs.Common.{DisplaySuggestion, Diff, Next, Opening, Path, begin_cells, end_cells, gap_cells, line_cells, offered_cells, put}
+use Rattle.snippet_suggest.proofs.Common.{removed_cells, opened_cells, lines_shown, row_shown, sign_of, with_stretches, SuggestedText, Line, line_stretches}
+use Rattle.snippet_suggest.proofs.Common.{slice_index_or, end_glyph, get_or_past, length-map, places, same_lists, suggestion_glyph_of, suggestion_role_of}
+use Rattle.snippet_suggest.proofs.Common.{capped_sum}
+use Rattle.std.proofs.Common.{chars}
 use lib.Utf8.{encodes}
-use Rattle.snippet_style.specs.declared.glyphs.DecorStyle.{DecorStyle}
-use Rattle.snippet_style.specs.declared.glyphs.DecorStyle.TheVariants.{Ascii, Unicode}
-use Rattle.snippet_style.specs.declared.role.ElementStyle.{ElementStyle}
-use Rattle.snippet_style.specs.declared.role.ElementStyle.TheVariants.{Addition, LineNumber, NoStyle, Removal}
-use Rattle.snippet_style.specs.Cell.{Cell, SPACE, text_cells, written}
-use Rattle.snippet_style.specs.Glyphs.{placeholder_of, removed_sign_of}
-use Rattle.snippet_style.proofs.CellLemmas.{length-chars_le, length-text_cells}
-use Rattle.snippet_grid.specs.Grid.{cells_written, row_at}
-use Rattle.snippet_grid.proofs.GridLemmas.{cells_written_below, cells_written_last}
-use Rattle.snippet_text.specs.Normalized.{norm}
-use Rattle.snippet_text.specs.Width.{width_of}
-use Rattle.snippet_lines.specs.Number.{shown_number}
-use Rattle.snippet_style.specs.declared.glyphs.SuggestionGlyph.{SuggestionGlyph}
 use Rattle.snippet_style.specs.declared.glyphs.SuggestionGlyph.TheVariants as sign
-use Rattle.snippet_suggest.specs.declared.layout.SuggestionLayout.{SuggestionLayout}
-use Rattle.snippet_splice.specs.declared.stretches.SubstitutionHighlight.{SubstitutionHighlight}
-use Rattle.snippet_suggest.specs.declared.kind.DisplaySuggestion.{DisplaySuggestion}
-use Rattle.snippet_suggest.specs.declared.kind.DisplaySuggestion.TheVariants.{Diff}
-use Rattle.snippet_suggest.specs.declared.layout.SuggestionStart.TheVariants.{Next, Opening, Path}
-use Rattle.snippet_suggest.specs.Cells.{begin_cells, end_cells, gap_cells, line_cells, offered_cells, put, removed_cells}
-use Rattle.snippet_suggest.specs.OfferedRows.{opened_cells, lines_shown, row_shown}
-use Rattle.snippet_suggest.specs.Cells.{sign_of, with_stretches}
-use Rattle.snippet_suggest.specs.declared.lines.SuggestedText.{SuggestedText}
-use Rattle.snippet_suggest.specs.declared.shown_lines.SuggestionLine.TheVariants.{Line}
-use Rattle.snippet_splice.specs.StretchLines.{line_stretches}
-use Rattle.std.specs.List.{slice_index_or}
-use Rattle.snippet_suggest.specs.SuggestionRows.{end_glyph}
-use Rattle.std.proofs.lemmas.List.{get_or_past, length-map, places, same_lists}
-use Rattle.snippet_style.specs.Glyphs.{suggestion_glyph_of, suggestion_role_of}
-use Rattle.snippet_window.specs.Margin.{capped_sum}
 
 -- a text that isn't empty has characters
 chars_some : (b : ℕ) (bs : List ℕ) → IsUtf8 (b ∷ bs) → chars (b ∷ bs) ≢ []

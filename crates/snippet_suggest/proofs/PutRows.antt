@@ -1,20 +1,10 @@
 -- What a row holds once characters were put into it.
-use Rattle.std.proofs.Common.{◌≡◌, ◌≢◌, ℕ, zero, suc, ◌+◌, ◌-◌, ◌<◌, ◌≤◌, false, All, List, [], ◌∷◌, ◌++◌, length, take, drop, replicate, refl, sym, ap, ◌∙◌}
-use Rattle.std.proofs.Common.{arith, inl, inr, subst}
-use Rattle.std.specs.List.{slice_index_or}
-use Rattle.std.proofs.lemmas.Bool.{cases_lt}
-use Rattle.std.proofs.lemmas.List.{append-nil, drop_all, get_or_past, places, same_lists, take_at}
-use Rattle.snippet_style.specs.declared.role.ElementStyle.{ElementStyle}
-use Rattle.snippet_style.specs.Cell.{Cell, SPACE, text_cells, unlinked_cell, written}
-use Rattle.snippet_style.proofs.CellLemmas.{All-text_cells, drop-written, length-text_cells, length-written, slice_index_or-written_after}
-use Rattle.snippet_style.proofs.CellLemmas.{slice_index_or-written_before, slice_index_or-written_inside}
-use Rattle.snippet_style.proofs.RowLemmas.{written-nil}
-use Rattle.snippet_grid.specs.Print.{row_text}
-use Rattle.snippet_grid.proofs.RowLemmas.{row_text-text_cells}
-use Rattle.snippet_model.proofs.RowLemmas.{free_drawn, free_written}
-use Rattle.snippet_model.specs.FreeRows.{IsFree}
-use Rattle.snippet_text.specs.Normalized.{is_listed}
-use Rattle.snippet_suggest.specs.Cells.{put}
+use Rattle.snippet_suggest.proofs.Common.{◌≡◌, ◌≢◌, ℕ, zero, suc, ◌+◌, ◌-◌, ◌<◌, ◌≤◌, false, All, List, [], ◌∷◌, ◌++◌}
+use Rattle.snippet_suggest.proofs.Common.{length, take, drop, replicate, refl, sym, ap, ◌∙◌, arith, inl, inr, subst, slice_index_or, cases_lt, append-nil}
+use Rattle.snippet_suggest.proofs.Common.{drop_all, get_or_past, places, same_lists, take_at, ElementStyle, Cell, SPACE, text_cells, unlinked_cell, written}
+use Rattle.snippet_suggest.proofs.Common.{All-text_cells, drop-written, length-text_cells, length-written, slice_index_or-written_after}
+use Rattle.snippet_suggest.proofs.Common.{slice_index_or-written_before, slice_index_or-written_inside, written-nil, row_text, row_text-text_cells, free_drawn}
+use Rattle.snippet_suggest.proofs.Common.{free_written, IsFree, is_listed, put}
 
 -- the character of a cell
 pub ch_at : (row : List Cell) (c : ℕ) → (slice_index_or row c SPACE).ch ≡ slice_index_or (row_text row) c 32

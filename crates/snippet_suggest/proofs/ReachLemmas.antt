@@ -1,22 +1,9 @@
 -- The last line that edits reach, and the lines that are removed up to it.
-use Rattle.std.proofs.Common.{◌≡◌, ℕ, zero, suc, ◌+◌, ◌-◌, ◌<◌, ◌≤◌, max, min, List, [], ◌∷◌, fold, get_or, length, map, refl, sym, ap, ◌∙◌, arith}
-use Rattle.std.proofs.lemmas.List.{get_or-map, length-map}
-use Rattle.std.proofs.lemmas.List.FromFn.{get_or-range_with_len, length-range_with_len}
-use Rattle.std.specs.List.{range_with_len}
-use Rattle.snippet_lines.specs.Lines.{Source, source_lines, text_at}
-use Rattle.snippet_lines.specs.Place.{line_of}
-use Rattle.snippet_lines.proofs.LinesLemmas.{length-source_lines}
-use Rattle.snippet_lines.proofs.PlaceLemmas.{line_of-mono}
-use Rattle.snippet_parts.specs.declared.source_map.LineInfo.{LineInfo}
-use Rattle.snippet_parts.specs.LineTable.{LineEntry, entry_at, table_entry, touched_entries}
-use Rattle.snippet_splice.specs.declared.patches.TrimmedPatch.{TrimmedPatch}
-use Rattle.snippet_splice.specs.Copied.{end_from}
-use Rattle.snippet_splice.specs.Edits.{Edit, trimmed_edits}
-use Rattle.snippet_splice.specs.TrimmedEdits.{AreApart, trimmed_edit_of}
-use Rattle.snippet_splice.specs.ShownText.{first_start}
-use Rattle.snippet_splice.specs.Spliced.{last_line_reached}
-use Rattle.snippet_suggest.specs.Given.{lines_touched}
-use Rattle.snippet_suggest.specs.RemovedRows.{last_removed, texts_at, numbered_at}
+use Rattle.snippet_suggest.proofs.Common.{◌≡◌, ℕ, zero, suc, ◌+◌, ◌-◌, ◌<◌, ◌≤◌, max, min, List, [], ◌∷◌, fold, get_or, length}
+use Rattle.snippet_suggest.proofs.Common.{map, refl, sym, ap, ◌∙◌, arith, get_or-map, length-map, get_or-range_with_len, length-range_with_len}
+use Rattle.snippet_suggest.proofs.Common.{range_with_len, Source, source_lines, text_at, line_of, length-source_lines, line_of-mono, LineInfo, LineEntry}
+use Rattle.snippet_suggest.proofs.Common.{entry_at, table_entry, touched_entries, TrimmedPatch, end_from, Edit, trimmed_edits, AreApart, trimmed_edit_of}
+use Rattle.snippet_suggest.proofs.Common.{first_start, last_line_reached, lines_touched, last_removed, texts_at, numbered_at}
 
 -- ---- the end of the last edit
 

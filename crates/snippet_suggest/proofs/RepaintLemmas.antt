@@ -1,25 +1,12 @@
 -- A row whose cells get other roles shows what it showed.
-use Rattle.std.proofs.Common.{◌≡◌, ℕ, ◌+◌, ◌<◌, true, false, Option, None, List, ◌∷◌, [], length, take, drop, map, get_or, refl, sym, ap, ◌∙◌, arith, subst}
-use Rattle.std.proofs.Common.{◌++◌, ◌-◌, chars, max}
+use Rattle.snippet_suggest.proofs.Common.{◌≡◌, ℕ, ◌+◌, ◌<◌, true, false, Option, None, List, ◌∷◌, [], length, take, drop, map, get_or}
+use Rattle.snippet_suggest.proofs.Common.{refl, sym, ap, ◌∙◌, arith, subst, ◌++◌, ◌-◌, max, drop-map, length-map, map-append, places, same_lists}
+use Rattle.snippet_suggest.proofs.Common.{take-map, is_listed, norm, DecorStyle, is_ascii_alphanumeric, Cell, SPACE, ElementStyle, changed_within, restyled}
+use Rattle.snippet_suggest.proofs.Common.{row_text, IsFree, shown_number, LineNumbers, SuggestionLayout, Begins, Empty, Ends, Offers, Removes, Skips}
+use Rattle.snippet_suggest.proofs.Common.{SuggestionRow, IsBareRow, IsRemovedRow, char_of, removed_sign_of, IsMarkOrSpace, IsSign, begin_glyph, beside_gutter}
+use Rattle.snippet_suggest.proofs.Common.{end_glyph, gap_left, is_stroke, IsLineRow, IsEdgeRow, Shows, capped_sum}
+use Rattle.std.proofs.Common.{chars}
 use Rattle.std.proofs.Math.ListN.{get_or-map}
-use Rattle.std.proofs.lemmas.List.{drop-map, length-map, map-append, places, same_lists, take-map}
-use Rattle.snippet_text.specs.Normalized.{is_listed, norm}
-use Rattle.snippet_style.specs.declared.glyphs.DecorStyle.{DecorStyle}
-use Rattle.std.specs.Char.{is_ascii_alphanumeric}
-use Rattle.snippet_style.specs.Cell.{Cell, SPACE}
-use Rattle.snippet_style.specs.declared.role.ElementStyle.{ElementStyle}
-use Rattle.snippet_grid.specs.Grid.{changed_within, restyled}
-use Rattle.snippet_grid.specs.Print.{row_text}
-use Rattle.snippet_model.specs.FreeRows.{IsFree}
-use Rattle.snippet_lines.specs.Number.{shown_number}
-use Rattle.snippet_lines.specs.declared.number.LineNumbers.{LineNumbers}
-use Rattle.snippet_suggest.specs.declared.layout.SuggestionLayout.{SuggestionLayout}
-use Rattle.snippet_suggest.specs.RowOrder.{Begins, Empty, Ends, Offers, Removes, Skips, SuggestionRow}
-use Rattle.snippet_suggest.specs.SuggestionRows.{IsBareRow, IsRemovedRow}
-use Rattle.snippet_style.specs.Glyphs.{char_of, removed_sign_of}
-use Rattle.snippet_suggest.specs.SuggestionRows.{IsMarkOrSpace, IsSign, begin_glyph, beside_gutter, end_glyph, gap_left, is_stroke}
-use Rattle.snippet_suggest.specs.ShownRows.{IsLineRow, IsEdgeRow, Shows}
-use Rattle.snippet_window.specs.Margin.{capped_sum}
 use Rattle.snippet_suggest.proofs.LeftOver.{IsBeforeSign, IsLeftOver}
 
 -- the character and the link of a cell, whatever its role

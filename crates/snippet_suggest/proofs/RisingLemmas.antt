@@ -1,17 +1,8 @@
 -- The lines that are shown ascend, and each touched line is among them.
-use Rattle.std.proofs.Common.{◌≡◌, ℕ, zero, suc, ◌+◌, ◌-◌, ◌<◌, ◌≤◌, nat_le, Bool, true, false, List, [], ◌∷◌, ◌++◌, if◌then◌else◌, refl, sym, ap, ◌∙◌, arith}
-use Rattle.std.proofs.Common.{subst, All, Contains, inl, inr, map}
-use Rattle.std.proofs.lemmas.Bool.Decides.{nat_tests}
-use Rattle.std.proofs.lemmas.List.Elements.{filter_map-append, All-cons, All-nil, Contains-append_right}
-use Rattle.std.proofs.lemmas.Bool.{cases_eq}
-use Rattle.std.proofs.lemmas.List.{append-nil}
-use Rattle.snippet_suggest.specs.declared.layout.SuggestionLayout.{SuggestionLayout}
-use Rattle.snippet_suggest.specs.declared.shown_lines.SuggestionLine.{SuggestionLine}
-use Rattle.snippet_suggest.specs.declared.shown_lines.SuggestionLine.TheVariants.{Line, Gap}
-use Rattle.snippet_suggest.specs.SuggestedLines.{shown_run, shown_from}
-use Rattle.snippet_suggest.specs.Offered.{number_of, numbers_shown, AreRising}
-use Rattle.snippet_suggest.specs.ShownRows.{NumberFits}
-use Rattle.std.specs.List.{range_with_len}
+use Rattle.snippet_suggest.proofs.Common.{◌≡◌, ℕ, zero, suc, ◌+◌, ◌-◌, ◌<◌, ◌≤◌, nat_le, Bool, true, false, List, [], ◌∷◌}
+use Rattle.snippet_suggest.proofs.Common.{◌++◌, if◌then◌else◌, refl, sym, ap, ◌∙◌, arith, subst, All, Contains, inl, inr, map, nat_tests}
+use Rattle.snippet_suggest.proofs.Common.{filter_map-append, All-cons, All-nil, Contains-append_right, cases_eq, append-nil, SuggestionLayout, SuggestionLine}
+use Rattle.snippet_suggest.proofs.Common.{Line, Gap, shown_run, shown_from, number_of, numbers_shown, AreRising, NumberFits, range_with_len}
 
 -- the bounds of ascending numbers, and two such lists joined
 pub rising_bound : (from to : ℕ) (ks : List ℕ) → AreRising from to ks → from ≤ to

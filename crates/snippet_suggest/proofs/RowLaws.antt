@@ -1,43 +1,17 @@
 -- What each row of a suggestion shows, by the cells that it holds.
-use Rattle.std.proofs.Common.{◌≡◌, ℕ, ◌+◌, ◌-◌, ◌^◌, ◌<◌, ◌≤◌, Bool, true, false, ◌==◌, ◌&&◌}
-use Rattle.std.proofs.Common.{if◌then◌else◌, min, nat_le, All, List, [], ◌∷◌, ◌++◌, chars, length, map, replicate}
-use Rattle.std.proofs.Common.{refl, sym, ap, ◌∙◌, arith, inl, inr, subst}
-use Rattle.std.specs.Char.{is_ascii_alphanumeric}
-use Rattle.std.specs.List.{list_all, list_any, slice_index_or}
-use Rattle.std.proofs.lemmas.List.Elements.{All-replicate}
-use Rattle.snippet_style.specs.declared.glyphs.DecorStyle.{DecorStyle}
-use Rattle.snippet_style.specs.declared.glyphs.DecorStyle.TheVariants.{Ascii, Unicode}
-use Rattle.snippet_style.specs.declared.glyphs.SuggestionGlyph.{SuggestionGlyph}
+use Rattle.snippet_suggest.proofs.Common.{◌≡◌, ℕ, ◌+◌, ◌-◌, ◌^◌, ◌<◌, ◌≤◌, Bool, true, false, ◌==◌, ◌&&◌}
+use Rattle.snippet_suggest.proofs.Common.{if◌then◌else◌, min, nat_le, All, List, [], ◌∷◌, ◌++◌, length, map, replicate, refl, sym, ap}
+use Rattle.snippet_suggest.proofs.Common.{◌∙◌, arith, inl, inr, subst, is_ascii_alphanumeric, list_all, list_any, slice_index_or, All-replicate}
+use Rattle.snippet_suggest.proofs.Common.{DecorStyle, Ascii, Unicode, SuggestionGlyph, ElementStyle, Addition, LineNumber, NoStyle, Removal, Cell, SPACE}
+use Rattle.snippet_suggest.proofs.Common.{added_mark_of, changed_mark_of, placeholder_of, removed_sign_of, suggestion_glyph_of, suggestion_role_of}
+use Rattle.snippet_suggest.proofs.Common.{changed_within, restyled, separator_cell, row_text, is_listed, norm, width_of, list_any-norm, Source, shown_number}
+use Rattle.snippet_suggest.proofs.Common.{shown_number_unlisted, each_fails, Edit, SubstitutionHighlight, DisplaySuggestion, Add, Diff, Plain, Underline}
+use Rattle.snippet_suggest.proofs.Common.{SuggestionLayout, SuggestionStart, Next, Opening, Path, PatchColumns, begin_cells, end_cells, gap_cells, line_cells}
+use Rattle.snippet_suggest.proofs.Common.{offered_cells, put, removed_cells, sign_alone, sign_among, sign_of, stretch_cell, with_stretches, max_column}
+use Rattle.snippet_suggest.proofs.Common.{adds_text, edit_columns, mark_glyph_of, mark_start, patch_mark_end, with_mark, with_marks, IsBareRow, IsMarkOrSpace}
+use Rattle.snippet_suggest.proofs.Common.{IsSign, begin_glyph, beside_gutter, end_glyph, gap_left, is_stroke, IsEdgeRow, IsLineRow, IsRowOfRemoved, IsUnder}
+use Rattle.std.proofs.Common.{chars}
 use Rattle.snippet_style.specs.declared.glyphs.SuggestionGlyph.TheVariants as sign
-use Rattle.snippet_style.specs.declared.role.ElementStyle.{ElementStyle}
-use Rattle.snippet_style.specs.declared.role.ElementStyle.TheVariants.{Addition, LineNumber, NoStyle, Removal}
-use Rattle.snippet_style.specs.Cell.{Cell, SPACE}
-use Rattle.snippet_style.specs.Glyphs.{added_mark_of, changed_mark_of, placeholder_of, removed_sign_of, suggestion_glyph_of, suggestion_role_of}
-use Rattle.snippet_grid.specs.Grid.{changed_within, restyled}
-use Rattle.snippet_grid.specs.Layout.{separator_cell}
-use Rattle.snippet_grid.specs.Print.{row_text}
-use Rattle.snippet_text.specs.Normalized.{is_listed, norm}
-use Rattle.snippet_text.specs.Width.{width_of}
-use Rattle.snippet_text.proofs.NormLemmas.{list_any-norm}
-use Rattle.snippet_lines.specs.Lines.{Source}
-use Rattle.snippet_lines.specs.Number.{shown_number}
-use Rattle.snippet_lines.proofs.NumberLemmas.{shown_number_unlisted}
-use Rattle.snippet_model.proofs.RowLemmas.{each_fails}
-use Rattle.snippet_splice.specs.Edits.{Edit}
-use Rattle.snippet_splice.specs.declared.stretches.SubstitutionHighlight.{SubstitutionHighlight}
-use Rattle.snippet_suggest.specs.declared.kind.DisplaySuggestion.{DisplaySuggestion}
-use Rattle.snippet_suggest.specs.declared.kind.DisplaySuggestion.TheVariants.{Add, Diff, Plain, Underline}
-use Rattle.snippet_suggest.specs.declared.layout.SuggestionLayout.{SuggestionLayout}
-use Rattle.snippet_suggest.specs.declared.layout.SuggestionStart.{SuggestionStart}
-use Rattle.snippet_suggest.specs.declared.layout.SuggestionStart.TheVariants.{Next, Opening, Path}
-use Rattle.snippet_suggest.specs.declared.marks.PatchColumns.{PatchColumns}
-use Rattle.snippet_suggest.specs.Cells.{begin_cells, end_cells, gap_cells, line_cells, offered_cells, put, removed_cells, sign_alone, sign_among, sign_of}
-use Rattle.snippet_suggest.specs.Cells.{stretch_cell, with_stretches}
-use Rattle.snippet_style.specs.Bounds.{max_column}
-use Rattle.snippet_suggest.specs.Kind.{adds_text}
-use Rattle.snippet_suggest.specs.Marks.{edit_columns, mark_glyph_of, mark_start, patch_mark_end, with_mark, with_marks}
-use Rattle.snippet_suggest.specs.SuggestionRows.{IsBareRow, IsMarkOrSpace, IsSign, begin_glyph, beside_gutter, end_glyph, gap_left, is_stroke}
-use Rattle.snippet_suggest.specs.ShownRows.{IsEdgeRow, IsLineRow, IsRowOfRemoved, IsUnder}
 use Rattle.snippet_suggest.proofs.BareLemmas.{stroke_blank, stroke_led, stroke_none, stroke_put}
 use Rattle.snippet_suggest.proofs.GlyphLemmas.{glyph_plain, glyph_short, glyph_unlisted, is_sign, sign_first, sign_second}
 use Rattle.snippet_suggest.proofs.LeftOver.{IsBeforeSign, IsLeftOver, number_before, number_left}

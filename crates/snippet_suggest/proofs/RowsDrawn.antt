@@ -1,25 +1,15 @@
 -- Rows that are drawn one below the other, as values.
-use Rattle.std.proofs.Common.{◌≡◌, ℕ, ◌+◌, ◌-◌, ◌<◌, ◌≤◌, Bool, true, false, List, [], ◌∷◌, ◌++◌, length, map, take, drop, get_or, refl, sym, ap, ◌∙◌, ◌||◌}
-use Rattle.std.proofs.Common.{arith, chars, append_assoc}
+use Rattle.snippet_suggest.proofs.Common.{◌≡◌, ℕ, ◌+◌, ◌-◌, ◌<◌, ◌≤◌, Bool, true, false, List, [], ◌∷◌, ◌++◌, length, map}
+use Rattle.snippet_suggest.proofs.Common.{take, drop, get_or, refl, sym, ap, ◌∙◌, ◌||◌, arith, append_assoc, bytes_eq, cond-false, cond-true, or-true}
+use Rattle.snippet_suggest.proofs.Common.{Cell, NoStyle, Removal, row_at, LineInfo, SuggestionLayout, left_out_cells, offered_cells, on_last, removed_cells}
+use Rattle.snippet_suggest.proofs.Common.{with_stretches, SubstitutionHighlight, Diff, is_left_out, is_blank_text, diff_cells, emptied_cells, gone_of}
+use Rattle.snippet_suggest.proofs.Common.{taken_cells, last_removed, unless_stays, numbered_at, append-nil, drop_all, drop_more, length-map, length-take}
+use Rattle.snippet_suggest.proofs.Common.{map-append, take_all, take_more, capped_sum}
+use Rattle.std.proofs.Common.{chars}
 use mir.Val.{bool_byte}
-use Rattle.std.specs.Str.{bytes_eq}
-use Rattle.std.proofs.lemmas.Bool.{cond-false, cond-true}
-use Rattle.std.proofs.Math.Bool.{or-true}
 use Rattle.std.proofs.Math.ListN.{get_or-map}
-use Rattle.snippet_style.specs.Cell.{Cell}
-use Rattle.snippet_style.specs.declared.role.ElementStyle.TheVariants.{NoStyle, Removal}
-use Rattle.snippet_grid.specs.Grid.{row_at}
-use Rattle.snippet_parts.specs.declared.source_map.LineInfo.{LineInfo}
-use Rattle.snippet_suggest.specs.declared.layout.SuggestionLayout.{SuggestionLayout}
-use Rattle.snippet_suggest.specs.Cells.{left_out_cells, offered_cells, on_last, removed_cells, with_stretches}
-use Rattle.snippet_splice.specs.declared.stretches.SubstitutionHighlight.{SubstitutionHighlight}
-use Rattle.snippet_suggest.specs.declared.kind.DisplaySuggestion.TheVariants.{Diff}
-use Rattle.snippet_suggest.specs.Given.{is_left_out}
-use Rattle.snippet_suggest.specs.Kind.{is_blank_text}
-use Rattle.snippet_suggest.specs.RemovedRows.{diff_cells, emptied_cells, gone_of, taken_cells, last_removed, unless_stays, numbered_at}
-use Rattle.std.proofs.lemmas.List.{append-nil, drop_all, drop_more, get_or-map as mapped, length-map, length-take, map-append, take_all, take_more}
+use Rattle.std.proofs.lemmas.List.{get_or-map as mapped}
 use Rattle.snippet_suggest.proofs.StretchRows.{with_none}
-use Rattle.snippet_window.specs.Margin.{capped_sum}
 
 -- one row more for each of some items
 pub drawn_next : {A : Type 0} (f : A → List Cell) (xs : List A) (i : ℕ) (d : A) (old now new : List (List Cell)) → i < length xs

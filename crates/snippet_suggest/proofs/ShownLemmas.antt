@@ -1,9 +1,6 @@
 -- Which lines are shown, one line after another.
-use Rattle.std.proofs.Common.{◌≡◌, ℕ, suc, ◌+◌, ◌-◌, ◌<◌, Bool, true, false, List, [], ◌∷◌, ◌++◌, if◌then◌else◌, sym, ap, ◌∙◌, arith, append_assoc, map}
-use Rattle.snippet_suggest.specs.declared.shown_lines.SuggestionLine.{SuggestionLine}
-use Rattle.snippet_suggest.specs.declared.shown_lines.SuggestionLine.TheVariants.{Line}
-use Rattle.snippet_suggest.specs.SuggestedLines.{shown_run, shown_from}
-use Rattle.std.specs.List.{range_with_len}
+use Rattle.snippet_suggest.proofs.Common.{◌≡◌, ℕ, suc, ◌+◌, ◌-◌, ◌<◌, Bool, true, false, List, [], ◌∷◌, ◌++◌, if◌then◌else◌}
+use Rattle.snippet_suggest.proofs.Common.{sym, ap, ◌∙◌, arith, append_assoc, map, SuggestionLine, Line, shown_run, shown_from, range_with_len}
 
 -- the lines of a run from one to before another
 abbrev pub run_of : ℕ → ℕ → List SuggestionLine

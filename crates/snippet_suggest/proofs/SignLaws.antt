@@ -1,23 +1,10 @@
 -- The sign beside a line that is offered stands in its row, whatever else is written there.
-use Rattle.std.proofs.Common.{◌≡◌, ℕ, ◌+◌, ◌≤◌, List, [], length, map, chars, ap, ◌∙◌, arith}
-use Rattle.std.specs.List.{AllZip, slice_index_or}
-use Rattle.snippet_model.specs.declared.snippet.Snippet.{Snippet}
-use Rattle.snippet_model.specs.declared.snippet.Patch.{Patch}
-use Rattle.snippet_style.specs.declared.role.ElementStyle.TheVariants.{Addition, LineNumber, NoStyle}
-use Rattle.snippet_style.specs.Cell.{Cell, SPACE}
-use Rattle.snippet_text.specs.Normalized.{norm}
-use Rattle.snippet_lines.specs.Number.{shown_number}
-use Rattle.snippet_splice.specs.declared.stretches.SubstitutionHighlight.{SubstitutionHighlight}
-use Rattle.snippet_style.specs.declared.glyphs.SuggestionGlyph.{SuggestionGlyph}
-use Rattle.snippet_suggest.specs.declared.kind.DisplaySuggestion.{DisplaySuggestion}
-use Rattle.snippet_suggest.specs.declared.layout.SuggestionLayout.{SuggestionLayout}
-use Rattle.snippet_suggest.specs.declared.layout.SuggestionStart.{SuggestionStart}
-use Rattle.snippet_suggest.specs.Cells.{line_cells, offered_cells, put, sign_of, with_stretches}
-use Rattle.snippet_suggest.specs.Given.{given_lines, shown_kind}
-use Rattle.snippet_style.specs.Glyphs.{suggestion_glyph_of, suggestion_role_of}
-use Rattle.snippet_suggest.specs.RowOrder.{Begins, Empty, Ends, Offers, Removes, Skips, SuggestionRow, rows_of_suggestion}
-use Rattle.snippet_suggest.specs.Suggested.{body_cells, suggested_cells, new_on}
-use Rattle.snippet_suggest.specs.ShownRows.{HasSign}
+use Rattle.snippet_suggest.proofs.Common.{◌≡◌, ℕ, ◌+◌, ◌≤◌, List, [], length, map, ap, ◌∙◌, arith, AllZip, slice_index_or, Snippet}
+use Rattle.snippet_suggest.proofs.Common.{Patch, Addition, LineNumber, NoStyle, Cell, SPACE, norm, shown_number, SubstitutionHighlight, SuggestionGlyph}
+use Rattle.snippet_suggest.proofs.Common.{DisplaySuggestion, SuggestionLayout, SuggestionStart, line_cells, offered_cells, put, sign_of, with_stretches}
+use Rattle.snippet_suggest.proofs.Common.{given_lines, shown_kind, suggestion_glyph_of, suggestion_role_of, Begins, Empty, Ends, Offers, Removes, Skips}
+use Rattle.snippet_suggest.proofs.Common.{SuggestionRow, rows_of_suggestion, body_cells, suggested_cells, new_on, HasSign}
+use Rattle.std.proofs.Common.{chars}
 use Rattle.snippet_suggest.proofs.BodyLaws.{body_all}
 use Rattle.snippet_suggest.proofs.RepaintLemmas.{same_ch, without_role}
 use Rattle.snippet_suggest.proofs.PutRows.{put_after, put_alone, put_before}

@@ -1,20 +1,10 @@
 -- Spans of a source that are taken.
-use Rattle.std.proofs.Common.{◌≡◌, ℕ, ◌+◌, ◌-◌, ◌≤◌, min, ◌&&◌, ltb, leb, Option, Some, None, List, [], ◌∷◌, All, drop, get_or, length, map, inl, inr, refl}
-use Rattle.std.proofs.Common.{sym, ◌∙◌, arith, subst}
-use Rattle.std.specs.List.{slice_range}
-use Rattle.std.specs.Str.{IsCharBoundary, IsUtf8}
-use Rattle.std.proofs.lemmas.Bool.{and_parts, cases_lt, cond_both, leb-true}
-use Rattle.std.proofs.lemmas.List.{get_or-drop, get_or-take, length-drop, length-take-le}
-use Rattle.std.proofs.lemmas.List.Elements.{All-head, All-map, All-tail}
-use Rattle.std.proofs.lemmas.Str.{IsCharBoundary-end, IsCharBoundary-start}
-use Rattle.snippet_lines.specs.IsSpan.{IsSpan, IsSpanBorder}
-use Rattle.snippet_lines.proofs.OrderLemmas.{All-put_in}
-use Rattle.snippet_parts.proofs.PartLemmas.{All-unmapped}
-use Rattle.snippet_splice.specs.declared.patches.TrimmedPatch.{TrimmedPatch}
-use Rattle.snippet_splice.specs.Edits.{Edit, in_order, precedes, shrunk, trimmed_edit, trimmed_edits}
-use Rattle.snippet_splice.specs.TrimmedEdits.{edit_bounds, original_bounds_of, trimmed_edit_of}
-use Rattle.snippet_splice.specs.Trim.{sandwich}
-use Rattle.snippet_splice.proofs.TrimLemmas.{sandwich-sandwiched}
+use Rattle.snippet_suggest.proofs.Common.{◌≡◌, ℕ, ◌+◌, ◌-◌, ◌≤◌, min, ◌&&◌, ltb, leb, Option, Some, None, List, [], ◌∷◌, All}
+use Rattle.snippet_suggest.proofs.Common.{drop, get_or, length, map, inl, inr, refl, sym, ◌∙◌, arith, subst, slice_range, IsCharBoundary, IsUtf8}
+use Rattle.snippet_suggest.proofs.Common.{and_parts, cases_lt, cond_both, leb-true, get_or-drop, get_or-take, length-drop, length-take-le, All-head, All-map}
+use Rattle.snippet_suggest.proofs.Common.{All-tail, IsCharBoundary-end, IsCharBoundary-start, IsSpan, IsSpanBorder, All-put_in, All-unmapped, TrimmedPatch}
+use Rattle.snippet_suggest.proofs.Common.{Edit, in_order, precedes, shrunk, trimmed_edit, trimmed_edits, edit_bounds, original_bounds_of, trimmed_edit_of}
+use Rattle.snippet_suggest.proofs.Common.{sandwich, sandwich-sandwiched}
 
 -- that of the whole source
 pub whole_span : (source text : List ℕ) → IsUtf8 text → text ≡ source → IsSpan source 0 (length text)

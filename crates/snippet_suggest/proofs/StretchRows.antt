@@ -1,26 +1,11 @@
 -- The stretches of a line that take a role, one after another, and the walk that counts the tabs before them.
-use Rattle.std.proofs.Common.{◌≡◌, ℕ, ◌+◌, ◌-◌, ◌^◌, ◌<◌, ◌≤◌, eqb, Bool, true, List, [], ◌∷◌, ◌++◌, length, min, take, drop, get_or, refl, sym, ap, ◌∙◌, arith}
-use Rattle.std.proofs.Common.{inl, inr, subst, chars, count_by}
-use Rattle.std.proofs.lemmas.Bool.{cases_Bool}
-use Rattle.std.proofs.lemmas.List.Sums.{count_by_more_no, count_by_more_yes}
-use Rattle.std.proofs.lemmas.Str.{IsUtf8-past_char, chars-nil, chars_past_char}
-use Rattle.std.specs.Str.{IsUtf8}
-use Rattle.std.specs.Str.Iter.{chars_rest}
-use Rattle.std.specs.Char.{encode_utf8}
+use Rattle.snippet_suggest.proofs.Common.{◌≡◌, ℕ, ◌+◌, ◌-◌, ◌^◌, ◌<◌, ◌≤◌, eqb, Bool, true, List, [], ◌∷◌, ◌++◌, length}
+use Rattle.snippet_suggest.proofs.Common.{min, take, drop, get_or, refl, sym, ap, ◌∙◌, arith, inl, inr, subst, count_by, cases_Bool, count_by_more_no}
+use Rattle.snippet_suggest.proofs.Common.{count_by_more_yes, IsUtf8-past_char, chars-nil, chars_past_char, IsUtf8, chars_rest, encode_utf8, ElementStyle, Cell}
+use Rattle.snippet_suggest.proofs.Common.{changed_within, restyled, cells_restyled, SubstitutionHighlight, capped, TabCursor, stretch_cell, with_stretches}
+use Rattle.snippet_suggest.proofs.Common.{IsCursor, length-drop, places, same_lists, take_all, take_more, set, get_or_at, length-append, changed_within_one}
+use Rattle.std.proofs.Common.{chars}
 use mir.Val.{bool_byte}
-use Rattle.snippet_style.specs.declared.role.ElementStyle.{ElementStyle}
-use Rattle.snippet_style.specs.Cell.{Cell}
-use Rattle.snippet_grid.specs.Grid.{changed_within, restyled}
-use Rattle.snippet_grid.specs.Calls.{cells_restyled}
-use Rattle.snippet_splice.specs.declared.stretches.SubstitutionHighlight.{SubstitutionHighlight}
-use Rattle.snippet_splice.specs.EditStretches.{capped}
-use Rattle.snippet_suggest.specs.declared.roles.TabCursor.{TabCursor}
-use Rattle.snippet_suggest.specs.Cells.{stretch_cell, with_stretches}
-use Rattle.snippet_suggest.specs.Cursor.{IsCursor}
-use Rattle.std.proofs.lemmas.List.{length-drop, places, same_lists, take_all, take_more}
-use Rattle.std.proofs.Common.{set}
-use Rattle.std.proofs.lemmas.List.{get_or_at, length-append}
-use Rattle.snippet_grid.proofs.ChangeLemmas.{changed_within_one}
 
 -- ---- the last row of some
 

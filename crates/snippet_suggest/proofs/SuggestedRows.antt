@@ -1,46 +1,22 @@
 -- What is drawn of a suggestion is its value.
-use Rattle.std.proofs.Common.{◌≡◌, ◌≢◌, ℕ, zero, suc, ◌+◌, ◌-◌, ◌^◌, ◌<◌, ◌≤◌, Bool, true, false, List, [], ◌∷◌, ◌++◌, length, map, get_or, refl, sym, ap, ◌∙◌}
-use Rattle.std.proofs.Common.{◌&&◌, arith, append_assoc, chars, take, inl, inr, if◌then◌else◌}
+use Rattle.snippet_suggest.proofs.Common.{◌≡◌, ◌≢◌, ℕ, zero, suc, ◌+◌, ◌-◌, ◌^◌, ◌<◌, ◌≤◌, Bool, true, false, List, []}
+use Rattle.snippet_suggest.proofs.Common.{◌∷◌, ◌++◌, length, map, get_or, refl, sym, ap, ◌∙◌, ◌&&◌, arith, append_assoc, take, inl, inr}
+use Rattle.snippet_suggest.proofs.Common.{if◌then◌else◌, append-nil, length-map, map-append, take-map, get_or-map-range_with_len, length-range_with_len}
+use Rattle.snippet_suggest.proofs.Common.{cow_str_bytes, cases_Bool, cond-false, cond-true, range_with_len, bytes_eq, Snippet, Patch, LineInfo, Cell, NoStyle}
+use Rattle.snippet_suggest.proofs.Common.{Removal, Edit, last_line_reached, SubstitutionHighlight, DisplaySuggestion, Add, Diff, Plain, Underline}
+use Rattle.snippet_suggest.proofs.Common.{SuggestionLayout, SuggestionStart, Next, Opening, Path, SuggestionLine, Gap, Line, begin_cells, end_cells}
+use Rattle.snippet_suggest.proofs.Common.{left_out_cells, offered_cells, on_last, removed_cells, with_stretches, edits_of, first_given, given_lines}
+use Rattle.snippet_suggest.proofs.Common.{given_ranges, is_left_out, last_reached, shown_kind, trimmed_of, numbered_source, Begins, Empty, Ends, Offers}
+use Rattle.snippet_suggest.proofs.Common.{Removes, SuggestionRow, rows_of_suggestion, is_touched, body_cells, suggested_cells, cells_over, marked_edits, new_on}
+use Rattle.snippet_suggest.proofs.Common.{removed_in, suggested_stretches, rows_shared, suggestion_cells, suggestion_row, diff_cells, emptied_cells, gone_of}
+use Rattle.snippet_suggest.proofs.Common.{taken_cells, last_removed, unless_stays, counted_from, numbered_at, removed_from, with_left_out, with_marks}
+use Rattle.snippet_suggest.proofs.Common.{capped_sum, and-false}
+use Rattle.std.proofs.Common.{chars}
 use Rattle.std.proofs.Math.ListN.{get_or-map}
-use Rattle.std.proofs.lemmas.List.{append-nil, length-map, map-append, take-map}
-use Rattle.std.proofs.lemmas.List.FromFn.{get_or-map-range_with_len, length-range_with_len}
-use Rattle.std.specs.Cow.{cow_str_bytes}
-use Rattle.std.proofs.lemmas.Bool.{cases_Bool, cond-false, cond-true}
-use Rattle.std.specs.List.{range_with_len}
-use Rattle.std.specs.Str.{bytes_eq}
-use Rattle.snippet_model.specs.declared.snippet.Snippet.{Snippet}
-use Rattle.snippet_model.specs.declared.snippet.Patch.{Patch}
-use Rattle.snippet_parts.specs.declared.source_map.LineInfo.{LineInfo}
-use Rattle.snippet_style.specs.Cell.{Cell}
-use Rattle.snippet_style.specs.declared.role.ElementStyle.TheVariants.{NoStyle, Removal}
-use Rattle.snippet_splice.specs.Edits.{Edit}
-use Rattle.snippet_splice.specs.Spliced.{last_line_reached}
-use Rattle.snippet_splice.specs.declared.stretches.SubstitutionHighlight.{SubstitutionHighlight}
-use Rattle.snippet_suggest.specs.declared.kind.DisplaySuggestion.{DisplaySuggestion}
-use Rattle.snippet_suggest.specs.declared.kind.DisplaySuggestion.TheVariants.{Add, Diff, Plain, Underline}
-use Rattle.snippet_suggest.specs.declared.layout.SuggestionLayout.{SuggestionLayout}
-use Rattle.snippet_suggest.specs.declared.layout.SuggestionStart.{SuggestionStart}
-use Rattle.snippet_suggest.specs.declared.layout.SuggestionStart.TheVariants.{Next, Opening, Path}
-use Rattle.snippet_suggest.specs.declared.shown_lines.SuggestionLine.{SuggestionLine}
-use Rattle.snippet_suggest.specs.declared.shown_lines.SuggestionLine.TheVariants.{Gap, Line}
-use Rattle.snippet_suggest.specs.Cells.{begin_cells, end_cells, left_out_cells, offered_cells, on_last, removed_cells, with_stretches}
-use Rattle.snippet_suggest.specs.Given.{edits_of, first_given, given_lines, given_ranges, is_left_out, last_reached, shown_kind, trimmed_of}
-use Rattle.snippet_parts.specs.Numbered.{numbered_source}
-use Rattle.snippet_suggest.specs.RowOrder.{Begins, Empty, Ends, Offers, Removes, SuggestionRow, rows_of_suggestion}
 use Rattle.snippet_suggest.proofs.ByKind.{row_of_shown}
-use Rattle.snippet_suggest.specs.SuggestedLines.{is_touched}
-use Rattle.snippet_suggest.specs.Suggested.{body_cells, suggested_cells, cells_over, marked_edits, new_on, removed_in, suggested_stretches}
-use Rattle.snippet_suggest.specs.ShownRows.{rows_shared, suggestion_cells}
-use Rattle.snippet_suggest.specs.OfferedRows.{suggestion_row}
-use Rattle.snippet_suggest.specs.RemovedRows.{diff_cells, emptied_cells, gone_of, taken_cells, last_removed, unless_stays, counted_from, numbered_at}
-use Rattle.snippet_suggest.specs.RemovedRows.{removed_from}
-use Rattle.snippet_suggest.specs.Suggested.{with_left_out}
-use Rattle.snippet_suggest.specs.Marks.{with_marks}
 use Rattle.snippet_suggest.proofs.KnownRemoved.{unless_range}
 use Rattle.snippet_suggest.proofs.RowsDrawn.{diff_left, diff_shown}
 use Rattle.snippet_suggest.proofs.OrderLaws.{none_left_out, changed_rows}
-use Rattle.snippet_window.specs.Margin.{capped_sum}
-use Rattle.std.proofs.Math.Bool.{and-false}
 
 -- ---- rows one by one
 

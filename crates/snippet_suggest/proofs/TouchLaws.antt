@@ -1,35 +1,15 @@
 -- Each line that a patch touches is offered, unless it is blank or the suggestion's text is as it was.
-use Rattle.std.proofs.Common.{◌≡◌, ◌≢◌, ℕ, ◌+◌, ◌-◌, ◌<◌, ◌≤◌, ◌⊎◌, inl, inr, Bool, true, false, not, nat_le, ◌&&◌, if◌then◌else◌, List, [], ◌∷◌, Contains}
-use Rattle.std.proofs.Common.{length, map, get_or, refl, sym, ap, subst, ◌∙◌, ⊎_elim, arith}
-use Rattle.std.proofs.lemmas.List.{length-map, get_or-map}
-use Rattle.std.proofs.lemmas.List.Folds.{list_any_at}
-use Rattle.std.proofs.lemmas.Bool.{true≢false, and_from, or_cases, or_right, le-leb, cases_Bool}
-use Rattle.std.proofs.lemmas.Slice.Eq.{bytes_eq-Decides}
-use Rattle.std.proofs.lemmas.Str.{chars-nil}
-use Rattle.std.specs.Cow.{cow_str_bytes}
-use Rattle.std.specs.Char.{is_whitespace}
-use Rattle.std.specs.List.{list_all}
-use Rattle.std.specs.Str.{bytes_eq}
-use Rattle.snippet_model.specs.declared.snippet.Snippet.{Snippet}
-use Rattle.snippet_model.specs.declared.snippet.Patch.{Patch}
-use Rattle.snippet_lines.specs.Lines.{Line, lines_of, source_lines, text_at}
-use Rattle.snippet_splice.specs.declared.splice.LineRange.{LineRange}
-use Rattle.snippet_splice.specs.Edits.{Edit, edit_of, patched, trimmed_edits}
-use Rattle.snippet_splice.specs.ShownText.{without_final_line_feeds}
-use Rattle.snippet_splice.specs.Spliced.{IsTouched, stands}
-use Rattle.snippet_splice.specs.Patched.{line_ranges, ranges_from, spliced_text, texts_of}
-use Rattle.snippet_splice.specs.FirstOverlap.{AreDisjoint}
-use Rattle.snippet_splice.proofs.RangeLemmas.{ranges_from-written_ranges}
-use Rattle.snippet_splice.proofs.SpliceLemmas.{IsShownPart}
-use Rattle.snippet_splice.proofs.TouchLemmas.{IsHeld, shown-touched, touched-held}
-use Rattle.snippet_suggest.specs.declared.kind.DisplaySuggestion.{DisplaySuggestion}
-use Rattle.snippet_suggest.specs.declared.kind.DisplaySuggestion.TheVariants.{Underline, Diff, Plain, Add}
-use Rattle.snippet_suggest.specs.Given.{IsOfferable, edits_of, first_given, given_lines, given_ranges, given_text, is_left_out, last_reached}
-use Rattle.snippet_suggest.specs.Given.{shown_kind, trimmed_of}
+use Rattle.snippet_suggest.proofs.Common.{◌≡◌, ◌≢◌, ℕ, ◌+◌, ◌-◌, ◌<◌, ◌≤◌, ◌⊎◌, inl, inr, Bool, true, false, not, nat_le}
+use Rattle.snippet_suggest.proofs.Common.{◌&&◌, if◌then◌else◌, List, [], ◌∷◌, Contains, length, map, get_or, refl, sym, ap, subst, ◌∙◌}
+use Rattle.snippet_suggest.proofs.Common.{⊎_elim, arith, length-map, get_or-map, list_any_at, true≢false, and_from, or_cases, or_right, le-leb, cases_Bool}
+use Rattle.snippet_suggest.proofs.Common.{bytes_eq-Decides, chars-nil, cow_str_bytes, is_whitespace, list_all, bytes_eq, Snippet, Patch, lines_of, source_lines}
+use Rattle.snippet_suggest.proofs.Common.{text_at, LineRange, Edit, edit_of, patched, trimmed_edits, without_final_line_feeds, IsTouched, stands, line_ranges}
+use Rattle.snippet_suggest.proofs.Common.{ranges_from, spliced_text, texts_of, AreDisjoint, ranges_from-written_ranges, IsShownPart, IsHeld, shown-touched}
+use Rattle.snippet_suggest.proofs.Common.{touched-held, DisplaySuggestion, Underline, Diff, Plain, Add, IsOfferable, edits_of, first_given, given_lines}
+use Rattle.snippet_suggest.proofs.Common.{given_ranges, given_text, is_left_out, last_reached, shown_kind, trimmed_of, is_blank_text, kind_of, is_touched}
+use Rattle.snippet_suggest.proofs.Common.{shown_from, IsAsItWas, numbers_given, numbers_of, offered_lines, numbers_shown}
+use Rattle.snippet_lines.specs.Lines.{Line}
 use Rattle.snippet_suggest.proofs.ByKind.{counted_folded}
-use Rattle.snippet_suggest.specs.Kind.{is_blank_text, kind_of}
-use Rattle.snippet_suggest.specs.SuggestedLines.{is_touched, shown_from}
-use Rattle.snippet_suggest.specs.Offered.{IsAsItWas, numbers_given, numbers_of, offered_lines, numbers_shown}
 use Rattle.snippet_suggest.proofs.RisingLemmas.{touched_shown}
 use Rattle.snippet_suggest.proofs.OfferLaws.{HaveSpans, edits-apart, given-is-patched, given-part}
 use Rattle.snippet_suggest.proofs.GutterFits.{one_given}

@@ -1,9 +1,6 @@
 -- How a form grows by texts, one after another.
-use Rattle.std.proofs.Common.{◌≡◌, ℕ, List, ◌++◌, Result, sym, ap, ◌∙◌}
-use Rattle.std.specs.Result.{OnOk}
-use Rattle.std.proofs.lemmas.List.{append_assoc, map-append}
-use Rattle.std.proofs.lemmas.Result.{on_ok_weaker}
-use Rattle.snippet_text_form.specs.Form.{FormPiece, Char, bare}
+use Rattle.snippet_text_form.proofs.Common.{◌≡◌, ℕ, List, ◌++◌, Result, sym, ap, ◌∙◌, OnOk, append_assoc, map-append, on_ok_weaker, FormPiece}
+use Rattle.snippet_text_form.proofs.Common.{Char, bare}
 
 -- two parts
 pub added-two : {X : Type 0} (old one new a b : List X) → one ≡ old ++ a → new ≡ one ++ b → new ≡ old ++ (a ++ b)

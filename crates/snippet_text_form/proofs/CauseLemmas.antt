@@ -1,33 +1,13 @@
 -- Named spans: their order, what holds of each, and the texts that are added for several.
-use Rattle.std.proofs.Common.{◌≡◌, ℕ, suc, ◌==◌, Bool, true, false, cond, not, eqb, ltb, Option, None, List, [], ◌∷◌, ◌++◌, length, map, filter, All, codes}
-use Rattle.std.proofs.Common.{encode_utf8_all, refl, sym, ap, ◌∙◌, arith, append_assoc}
-use Rattle.std.proofs.lemmas.Bool.{cond-true, cond-false}
-use Rattle.std.proofs.lemmas.Bool.Decides.{nat_tests}
-use Rattle.std.proofs.lemmas.List.{append-nil, map-append}
-use Rattle.std.proofs.lemmas.List.Elements.{All-nil, All-cons, All-head, All-tail, All-filter}
-use Rattle.std.proofs.lemmas.Str.{chars-nil, encodes-chars}
-use Rattle.std.specs.Cmp.{IsStrictWeakOrder}
-use Rattle.std.specs.Cow.{cow_str_bytes}
-use Rattle.std.specs.List.{flat_map}
-use Rattle.std.specs.List.Sorted.{IsSortedBy, IsStableBy}
-use Rattle.std.specs.Option.{option_map}
-use Rattle.std.specs.Ordering.{is_lt, ordering_then, nat_cmp}
-use Rattle.std.specs.Str.{IsUtf8, chars}
-use Rattle.snippet_lines.specs.Lines.{Source}
-use Rattle.snippet_lines.specs.OrderedBy.{ordered_by}
-use Rattle.snippet_lines.specs.Place.{locations_of}
-use Rattle.snippet_lines.specs.declared.place.Loc.{Loc}
-use Rattle.snippet_lines.proofs.OrderLemmas.{sorted-only, map-ordered_by}
-use Rattle.snippet_model.specs.declared.snippet.Annotation.{Annotation}
-use Rattle.snippet_model.specs.declared.snippet.Snippet.{Snippet}
-use Rattle.snippet_parts.specs.Mark.{is_marking}
-use Rattle.snippet_text_form.specs.Cause.{after_place, cause_form, is_named_before, further_indent, is_labelled, kind_rank, label_characters, named_spans}
-use Rattle.snippet_text_form.specs.Cause.{span_form, span_place, spans_form}
-use Rattle.snippet_parts.specs.Numbered.{numbered_source}
-use Rattle.snippet_text_form.specs.Form.{FormPiece, Break, bare}
-use Rattle.snippet_text_form.specs.Position.{place}
-use Rattle.snippet_text_form.specs.declared.cause.NamedSpan.{NamedSpan}
-use Rattle.snippet_parts.proofs.PartLemmas.{All-order}
+use Rattle.snippet_text_form.proofs.Common.{◌≡◌, ℕ, suc, ◌==◌, Bool, true, false, cond, not, eqb, ltb, Option, None, List, [], ◌∷◌, ◌++◌}
+use Rattle.snippet_text_form.proofs.Common.{length, map, filter, All, codes, encode_utf8_all, refl, sym, ap, ◌∙◌, arith, cond-true, cond-false, nat_tests}
+use Rattle.snippet_text_form.proofs.Common.{append-nil, map-append, All-nil, All-cons, All-head, All-tail, All-filter, chars-nil, encodes-chars}
+use Rattle.snippet_text_form.proofs.Common.{IsStrictWeakOrder, cow_str_bytes, flat_map, IsSortedBy, IsStableBy, option_map, is_lt, ordering_then, nat_cmp}
+use Rattle.snippet_text_form.proofs.Common.{IsUtf8, Source, ordered_by, locations_of, Loc, sorted-only, map-ordered_by, Annotation, Snippet, is_marking}
+use Rattle.snippet_text_form.proofs.Common.{after_place, cause_form, is_named_before, further_indent, is_labelled, kind_rank, label_characters, named_spans}
+use Rattle.snippet_text_form.proofs.Common.{span_form, span_place, spans_form, numbered_source, FormPiece, Break, bare, place, NamedSpan, All-order}
+use Rattle.std.proofs.Common.{append_assoc}
+use Rattle.std.specs.Str.{chars}
 
 -- ---- the order
 

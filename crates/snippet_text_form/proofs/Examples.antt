@@ -1,39 +1,14 @@
 -- The definitions, computed on small elements. In these texts LF is written `\n`.
-use Rattle.std.proofs.Common.{◌≡◌, ℕ, ◌<◌, ◌^◌, true, false, Option, None, Some, Vec, List, [], ◌∷◌, ◌++◌, codes, length, refl, ap, arith}
+use Rattle.snippet_text_form.proofs.Common.{◌≡◌, ℕ, ◌<◌, ◌^◌, true, false, Option, None, Some, Vec, List, [], ◌∷◌, ◌++◌, codes}
+use Rattle.snippet_text_form.proofs.Common.{length, refl, ap, arith, CowStr, Borrowed, newline_count, start_of, end_location, line_of, location_of}
+use Rattle.snippet_text_form.proofs.Common.{locations_of, place_of, start_location, steps_after_text, unindexed, Heading, LevelName, Hidden, Standard}
+use Rattle.snippet_text_form.proofs.Common.{Annotation, AnnotationKind, Primary, Context, Id, Patch, Snippet, trimmed_edit, kept_before, sandwich, LevelInner}
+use Rattle.snippet_text_form.proofs.Common.{Error, Help, Info, default_sheet, link_start, link_stop, norm, width_of-colon, heading_lines, HeadingRoles}
+use Rattle.snippet_text_form.proofs.Common.{cause_form, form_bytes, form_text, plain_from, form_links, heading_form, label_form, lines_form, text_roles_of}
+use Rattle.snippet_text_form.proofs.Common.{origin_form, suggestion_form, Title, Message, SuggestionSettings}
 use Rattle.std.specs.Fmt.{digits}
 use Rattle.std.specs.Str.{chars}
 use Rattle.std.specs.declared.alloc.Global.{Global}
-use Rattle.std.specs.declared.borrow.CowStr.{CowStr}
-use Rattle.std.specs.declared.borrow.CowStr.TheVariants.{Borrowed}
-use Rattle.snippet_lines.specs.Lines.{newline_count, start_of}
-use Rattle.snippet_lines.specs.Place.{end_location, line_of, location_of, locations_of, place_of, start_location, steps_after_text}
-use Rattle.snippet_model.specs.Source.{unindexed}
-use Rattle.snippet_model.specs.Heading.{Heading}
-use Rattle.snippet_model.specs.declared.level.LevelName.{LevelName}
-use Rattle.snippet_model.specs.declared.level.LevelName.TheVariants.{Hidden, Standard}
-use Rattle.snippet_model.specs.declared.snippet.Annotation.{Annotation}
-use Rattle.snippet_model.specs.declared.snippet.AnnotationKind.{AnnotationKind}
-use Rattle.snippet_model.specs.declared.snippet.AnnotationKind.TheVariants.{Primary, Context}
-use Rattle.snippet_model.specs.declared.snippet.Id.{Id}
-use Rattle.snippet_model.specs.declared.snippet.Patch.{Patch}
-use Rattle.snippet_model.specs.declared.snippet.Snippet.{Snippet}
-use Rattle.snippet_splice.specs.Edits.{trimmed_edit}
-use Rattle.snippet_splice.specs.Trim.{kept_before, sandwich}
-use Rattle.snippet_style.specs.declared.role.LevelInner.{LevelInner}
-use Rattle.snippet_style.specs.declared.role.LevelInner.TheVariants.{Error, Help, Info}
-use Rattle.snippet_style.specs.Stylesheet.{default_sheet}
-use Rattle.snippet_grid.specs.Woven.{link_start, link_stop}
-use Rattle.snippet_text.specs.Normalized.{norm}
-use Rattle.snippet_text.proofs.WidthLemmas.{width_of-colon}
-use Rattle.snippet_titles.specs.HeadingRows.{heading_lines}
-use Rattle.snippet_titles.specs.declared.style.HeadingRoles.{HeadingRoles}
-use Rattle.snippet_text_form.specs.Cause.{cause_form}
-use Rattle.snippet_text_form.specs.Form.{form_bytes, form_text, plain_from}
-use Rattle.snippet_text_form.specs.FormLinks.{form_links}
-use Rattle.snippet_text_form.specs.HeadingForm.{heading_form, label_form, lines_form, text_roles_of}
-use Rattle.snippet_text_form.specs.Suggestion.{origin_form, suggestion_form}
-use Rattle.snippet_text_form.specs.declared.heading.HeadingKind.TheVariants.{Title, Message}
-use Rattle.snippet_text_form.specs.declared.suggestion.SuggestionSettings.{SuggestionSettings}
 
 -- a text, a heading, and snippets whose first line has number 1
 abbrev text_of : List ℕ → CowStr Global

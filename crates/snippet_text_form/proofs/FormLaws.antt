@@ -1,18 +1,10 @@
 -- A text form under a sheet: it is a woven text, whose plain text and links are the form's own.
-use Rattle.std.proofs.Common.{◌≡◌, ℕ, Bool, true, false, List, [], ◌∷◌, ◌++◌, Option, None, Some, All, map, refl, sym, ap, ◌∙◌, subst}
-use Rattle.std.specs.List.{flat_map}
-use Rattle.std.specs.Option.{option_to_list}
-use Rattle.std.proofs.lemmas.List.{append_assoc}
-use Rattle.std.proofs.lemmas.List.Elements.{All-nil, All-cons}
+use Rattle.snippet_text_form.proofs.Common.{◌≡◌, ℕ, Bool, true, false, List, [], ◌∷◌, ◌++◌, Option, None, Some, All, map, refl, sym, ap}
+use Rattle.snippet_text_form.proofs.Common.{◌∙◌, subst, flat_map, option_to_list, append_assoc, All-nil, All-cons, Piece, Opening, Reset, LinkTo, LinkEnd}
+use Rattle.snippet_text_form.proofs.Common.{plain_piece, piece_link, IsOfSheet, AreLinksEnded, IsStyleOf, IsWoven, ElementStyle, Note, Style, Stylesheet}
+use Rattle.snippet_text_form.proofs.Common.{FormPiece, Char, Break, Styled, begun_after, plain_from, form_text, form_links, link_codes_before, link_codes_after}
+use Rattle.snippet_text_form.proofs.Common.{in_style, role_style, woven_from, form_bytes}
 use Rattle.snippet_grid.specs.Woven as woven
-use Rattle.snippet_grid.specs.Woven.{Piece, Opening, Reset, LinkTo, LinkEnd, plain_piece, piece_link, IsOfSheet, AreLinksEnded, IsStyleOf, IsWoven}
-use Rattle.snippet_style.specs.declared.role.ElementStyle.{ElementStyle}
-use Rattle.snippet_style.specs.declared.role.LevelInner.TheVariants.{Note}
-use Rattle.snippet_style.specs.declared.style.Style.{Style}
-use Rattle.snippet_style.specs.declared.stylesheet.Stylesheet.{Stylesheet}
-use Rattle.snippet_text_form.specs.Form.{FormPiece, Char, Break, Styled, begun_after, plain_from, form_text}
-use Rattle.snippet_text_form.specs.FormLinks.{form_links, link_codes_before, link_codes_after}
-use Rattle.snippet_text_form.specs.Form.{in_style, role_style, woven_from, form_bytes}
 
 -- the woven characters of a text
 abbrev pub woven_chars : List ℕ → List Piece

@@ -1,27 +1,14 @@
 -- How the text of a form grows, piece by piece.
-use Rattle.std.proofs.Common.{◌≡◌, ℕ, ◌-◌, ◌<◌, ◌≤◌, ◌==◌, ◌||◌, nat_lt, not, Bool, true, false, List, [], ◌∷◌, ◌++◌, Option}
-use Rattle.std.proofs.Common.{if◌then◌else◌, chars, length, replicate, take, drop, refl, sym, ap, ◌∙◌, arith, encode_utf8, encode_utf8_all}
-use Rattle.std.specs.Fmt.{decimal}
-use Rattle.std.specs.List.{flat_map}
-use Rattle.std.specs.Str.{IsUtf8}
-use Rattle.std.proofs.lemmas.Bool.Decides.{nat_tests}
-use Rattle.std.proofs.lemmas.Grind.{flat_map-append}
-use Rattle.std.proofs.lemmas.List.{append-nil, append_assoc}
-use Rattle.std.proofs.lemmas.List.Elements.{All-weaker, All-replicate}
-use Rattle.std.proofs.lemmas.Str.{chars-IsAscii, chars-nil, encodes-chars, length-le-encodes}
-use Rattle.std.proofs.lemmas.Str.Ascii.{IsAscii-from_all}
-use Rattle.snippet_style.specs.Codes.{opening, reset}
+use Rattle.snippet_text_form.proofs.Common.{◌≡◌, ℕ, ◌-◌, ◌<◌, ◌≤◌, ◌==◌, ◌||◌, nat_lt, not, Bool, true, false, List, []}
+use Rattle.snippet_text_form.proofs.Common.{◌∷◌, ◌++◌, Option, if◌then◌else◌, length, replicate, take, drop, refl, sym, ap, ◌∙◌, arith}
+use Rattle.snippet_text_form.proofs.Common.{encode_utf8, encode_utf8_all, decimal, flat_map, IsUtf8, nat_tests, flat_map-append, append-nil, append_assoc}
+use Rattle.snippet_text_form.proofs.Common.{All-weaker, All-replicate, chars-IsAscii, chars-nil, encodes-chars, length-le-encodes, IsAscii-from_all, opening}
+use Rattle.snippet_text_form.proofs.Common.{reset, Piece, Reset, piece_text, stretch, length-stretch_of, IsUtf8-stretch, Style, Stylesheet, IsDigit}
+use Rattle.snippet_text_form.proofs.Common.{decimal-all, FormPiece, Char, Break, Styled, bare, begun_after, plain_from, form_bytes, in_style, role_style}
+use Rattle.snippet_text_form.proofs.Common.{woven_from, link_codes_before, link_codes_after, piece_of_kind, pieces_from, IsPlace, IsMark, AreMarks, FormMark}
+use Rattle.snippet_text_form.proofs.Common.{MarkKind}
+use Rattle.std.proofs.Common.{chars}
 use Rattle.snippet_grid.specs.Woven as woven
-use Rattle.snippet_grid.specs.Woven.{Piece, Reset, piece_text}
-use Rattle.snippet_grid.proofs.StretchLemmas.{stretch, length-stretch_of, IsUtf8-stretch}
-use Rattle.snippet_style.specs.declared.style.Style.{Style}
-use Rattle.snippet_style.specs.declared.stylesheet.Stylesheet.{Stylesheet}
-use Rattle.snippet_titles.proofs.DigitLemmas.{IsDigit, decimal-all}
-use Rattle.snippet_text_form.specs.Form.{FormPiece, Char, Break, Styled, bare, begun_after, plain_from, form_bytes, in_style, role_style, woven_from}
-use Rattle.snippet_text_form.specs.FormLinks.{link_codes_before, link_codes_after}
-use Rattle.snippet_text_form.specs.FormMarks.{piece_of_kind, pieces_from, IsPlace, IsMark, AreMarks}
-use Rattle.snippet_text_form.specs.declared.form.FormMark.{FormMark}
-use Rattle.snippet_text_form.specs.declared.form.MarkKind.{MarkKind}
 use Rattle.snippet_text_form.specs.declared.form.MarkKind.TheVariants as kinds
 use Rattle.snippet_text_form.proofs.FormLaws.{woven_chars, in_style-pieces}
 use Rattle.snippet_text_form.proofs.MarkLemmas.{first_place, IsPlace-end}

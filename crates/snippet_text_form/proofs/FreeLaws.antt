@@ -1,48 +1,19 @@
 -- No text form holds a listed character but those of a trusted heading's text.
-use Rattle.std.proofs.Common.{◌≡◌, ℕ, ◌==◌, ◌+◌, ◌&&◌, not, nat_lt, Bool, true, false, Option, None, Some, List, [], ◌∷◌, ◌++◌, All, chars, codes, filter}
-use Rattle.std.proofs.Common.{length, replicate, if◌then◌else◌, refl, sym, subst, arith}
-use Rattle.std.specs.Cow.{cow_str_bytes}
-use Rattle.std.specs.Fmt.{decimal}
-use Rattle.std.specs.List.{flat_map, Contains}
-use Rattle.std.specs.Option.{option_map}
-use Rattle.std.proofs.lemmas.Bool.Decides.{nat_tests}
-use Rattle.std.proofs.lemmas.List.Elements.{All-nil, All-cons, All-head, All-tail, All-append, All-replicate, All-weaker}
-use Rattle.snippet_lines.specs.Lines.{Source}
-use Rattle.snippet_lines.specs.Place.{locations_of}
-use Rattle.snippet_model.specs.Heading.{Heading, is_hidden}
-use Rattle.snippet_model.specs.Level.{name_of}
-use Rattle.snippet_model.specs.declared.level.Level.{Level}
-use Rattle.snippet_model.specs.declared.snippet.Annotation.{Annotation}
-use Rattle.snippet_model.specs.declared.snippet.Id.{Id}
-use Rattle.snippet_model.specs.declared.snippet.Origin.{Origin}
-use Rattle.snippet_model.specs.declared.snippet.Patch.{Patch}
-use Rattle.snippet_model.specs.declared.snippet.Snippet.{Snippet}
-use Rattle.snippet_splice.specs.Edits.{Edit}
-use Rattle.snippet_splice.specs.ShownText.{without_final_line_feeds}
-use Rattle.snippet_shown.specs.LineFeeds.{picture_of, with_line_feeds_shown}
-use Rattle.snippet_style.specs.declared.role.ElementStyle.{ElementStyle}
-use Rattle.snippet_style.specs.declared.role.ElementStyle.TheVariants.{Addition}
+use Rattle.snippet_text_form.proofs.Common.{◌≡◌, ℕ, ◌==◌, ◌+◌, ◌&&◌, not, nat_lt, Bool, true, false, Option, None, Some, List, []}
+use Rattle.snippet_text_form.proofs.Common.{◌∷◌, ◌++◌, All, codes, filter, length, replicate, if◌then◌else◌, refl, sym, subst, arith}
+use Rattle.snippet_text_form.proofs.Common.{cow_str_bytes, decimal, flat_map, Contains, option_map, nat_tests, All-nil, All-cons, All-head, All-tail}
+use Rattle.snippet_text_form.proofs.Common.{All-append, All-replicate, All-weaker, Source, locations_of, Heading, is_hidden, name_of, Level, Annotation, Id}
+use Rattle.snippet_text_form.proofs.Common.{Origin, Patch, Snippet, Edit, without_final_line_feeds, picture_of, with_line_feeds_shown, ElementStyle, Addition}
+use Rattle.snippet_text_form.proofs.Common.{is_blank_text, is_listed, norm, normalized_chars, width_of, address_of, shown_text, heading_lines, is_set}
+use Rattle.snippet_text_form.proofs.Common.{HeadingRoles, IsUnlisted, IsOwn, norm-free, own_text, own_unlisted, All-slice_split, each-fails, cause_form}
+use Rattle.snippet_text_form.proofs.Common.{is_labelled, label_characters, named_spans, further_indent, span_form, span_text, spans_form, numbered_source}
+use Rattle.snippet_text_form.proofs.Common.{place, place_in_file, added_form, added_text, before_added, edit_form, edit_indent, edit_place, named_path}
+use Rattle.snippet_text_form.proofs.Common.{option_form, origin_form, suggestion_form, FormPiece, Break, Styled, bare, begun_after, plain_from, styled}
+use Rattle.snippet_text_form.proofs.Common.{before_id, before_name, colon_form, further_line, heading_form, id_form, id_text_form, label_form, heading_label}
+use Rattle.snippet_text_form.proofs.Common.{link_for, linking, lines_form, name_form, text_roles_of, HeadingKind, Title, Message, SuggestionContext}
+use Rattle.snippet_text_form.proofs.Common.{SuggestionSettings}
+use Rattle.std.proofs.Common.{chars}
 use Rattle.snippet_suggest.specs.Given as given
-use Rattle.snippet_suggest.specs.Kind.{is_blank_text}
-use Rattle.snippet_text.specs.Normalized.{is_listed, norm, normalized_chars}
-use Rattle.snippet_text.specs.Width.{width_of}
-use Rattle.snippet_titles.specs.HeadingRows.{address_of, shown_text, heading_lines, is_set}
-use Rattle.snippet_titles.specs.declared.style.HeadingRoles.{HeadingRoles}
-use Rattle.snippet_titles.proofs.FreeLemmas.{IsUnlisted, IsOwn, norm-free, own_text, own_unlisted, All-slice_split}
-use Rattle.snippet_titles.proofs.OriginFree.{each-fails}
-use Rattle.snippet_text_form.specs.Cause.{cause_form, is_labelled, label_characters, named_spans, further_indent, span_form, span_text, spans_form}
-use Rattle.snippet_parts.specs.Numbered.{numbered_source}
-use Rattle.snippet_text_form.specs.Position.{place, place_in_file}
-use Rattle.snippet_text_form.specs.Suggestion.{added_form, added_text, before_added, edit_form, edit_indent, edit_place, named_path, option_form}
-use Rattle.snippet_text_form.specs.Suggestion.{origin_form, suggestion_form}
-use Rattle.snippet_text_form.specs.Form.{FormPiece, Break, Styled, bare, begun_after, plain_from, styled}
-use Rattle.snippet_text_form.specs.HeadingForm.{before_id, before_name, colon_form, further_line, heading_form, id_form, id_text_form, label_form}
-use Rattle.snippet_text_form.specs.HeadingForm.{heading_label}
-use Rattle.snippet_text_form.specs.HeadingForm.{link_for, linking, lines_form, name_form, text_roles_of}
-use Rattle.snippet_text_form.specs.declared.heading.HeadingKind.{HeadingKind}
-use Rattle.snippet_text_form.specs.declared.heading.HeadingKind.TheVariants.{Title, Message}
-use Rattle.snippet_text_form.specs.declared.suggestion.SuggestionContext.{SuggestionContext}
-use Rattle.snippet_text_form.specs.declared.suggestion.SuggestionSettings.{SuggestionSettings}
 use Rattle.snippet_text_form.proofs.OrderLaws.{plain-append}
 use Rattle.snippet_text_form.proofs.FormSteps.{plain-bare}
 use Rattle.snippet_text_form.proofs.PlaceParts.{PathIs, before_added-each, before_id-each, before_name-each, decimal-each, edit_indent-each}

@@ -1,27 +1,11 @@
 -- What stands before a heading's text, and the whole heading.
-use Rattle.std.proofs.Common.{◌≡◌, ℕ, ◌+◌, ◌==◌, Bool, true, false, nat_lt, List, [], ◌∷◌, ◌++◌, Option, None, Some, Result, chars, length, if◌then◌else◌, refl}
-use Rattle.std.proofs.Common.{sym, ap, ◌∙◌, subst, arith}
-use Rattle.std.specs.Cow.{cow_str_bytes}
-use Rattle.std.specs.Option.{option_map}
-use Rattle.std.specs.Result.{OnOk}
-use Rattle.std.specs.Str.{IsUtf8}
-use Rattle.std.proofs.lemmas.List.Sums.{sum_by-append}
-use Rattle.std.proofs.lemmas.Result.{on_ok_weaker}
-use Rattle.snippet_model.specs.Heading.{Heading, is_hidden}
-use Rattle.snippet_model.specs.Level.{name_of}
-use Rattle.snippet_model.specs.declared.level.Level.{Level}
-use Rattle.snippet_model.specs.declared.snippet.Id.{Id}
-use Rattle.snippet_style.specs.declared.role.ElementStyle.{ElementStyle}
-use Rattle.snippet_text.specs.Normalized.{norm}
-use Rattle.snippet_text.specs.Width.{char_width, width_of}
-use Rattle.snippet_text.proofs.NormLemmas.{width_of-norm}
-use Rattle.snippet_titles.specs.HeadingRows.{address_of, colon_of, heading_lines, is_set}
-use Rattle.snippet_titles.specs.declared.style.HeadingRoles.{HeadingRoles}
-use Rattle.snippet_titles.proofs.SignLemmas.{chars-colon}
-use Rattle.snippet_text_form.specs.Form.{FormPiece, Break, Styled, bare, styled}
-use Rattle.snippet_text_form.specs.HeadingForm.{before_id, before_name, colon_form, heading_form, id_form, id_label, label_form, label_of_id, heading_label}
-use Rattle.snippet_text_form.specs.HeadingForm.{lines_form, link_for, id_text_form, text_roles_of}
-use Rattle.snippet_text_form.specs.declared.heading.HeadingKind.{HeadingKind}
+use Rattle.snippet_text_form.proofs.Common.{◌≡◌, ℕ, ◌+◌, ◌==◌, Bool, true, false, nat_lt, List, [], ◌∷◌, ◌++◌, Option, None, Some}
+use Rattle.snippet_text_form.proofs.Common.{Result, length, if◌then◌else◌, refl, sym, ap, ◌∙◌, subst, arith, cow_str_bytes, option_map, OnOk}
+use Rattle.snippet_text_form.proofs.Common.{IsUtf8, sum_by-append, on_ok_weaker, Heading, is_hidden, name_of, Level, Id, ElementStyle, norm, char_width}
+use Rattle.snippet_text_form.proofs.Common.{width_of, width_of-norm, address_of, colon_of, heading_lines, is_set, HeadingRoles, chars-colon, FormPiece, Break}
+use Rattle.snippet_text_form.proofs.Common.{Styled, bare, styled, before_id, before_name, colon_form, heading_form, id_form, id_label, label_form, label_of_id}
+use Rattle.snippet_text_form.proofs.Common.{heading_label, lines_form, link_for, id_text_form, text_roles_of, HeadingKind}
+use Rattle.std.proofs.Common.{chars}
 use Rattle.snippet_text_form.proofs.AddedLemmas.{added-two, added-two-on_ok}
 use Rattle.snippet_text_form.proofs.FormSteps.{begun-chars}
 

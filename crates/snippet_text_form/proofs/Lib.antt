@@ -1,3 +1,4 @@
+pub mod Common
 pub mod AddedLemmas
 pub mod CauseLemmas
 pub mod Examples

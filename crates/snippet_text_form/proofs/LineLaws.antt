@@ -1,47 +1,19 @@
 -- The lines of a text form's plain text are those of its paragraphs.
-use Rattle.std.proofs.Common.{◌≡◌, ℕ, ◌==◌, ◌&&◌, not, nat_lt, Bool, true, false, Option, None, Some, List, [], ◌∷◌, ◌++◌, All, chars, codes}
-use Rattle.std.proofs.Common.{filter, map, length, replicate, if◌then◌else◌, refl, sym, ap, ◌∙◌, arith, append_assoc, cond}
-use Rattle.std.specs.Cow.{cow_str_bytes}
-use Rattle.std.specs.Fmt.{decimal}
-use Rattle.std.specs.List.{flat_map, slice_split}
-use Rattle.std.specs.Option.{option_map}
-use Rattle.std.proofs.lemmas.Bool.Decides.{nat_tests}
-use Rattle.std.proofs.lemmas.Grind.{flat_map-append}
-use Rattle.std.proofs.lemmas.List.{append-nil}
-use Rattle.std.proofs.lemmas.List.Elements.{All-append, All-cons, All-head, All-nil, All-tail}
-use Rattle.std.proofs.lemmas.List.Splits.{slice_split_at, slice_split_none}
-use Rattle.snippet_lines.specs.Lines.{Source}
-use Rattle.snippet_lines.specs.Place.{locations_of}
-use Rattle.snippet_model.specs.Heading.{Heading, is_hidden}
-use Rattle.snippet_model.specs.Level.{name_of}
-use Rattle.snippet_model.specs.declared.level.Level.{Level}
-use Rattle.snippet_model.specs.declared.snippet.Annotation.{Annotation}
-use Rattle.snippet_model.specs.declared.snippet.Id.{Id}
-use Rattle.snippet_model.specs.declared.snippet.Origin.{Origin}
-use Rattle.snippet_model.specs.declared.snippet.Patch.{Patch}
-use Rattle.snippet_model.specs.declared.snippet.Snippet.{Snippet}
-use Rattle.snippet_parts.specs.Numbered.{numbered_source}
-use Rattle.snippet_splice.specs.Edits.{Edit}
-use Rattle.snippet_style.specs.declared.role.ElementStyle.{ElementStyle}
-use Rattle.snippet_style.specs.declared.role.ElementStyle.TheVariants.{Addition}
-use Rattle.snippet_suggest.specs.Given.{trimmed_of}
-use Rattle.snippet_suggest.specs.Kind.{is_blank_text}
-use Rattle.snippet_text.specs.Normalized.{norm}
-use Rattle.snippet_text.specs.Width.{width_of}
-use Rattle.snippet_titles.specs.HeadingRows.{address_of, colon_of, heading_lines, is_set}
-use Rattle.snippet_titles.specs.declared.style.HeadingRoles.{HeadingRoles}
-use Rattle.snippet_text_form.specs.Cause.{cause_form, further_indent, is_labelled, named_spans, span_form, span_text, spans_form}
-use Rattle.snippet_text_form.specs.Form.{FormPiece, Break, bare, begun_after, plain_from, styled}
-use Rattle.snippet_text_form.specs.HeadingForm.{before_id, before_name, colon_form, further_line, heading_form, heading_label, id_form, id_label}
-use Rattle.snippet_text_form.specs.HeadingForm.{id_text_form, label_form, label_of_id, lines_form, linking, name_form, text_roles_of}
-use Rattle.snippet_text_form.specs.Lines.{added_words, cause_paragraphs, edit_line, heading_paragraph, is_empty_paragraph, line_paragraph, lines_after}
-use Rattle.snippet_text_form.specs.Lines.{lines_of_paragraphs, option_lines, origin_paragraph, span_lines, suggestion_paragraphs}
-use Rattle.snippet_text_form.specs.Position.{place, place_in_file}
-use Rattle.snippet_text_form.specs.Suggestion.{added_form, added_text, before_added, edit_form, edit_indent, edit_place, named_path, option_form}
-use Rattle.snippet_text_form.specs.Suggestion.{origin_form, suggestion_form}
-use Rattle.snippet_text_form.specs.declared.heading.HeadingKind.{HeadingKind}
-use Rattle.snippet_text_form.specs.declared.suggestion.SuggestionContext.{SuggestionContext}
-use Rattle.snippet_text_form.specs.declared.suggestion.SuggestionSettings.{SuggestionSettings}
+use Rattle.snippet_text_form.proofs.Common.{◌≡◌, ℕ, ◌==◌, ◌&&◌, not, nat_lt, Bool, true, false, Option, None, Some, List, [], ◌∷◌}
+use Rattle.snippet_text_form.proofs.Common.{◌++◌, All, codes, filter, map, length, replicate, if◌then◌else◌, refl, sym, ap, ◌∙◌, arith, cond}
+use Rattle.snippet_text_form.proofs.Common.{cow_str_bytes, decimal, flat_map, slice_split, option_map, nat_tests, flat_map-append, append-nil, All-append}
+use Rattle.snippet_text_form.proofs.Common.{All-cons, All-head, All-nil, All-tail, slice_split_at, slice_split_none, Source, locations_of, Heading, is_hidden}
+use Rattle.snippet_text_form.proofs.Common.{name_of, Level, Annotation, Id, Origin, Patch, Snippet, numbered_source, Edit, ElementStyle, Addition, trimmed_of}
+use Rattle.snippet_text_form.proofs.Common.{is_blank_text, norm, width_of, address_of, colon_of, heading_lines, is_set, HeadingRoles, cause_form}
+use Rattle.snippet_text_form.proofs.Common.{further_indent, is_labelled, named_spans, span_form, span_text, spans_form, FormPiece, Break, bare, begun_after}
+use Rattle.snippet_text_form.proofs.Common.{plain_from, styled, before_id, before_name, colon_form, further_line, heading_form, heading_label, id_form}
+use Rattle.snippet_text_form.proofs.Common.{id_label, id_text_form, label_form, label_of_id, lines_form, linking, name_form, text_roles_of, added_words}
+use Rattle.snippet_text_form.proofs.Common.{cause_paragraphs, edit_line, heading_paragraph, is_empty_paragraph, line_paragraph, lines_after}
+use Rattle.snippet_text_form.proofs.Common.{lines_of_paragraphs, option_lines, origin_paragraph, span_lines, suggestion_paragraphs, place, place_in_file}
+use Rattle.snippet_text_form.proofs.Common.{added_form, added_text, before_added, edit_form, edit_indent, edit_place, named_path, option_form, origin_form}
+use Rattle.snippet_text_form.proofs.Common.{suggestion_form, HeadingKind, SuggestionContext, SuggestionSettings}
+use Rattle.std.proofs.Common.{chars}
+use Rattle.std.proofs.Common.{append_assoc}
 use Rattle.snippet_text_form.proofs.FormSteps.{plain-bare}
 use Rattle.snippet_text_form.proofs.OrderLaws.{begun-cons, plain-append}
 

@@ -1,46 +1,16 @@
 -- What a text form links to.
-use Rattle.std.proofs.Common.{◌≡◌, ℕ, ◌&&◌, not, Bool, true, false, Option, None, Some, List, [], ◌∷◌, ◌++◌, Global, chars, codes, filter, replicate}
-use Rattle.std.proofs.Common.{if◌then◌else◌, refl, ap, ◌∙◌, arith}
-use Rattle.std.specs.Cow.{cow_str_bytes}
-use Rattle.std.specs.Fmt.{decimal}
-use Rattle.std.specs.List.{flat_map}
-use Rattle.std.specs.Option.{option_map, option_to_list}
-use Rattle.std.specs.declared.borrow.CowStr.{CowStr}
-use Rattle.std.proofs.lemmas.Bool.Decides.{nat_tests}
-use Rattle.std.proofs.lemmas.Grind.{flat_map-append}
-use Rattle.std.proofs.lemmas.List.{append-nil}
-use Rattle.snippet_lines.specs.Lines.{Source}
-use Rattle.snippet_lines.specs.Place.{locations_of}
-use Rattle.snippet_model.specs.Heading.{Heading, is_hidden}
-use Rattle.snippet_model.specs.Level.{name_of}
-use Rattle.snippet_model.specs.declared.level.Level.{Level}
-use Rattle.snippet_model.specs.declared.snippet.Annotation.{Annotation}
-use Rattle.snippet_model.specs.declared.snippet.Id.{Id}
-use Rattle.snippet_model.specs.declared.snippet.Origin.{Origin}
-use Rattle.snippet_model.specs.declared.snippet.Patch.{Patch}
-use Rattle.snippet_model.specs.declared.snippet.Snippet.{Snippet}
-use Rattle.snippet_splice.specs.Edits.{Edit}
-use Rattle.snippet_style.specs.declared.role.ElementStyle.{ElementStyle}
-use Rattle.snippet_style.specs.declared.role.ElementStyle.TheVariants.{Addition}
+use Rattle.snippet_text_form.proofs.Common.{◌≡◌, ℕ, ◌&&◌, not, Bool, true, false, Option, None, Some, List, [], ◌∷◌, ◌++◌, Global, codes}
+use Rattle.snippet_text_form.proofs.Common.{filter, replicate, if◌then◌else◌, refl, ap, ◌∙◌, arith, cow_str_bytes, decimal, flat_map, option_map}
+use Rattle.snippet_text_form.proofs.Common.{option_to_list, CowStr, nat_tests, flat_map-append, append-nil, Source, locations_of, Heading, is_hidden, name_of}
+use Rattle.snippet_text_form.proofs.Common.{Level, Annotation, Id, Origin, Patch, Snippet, Edit, ElementStyle, Addition, is_blank_text, norm, width_of}
+use Rattle.snippet_text_form.proofs.Common.{address_of, heading_lines, is_set, id_links, text_links, HeadingRoles, cause_form, is_labelled, named_spans}
+use Rattle.snippet_text_form.proofs.Common.{further_indent, span_form, span_text, spans_form, numbered_source, FormPiece, bare, styled, form_links, before_id}
+use Rattle.snippet_text_form.proofs.Common.{before_name, colon_form, further_line, heading_form, id_form, id_text_form, label_form, heading_label, link_for}
+use Rattle.snippet_text_form.proofs.Common.{linking, lines_form, name_form, text_roles_of, place, place_in_file, added_form, added_text, before_added}
+use Rattle.snippet_text_form.proofs.Common.{edit_form, edit_indent, edit_place, named_path, option_form, origin_form, suggestion_form, HeadingKind}
+use Rattle.snippet_text_form.proofs.Common.{SuggestionContext, SuggestionSettings}
+use Rattle.std.proofs.Common.{chars}
 use Rattle.snippet_suggest.specs.Given as given
-use Rattle.snippet_suggest.specs.Kind.{is_blank_text}
-use Rattle.snippet_text.specs.Normalized.{norm}
-use Rattle.snippet_text.specs.Width.{width_of}
-use Rattle.snippet_titles.specs.HeadingRows.{address_of, heading_lines, is_set}
-use Rattle.snippet_titles.specs.Title.{id_links, text_links}
-use Rattle.snippet_titles.specs.declared.style.HeadingRoles.{HeadingRoles}
-use Rattle.snippet_text_form.specs.Cause.{cause_form, is_labelled, named_spans, further_indent, span_form, span_text, spans_form}
-use Rattle.snippet_parts.specs.Numbered.{numbered_source}
-use Rattle.snippet_text_form.specs.Form.{FormPiece, bare, styled}
-use Rattle.snippet_text_form.specs.FormLinks.{form_links}
-use Rattle.snippet_text_form.specs.HeadingForm.{before_id, before_name, colon_form, further_line, heading_form, id_form, id_text_form, label_form}
-use Rattle.snippet_text_form.specs.HeadingForm.{heading_label, link_for, linking, lines_form, name_form, text_roles_of}
-use Rattle.snippet_text_form.specs.Position.{place, place_in_file}
-use Rattle.snippet_text_form.specs.Suggestion.{added_form, added_text, before_added, edit_form, edit_indent, edit_place, named_path, option_form, origin_form}
-use Rattle.snippet_text_form.specs.Suggestion.{suggestion_form}
-use Rattle.snippet_text_form.specs.declared.heading.HeadingKind.{HeadingKind}
-use Rattle.snippet_text_form.specs.declared.suggestion.SuggestionContext.{SuggestionContext}
-use Rattle.snippet_text_form.specs.declared.suggestion.SuggestionSettings.{SuggestionSettings}
 
 -- one text form after another
 pub links-append : (a b : List FormPiece) → form_links (a ++ b) ≡ form_links a ++ form_links b

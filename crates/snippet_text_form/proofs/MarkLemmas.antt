@@ -1,18 +1,11 @@
 -- The pieces of a text with marks in it, as the text and the marks grow.
-use Rattle.std.proofs.Common.{◌≡◌, ℕ, ◌+◌, ◌-◌, ◌<◌, ◌≤◌, List, [], ◌∷◌, ◌++◌, Result, Ok, Err, if◌then◌else◌, length, take, drop, sym, ap, ◌∙◌}
-use Rattle.std.proofs.Common.{subst, get_or, arith, chars}
-use Rattle.std.proofs.lemmas.List.{append-nil, append_assoc, drop_more, map-append}
-use Rattle.std.proofs.lemmas.Str.{IsUtf8-from_ascii, chars-append, chars-nil, is_utf8-from_IsUtf8}
-use Rattle.std.proofs.lemmas.Str.Ascii.{IsAscii-nil}
-use Rattle.std.specs.Result.{OnOk, is_ok}
-use Rattle.std.specs.Str.{IsUtf8, IsCharBoundary, is_utf8}
-use Rattle.snippet_grid.specs.Runs.{BeginsWith}
-use Rattle.snippet_grid.proofs.StretchLemmas.{stretch, stretch_joined, stretch_grown, stretch_added, BeginsWith-added, BeginsWith-le, BeginsWith-same}
-use Rattle.snippet_grid.proofs.StretchLemmas.{boundary, front_grown}
-use Rattle.snippet_grid.proofs.StretchLemmas.{IsUtf8-stretch, is_utf8-end}
-use Rattle.snippet_text_form.specs.Form.{FormPiece, Char, bare}
-use Rattle.snippet_text_form.specs.FormMarks.{piece_of_kind, pieces_from, chars_between, IsPlace, AreMarks}
-use Rattle.snippet_text_form.specs.declared.form.FormMark.{FormMark}
+use Rattle.snippet_text_form.proofs.Common.{◌≡◌, ℕ, ◌+◌, ◌-◌, ◌<◌, ◌≤◌, List, [], ◌∷◌, ◌++◌, Result, Ok, Err}
+use Rattle.snippet_text_form.proofs.Common.{if◌then◌else◌, length, take, drop, sym, ap, ◌∙◌, subst, get_or, arith, append-nil, append_assoc}
+use Rattle.snippet_text_form.proofs.Common.{drop_more, map-append, IsUtf8-from_ascii, chars-append, chars-nil, is_utf8-from_IsUtf8, IsAscii-nil, OnOk, is_ok}
+use Rattle.snippet_text_form.proofs.Common.{IsUtf8, IsCharBoundary, is_utf8, BeginsWith, stretch, stretch_joined, stretch_grown, stretch_added}
+use Rattle.snippet_text_form.proofs.Common.{BeginsWith-added, BeginsWith-le, BeginsWith-same, boundary, front_grown, IsUtf8-stretch, is_utf8-end, FormPiece}
+use Rattle.snippet_text_form.proofs.Common.{Char, bare, piece_of_kind, pieces_from, chars_between, IsPlace, AreMarks, FormMark}
+use Rattle.std.proofs.Common.{chars}
 use Rattle.snippet_text_form.specs.declared.form.MarkKind.TheVariants as kinds
 
 -- the place from which marks stand

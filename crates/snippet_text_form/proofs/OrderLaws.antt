@@ -1,28 +1,11 @@
 -- Which texts stand in a text form, one after the other.
-use Rattle.std.proofs.Common.{◌≡◌, ℕ, nat_lt, ◌==◌, Bool, true, false, Option, None, List, [], ◌∷◌, ◌++◌, codes, filter, length, map, refl, sym, ap, subst, ◌∙◌}
-use Rattle.std.proofs.Common.{arith, append_assoc}
-use Rattle.std.specs.List.{flat_map, list_any}
-use Rattle.std.proofs.lemmas.Bool.Decides.{nat_tests}
-use Rattle.std.proofs.lemmas.List.{append-nil}
-use Rattle.std.proofs.lemmas.List.Splits.{slice_split_none}
-use Rattle.std.specs.Cow.{cow_str_bytes}
-use Rattle.std.specs.Option.{option_map}
-use Rattle.snippet_lines.specs.Lines.{Source}
-use Rattle.snippet_lines.specs.Place.{locations_of}
-use Rattle.snippet_model.specs.Heading.{Heading}
-use Rattle.snippet_model.specs.declared.snippet.Annotation.{Annotation}
-use Rattle.snippet_model.specs.declared.snippet.Snippet.{Snippet}
-use Rattle.snippet_titles.specs.HeadingRows.{shown_text, heading_lines}
-use Rattle.snippet_text.specs.Width.{width_of}
-use Rattle.snippet_titles.specs.declared.style.HeadingRoles.{HeadingRoles}
-use Rattle.snippet_titles.proofs.OriginFree.{each-fails}
-use Rattle.snippet_text_form.specs.Cause.{after_place, cause_form, is_labelled, label_characters, named_spans, further_indent, span_form, span_place}
-use Rattle.snippet_text_form.specs.Cause.{spans_form}
-use Rattle.snippet_parts.specs.Numbered.{numbered_source}
-use Rattle.snippet_text_form.specs.Form.{FormPiece, Char, Break, Styled, bare, begun_after, plain_from}
-use Rattle.snippet_text_form.specs.HeadingForm.{heading_form, label_form, heading_label, lines_form, text_roles_of}
-use Rattle.snippet_text_form.specs.TextOrder.{StandInOrder}
-use Rattle.snippet_text_form.specs.declared.heading.HeadingKind.{HeadingKind}
+use Rattle.snippet_text_form.proofs.Common.{◌≡◌, ℕ, nat_lt, ◌==◌, Bool, true, false, Option, None, List, [], ◌∷◌, ◌++◌, codes, filter}
+use Rattle.snippet_text_form.proofs.Common.{length, map, refl, sym, ap, subst, ◌∙◌, arith, flat_map, list_any, nat_tests, append-nil, slice_split_none}
+use Rattle.snippet_text_form.proofs.Common.{cow_str_bytes, option_map, Source, locations_of, Heading, Annotation, Snippet, shown_text, heading_lines, width_of}
+use Rattle.snippet_text_form.proofs.Common.{HeadingRoles, each-fails, after_place, cause_form, is_labelled, label_characters, named_spans, further_indent}
+use Rattle.snippet_text_form.proofs.Common.{span_form, span_place, spans_form, numbered_source, FormPiece, Char, Break, Styled, bare, begun_after, plain_from}
+use Rattle.snippet_text_form.proofs.Common.{heading_form, label_form, heading_label, lines_form, text_roles_of, StandInOrder, HeadingKind}
+use Rattle.std.proofs.Common.{append_assoc}
 use Rattle.snippet_text_form.proofs.FormSteps.{plain-bare}
 
 -- text that stands before another, or before nothing

@@ -1,27 +1,13 @@
 -- What holds of each printable ASCII character, and of each of a path and a label as they are shown, holds of each character of the text
 -- that names a place.
-use Rattle.std.proofs.Common.{◌≡◌, ℕ, ◌==◌, ◌+◌, ◌&&◌, not, nat_lt, Bool, true, false, Option, None, Some, List, [], ◌++◌, All, chars, codes}
-use Rattle.std.proofs.Common.{length, if◌then◌else◌, refl, arith}
-use Rattle.std.specs.Fmt.{decimal}
-use Rattle.std.specs.List.{list_any}
-use Rattle.std.proofs.lemmas.Bool.Decides.{nat_tests}
-use Rattle.std.proofs.lemmas.List.Elements.{All-nil, All-append, All-weaker}
-use Rattle.snippet_lines.specs.Lines.{Source, line_at}
-use Rattle.snippet_lines.specs.Place.{locations_of}
-use Rattle.snippet_lines.specs.declared.place.Loc.{Loc}
-use Rattle.snippet_model.specs.declared.snippet.Annotation.{Annotation}
-use Rattle.snippet_splice.specs.Edits.{Edit}
-use Rattle.snippet_text.specs.Normalized.{norm}
-use Rattle.snippet_titles.specs.Origin.{column_text, line_name}
-use Rattle.snippet_titles.proofs.DigitLemmas.{IsDigit, decimal-all}
-use Rattle.snippet_titles.proofs.OriginFree.{each-fails}
-use Rattle.snippet_text_form.specs.Cause.{after_place, column_unless, end_in_file, end_on_line, is_blank_before, is_blank_after}
-use Rattle.snippet_text_form.specs.Cause.{further_indent, label_characters, span_place, span_text}
-use Rattle.snippet_text_form.specs.HeadingForm.{before_id, before_name}
-use Rattle.snippet_text_form.specs.Position.{after_path, column_words, place, place_in_file, place_on_line, to_line}
-use Rattle.snippet_text_form.specs.Suggestion.{before_added, edit_indent, edit_place, overwrites, replaced_to, replaces, replaces_whole_line}
-use Rattle.snippet_text_form.specs.declared.heading.HeadingKind.{HeadingKind}
-use Rattle.snippet_text_form.specs.declared.heading.HeadingKind.TheVariants.{Title, Message}
+use Rattle.snippet_text_form.proofs.Common.{◌≡◌, ℕ, ◌==◌, ◌+◌, ◌&&◌, not, nat_lt, Bool, true, false, Option, None, Some, List, [], ◌++◌}
+use Rattle.snippet_text_form.proofs.Common.{All, codes, length, if◌then◌else◌, refl, arith, decimal, list_any, nat_tests, All-nil, All-append, All-weaker}
+use Rattle.snippet_text_form.proofs.Common.{Source, line_at, locations_of, Loc, Annotation, Edit, norm, column_text, line_name, IsDigit, decimal-all}
+use Rattle.snippet_text_form.proofs.Common.{each-fails, after_place, column_unless, end_in_file, end_on_line, is_blank_before, is_blank_after, further_indent}
+use Rattle.snippet_text_form.proofs.Common.{label_characters, span_place, span_text, before_id, before_name, after_path, column_words, place, place_in_file}
+use Rattle.snippet_text_form.proofs.Common.{place_on_line, to_line, before_added, edit_indent, edit_place, overwrites, replaced_to, replaces}
+use Rattle.snippet_text_form.proofs.Common.{replaces_whole_line, HeadingKind, Title, Message}
+use Rattle.std.proofs.Common.{chars}
 
 -- whether a character is no printable ASCII
 abbrev pub is_odd : ℕ → Bool

@@ -1,27 +1,13 @@
 -- The lines of a heading's text, and what they add to a form.
-use Rattle.std.proofs.Common.{◌≡◌, ◌≢◌, ℕ, zero, suc, ◌+◌, ◌<◌, ◌==◌, Bool, true, false, List, [], ◌∷◌, ◌++◌, chars, length, map, replicate, if◌then◌else◌}
-use Rattle.std.proofs.Common.{All, Result, refl, subst, sym, ap, ◌∙◌, arith}
-use Rattle.std.specs.Borrow.{Bor}
-use Rattle.std.specs.List.{enumerate_from, flat_map, onto_first}
-use Rattle.std.specs.Result.{OnOk}
-use Rattle.std.specs.Str.{IsUtf8}
-use Rattle.std.proofs.lemmas.Bool.Decides.{nat_tests}
-use Rattle.std.proofs.lemmas.Grind.{flat_map-append}
-use Rattle.std.proofs.lemmas.List.{append-nil, append_assoc, length-map, map-append}
-use Rattle.std.specs.List.{list_any}
-use Rattle.std.proofs.lemmas.List.Elements.{All-weaker}
-use Rattle.std.proofs.lemmas.Str.{chars-IsAscii}
-use Rattle.std.proofs.lemmas.Str.Ascii.{IsAscii-from_all}
-use Rattle.std.proofs.lemmas.List.Splits.{slice_split-cons_no, slice_split-cons_yes, length-slice_split}
-use Rattle.snippet_style.specs.declared.role.ElementStyle.{ElementStyle}
+use Rattle.snippet_text_form.proofs.Common.{◌≡◌, ◌≢◌, ℕ, zero, suc, ◌+◌, ◌<◌, ◌==◌, Bool, true, false, List, [], ◌∷◌, ◌++◌}
+use Rattle.snippet_text_form.proofs.Common.{length, map, replicate, if◌then◌else◌, All, Result, refl, subst, sym, ap, ◌∙◌, arith, Bor}
+use Rattle.snippet_text_form.proofs.Common.{enumerate_from, flat_map, onto_first, OnOk, IsUtf8, nat_tests, flat_map-append, append-nil, append_assoc}
+use Rattle.snippet_text_form.proofs.Common.{length-map, map-append, list_any, All-weaker, chars-IsAscii, IsAscii-from_all, slice_split-cons_no}
+use Rattle.snippet_text_form.proofs.Common.{slice_split-cons_yes, length-slice_split, ElementStyle, norm, shown, IsPlain, lines_at-plain, lines_at}
+use Rattle.snippet_text_form.proofs.Common.{lines_at-after, lines_at-chars, FormPiece, bare, styled, further_line, lines_form, before_line}
+use Rattle.std.proofs.Common.{chars}
 use Rattle.snippet_model.proofs.RowLemmas.{each_fails as All-from_none}
-use Rattle.snippet_text.specs.Normalized.{norm, shown}
-use Rattle.snippet_text.specs.Plain.{IsPlain}
-use Rattle.snippet_titles.proofs.LineLemmas.{line_of, lines_at-plain}
-use Rattle.snippet_titles.proofs.SplitLemmas.{lines_at, lines_at-after, lines_at-chars}
-use Rattle.snippet_text_form.specs.Form.{FormPiece, bare, styled}
-use Rattle.snippet_text_form.specs.HeadingForm.{further_line, lines_form}
-use Rattle.snippet_text_form.specs.FormMarks.{before_line}
+use Rattle.snippet_titles.proofs.LineLemmas.{line_of}
 
 -- ---- normalising and cutting at line feeds commute
 

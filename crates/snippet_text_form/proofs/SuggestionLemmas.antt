@@ -1,30 +1,10 @@
 -- What is added to a text form for a suggestion, one text after the other.
-use Rattle.std.proofs.Common.{◌≡◌, ℕ, ◌+◌, ◌<◌, Bool, true, false, not, Option, Some, List, [], ◌∷◌, ◌++◌, get_or, length, map, take, sym, ap, subst, ◌∙◌}
-use Rattle.std.proofs.lemmas.Bool.{and_from, cond-false, cond-true}
-use Rattle.std.proofs.lemmas.List.{flat_map_more, map_more}
-use Rattle.std.specs.Cow.{cow_str_bytes}
-use Rattle.std.specs.List.{flat_map}
-use Rattle.std.specs.Option.{option_map}
-use Rattle.snippet_lines.specs.Lines.{Source}
-use Rattle.snippet_lines.specs.IsSpan.{IsSpan}
-use Rattle.snippet_lines.specs.declared.place.Loc.{Loc}
-use Rattle.snippet_model.specs.declared.snippet.Patch.{Patch}
-use Rattle.snippet_model.specs.declared.snippet.Snippet.{Snippet}
-use Rattle.snippet_splice.specs.Edits.{Edit}
-use Rattle.snippet_splice.specs.TrimmedEdits.{trimmed_edit_of}
-use Rattle.snippet_splice.specs.declared.patches.TrimmedPatch.{TrimmedPatch}
-use Rattle.snippet_suggest.specs.Given.{trimmed_of}
-use Rattle.snippet_parts.specs.Numbered.{numbered_source}
-use Rattle.snippet_suggest.specs.Kind.{is_blank_text}
-use Rattle.snippet_suggest.specs.PreparedSuggestion.{IsPrepared}
-use Rattle.snippet_suggest.specs.declared.PreparedSuggestion.{PreparedSuggestion}
-use Rattle.snippet_text_form.specs.Cause.{column_unless}
-use Rattle.snippet_text_form.specs.Form.{FormPiece, Break}
-use Rattle.snippet_text_form.specs.Position.{place}
-use Rattle.snippet_text_form.specs.Suggestion.{edit_form, edit_indent, edit_place, replaces_whole_line, named_path, option_form, overwrites, replaced_to}
-use Rattle.snippet_text_form.specs.Suggestion.{replaces, suggestion_form}
-use Rattle.snippet_text_form.specs.declared.suggestion.SuggestionContext.{SuggestionContext}
-use Rattle.snippet_text_form.specs.declared.suggestion.SuggestionSettings.{SuggestionSettings}
+use Rattle.snippet_text_form.proofs.Common.{◌≡◌, ℕ, ◌+◌, ◌<◌, Bool, true, false, not, Option, Some, List, [], ◌∷◌, ◌++◌, get_or}
+use Rattle.snippet_text_form.proofs.Common.{length, map, take, sym, ap, subst, ◌∙◌, and_from, cond-false, cond-true, flat_map_more, map_more}
+use Rattle.snippet_text_form.proofs.Common.{cow_str_bytes, flat_map, option_map, Source, IsSpan, Loc, Patch, Snippet, Edit, trimmed_edit_of, TrimmedPatch}
+use Rattle.snippet_text_form.proofs.Common.{trimmed_of, numbered_source, is_blank_text, IsPrepared, PreparedSuggestion, column_unless, FormPiece, Break, place}
+use Rattle.snippet_text_form.proofs.Common.{edit_form, edit_indent, edit_place, replaces_whole_line, named_path, option_form, overwrites, replaced_to, replaces}
+use Rattle.snippet_text_form.proofs.Common.{suggestion_form, SuggestionContext, SuggestionSettings}
 use Rattle.snippet_text_form.proofs.AddedLemmas.{added-two}
 
 -- a text on a line of its own

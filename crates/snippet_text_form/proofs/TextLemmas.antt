@@ -1,6 +1,6 @@
 -- The characters of texts that the library itself writes.
-use Rattle.std.proofs.Common.{◌≡◌, ◌∷◌, [], codes, chars, refl}
-use Rattle.std.proofs.lemmas.Str.{chars-encodes}
+use Rattle.snippet_text_form.proofs.Common.{◌≡◌, ◌∷◌, [], codes, refl, chars-encodes}
+use Rattle.std.proofs.Common.{chars}
 
 -- the characters of the bytes that the code writes for a space
 pub chars-space : chars (32 ∷ []) ≡ codes " "

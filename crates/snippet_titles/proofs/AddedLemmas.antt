@@ -1,14 +1,6 @@
 -- What the rows of a heading show, where they are added to a grid.
-use Rattle.std.proofs.Common.{◌≡◌, ℕ, Bool, List, [], ◌++◌, length, drop, get_or, All, sym, subst, ap, ◌∙◌}
-use Rattle.std.proofs.Math.Seq.{drop-append_seam}
-use Rattle.snippet_grid.specs.Grid.{row_at}
-use Rattle.snippet_style.specs.Cell.{Cell}
-use Rattle.snippet_grid.specs.Print.{row_text}
-use Rattle.snippet_model.specs.Heading.{Heading}
-use Rattle.snippet_titles.specs.declared.style.TitleStyle.{TitleStyle}
-use Rattle.snippet_titles.specs.HeadingRows.{heading_rows}
-use Rattle.snippet_titles.specs.ShownHeading.{IsFreeButText, heading_texts}
-use Rattle.snippet_titles.specs.LinkedId.{LinksId}
+use Rattle.snippet_titles.proofs.Common.{◌≡◌, ℕ, Bool, List, [], ◌++◌, length, drop, get_or, All, sym, subst, ap, ◌∙◌, drop-append_seam}
+use Rattle.snippet_titles.proofs.Common.{row_at, Cell, row_text, Heading, TitleStyle, heading_rows, IsFreeButText, heading_texts, LinksId}
 use Rattle.snippet_titles.proofs.FreeLemmas.{heading_rows-free}
 use Rattle.snippet_titles.proofs.PlaceLemmas.{heading_rows-places}
 use Rattle.snippet_titles.proofs.TextLemmas.{heading_rows-texts}

@@ -1,22 +1,12 @@
 -- What a grid becomes where cells are added after those of a row.
-use Rattle.std.proofs.Common.{◌≡◌, ◌≢◌, ℕ, ◌+◌, ◌-◌, ◌^◌, ◌<◌, ◌≤◌, max, map, set, List, [], ◌∷◌, ◌++◌, length, take, drop, get_or, Option, None, Some, refl}
-use Rattle.std.proofs.Common.{sym, ap, ◌∙◌, arith, inl, inr}
-use Rattle.std.specs.Str.{chars, IsUtf8}
-use Rattle.std.proofs.lemmas.Str.{chars-nil, encodes-chars}
-use Rattle.std.proofs.Math.Utf8.{encodes}
-use Rattle.std.proofs.lemmas.Bool.{cases_eq, cases_lt}
-use Rattle.std.proofs.lemmas.List.{append-nil, append_assoc, get_or-set_same, get_or-set_other, set-get_or, length-append, length-drop, length-set, places}
-use Rattle.std.proofs.lemmas.List.{same_lists, take_all}
-use Rattle.std.proofs.Math.Seq.{take-append_seam, drop-append_seam}
-use Rattle.std.proofs.Math.ListN.{drop_of_length-le}
-use Rattle.snippet_grid.specs.Grid.{linked, row_at, cells_written, changed_within}
-use Rattle.snippet_grid.specs.Calls.{cells_linked}
-use Rattle.snippet_style.specs.Cell.{Cell, SPACE, text_cells, written}
-use Rattle.snippet_style.specs.declared.role.ElementStyle.{ElementStyle}
-use Rattle.snippet_style.proofs.CellLemmas.{slice_index_or-written_inside, length-written, written_end}
-use Rattle.snippet_grid.proofs.ChangeLemmas.{changed_within_none, changed_within_one}
-use Rattle.snippet_titles.specs.Appended.{appended, linked_from}
-use Rattle.snippet_titles.specs.HeadingRows.{linked_to}
+use Rattle.snippet_titles.proofs.Common.{◌≡◌, ◌≢◌, ℕ, ◌+◌, ◌-◌, ◌^◌, ◌<◌, ◌≤◌, max, map, set, List, [], ◌∷◌, ◌++◌}
+use Rattle.snippet_titles.proofs.Common.{length, take, drop, get_or, Option, None, Some, refl, sym, ap, ◌∙◌, arith, inl, inr, IsUtf8, chars-nil}
+use Rattle.snippet_titles.proofs.Common.{encodes-chars, encodes, cases_eq, cases_lt, append-nil, append_assoc, get_or-set_same, get_or-set_other, set-get_or}
+use Rattle.snippet_titles.proofs.Common.{length-append, length-drop, length-set, places, same_lists, take_all, take-append_seam, drop-append_seam}
+use Rattle.snippet_titles.proofs.Common.{drop_of_length-le, linked, row_at, cells_written, changed_within, cells_linked, Cell, SPACE, text_cells, written}
+use Rattle.snippet_titles.proofs.Common.{ElementStyle, slice_index_or-written_inside, length-written, written_end, changed_within_none, changed_within_one}
+use Rattle.snippet_titles.proofs.Common.{appended, linked_from, linked_to}
+use Rattle.std.specs.Str.{chars}
 
 -- a text, by its characters, after a row's cells
 pub appended_text : (old new : List (List Cell)) (row : ℕ) (role : ElementStyle) (text : List ℕ) → IsUtf8 text

@@ -1,8 +1,7 @@
 -- What a number is written with.
-use Rattle.std.proofs.Common.{◌≡◌, ℕ, zero, suc, ◌/◌, ◌%◌, ◌≤◌, ◌==◌, Bool, true, false, List, [], ◌∷◌, All, refl, arith}
-use Rattle.std.proofs.lemmas.Bool.Decides.{nat_tests}
-use Rattle.std.proofs.lemmas.List.Elements.{All-nil, All-cons}
-use Rattle.std.specs.Fmt.{decimal, digits, digits_onto, digit_glyph}
+use Rattle.snippet_titles.proofs.Common.{◌≡◌, ℕ, zero, suc, ◌/◌, ◌%◌, ◌≤◌, ◌==◌, Bool, true, false, List, [], ◌∷◌, All, refl}
+use Rattle.snippet_titles.proofs.Common.{arith, nat_tests, All-nil, All-cons, decimal, digits_onto, digit_glyph}
+use Rattle.std.specs.Fmt.{digits}
 
 -- an ASCII digit
 abbrev pub IsDigit : ℕ → Type 0

@@ -1,12 +1,7 @@
 -- Rows that are drawn below all others.
-use Rattle.std.proofs.Common.{◌≡◌, ℕ, suc, ◌+◌, ◌-◌, ◌<◌, ◌≤◌, List, [], ◌∷◌, ◌++◌, length, take, replicate, refl, sym, ap, ◌∙◌, arith, inl, inr}
-use Rattle.std.proofs.lemmas.Bool.{cases_lt}
-use Rattle.std.proofs.lemmas.List.{append-nil, append_assoc, get_or_past, length-append, length-take, places, same_lists}
-use Rattle.std.proofs.Math.Seq.{take-append_seam}
-use Rattle.snippet_grid.specs.Grid.{row_at}
-use Rattle.snippet_style.specs.Cell.{Cell, written}
-use Rattle.snippet_titles.specs.Appended.{IsAtEnd, appended}
-use Rattle.snippet_titles.specs.HeadingRows.{on_top, without_empty_end}
+use Rattle.snippet_titles.proofs.Common.{◌≡◌, ℕ, suc, ◌+◌, ◌-◌, ◌<◌, ◌≤◌, List, [], ◌∷◌, ◌++◌, length, take, replicate}
+use Rattle.snippet_titles.proofs.Common.{refl, sym, ap, ◌∙◌, arith, inl, inr, cases_lt, append-nil, append_assoc, get_or_past, length-append, length-take}
+use Rattle.snippet_titles.proofs.Common.{places, same_lists, take-append_seam, row_at, Cell, written, IsAtEnd, appended, on_top, without_empty_end}
 use Rattle.snippet_titles.proofs.AppendLemmas.{appended-appended, appended-is}
 
 -- an empty row at the end isn't there

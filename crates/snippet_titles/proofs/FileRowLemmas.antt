@@ -1,26 +1,11 @@
 -- What a grid becomes where a row is begun with a glyph after the gutter.
-use Rattle.std.proofs.Common.{◌≡◌, ℕ, ◌+◌, ◌<◌, List, [], ◌∷◌, ◌++◌, length, chars, sym, ap, ◌∙◌, arith}
-use Rattle.std.proofs.Math.Seq.{get_or-append_seam}
-use Rattle.std.proofs.lemmas.List.{append-nil}
-use Rattle.snippet_text.specs.Normalized.{norm}
-use Rattle.snippet_titles.specs.Appended.{appended}
+use Rattle.snippet_titles.proofs.Common.{◌≡◌, ℕ, ◌+◌, ◌<◌, List, [], ◌∷◌, ◌++◌, length, sym, ap, ◌∙◌, arith, get_or-append_seam}
+use Rattle.snippet_titles.proofs.Common.{append-nil, norm, appended, DecorStyle, Ascii, Unicode, LineAndColumn, LineNumber, closing_of, cells_written, Cell}
+use Rattle.snippet_titles.proofs.Common.{SPACE, text_cells, FileStart, Alone, First, Later, Secondary, OriginLocation, OriginLayout, file_glyph, file_row}
+use Rattle.snippet_titles.proofs.Common.{line_text, origin_row, origin_text, closing_row, cells_written_last, text_cells-append, written_end, begun_by_text}
+use Rattle.std.proofs.Common.{chars}
 use Rattle.snippet_titles.proofs.RowLemmas.{appended-two}
-use Rattle.snippet_style.specs.declared.glyphs.DecorStyle.{DecorStyle}
-use Rattle.snippet_style.specs.declared.glyphs.DecorStyle.TheVariants.{Ascii, Unicode}
-use Rattle.snippet_style.specs.declared.role.ElementStyle.TheVariants.{LineAndColumn, LineNumber}
-use Rattle.snippet_style.specs.Glyphs.{closing_of}
-use Rattle.snippet_grid.specs.Grid.{cells_written}
-use Rattle.snippet_style.specs.Cell.{Cell, SPACE, text_cells}
-use Rattle.snippet_titles.specs.declared.origin.FileStart.{FileStart}
-use Rattle.snippet_titles.specs.declared.origin.FileStart.TheVariants.{Alone, First, Later, Secondary}
-use Rattle.snippet_titles.specs.declared.origin.OriginLocation.{OriginLocation}
-use Rattle.snippet_titles.specs.declared.origin.OriginLayout.{OriginLayout}
-use Rattle.snippet_titles.specs.Origin.{file_glyph, file_row, line_text, origin_row, origin_text}
-use Rattle.snippet_style.specs.Separators.{closing_row}
-use Rattle.snippet_grid.proofs.GridLemmas.{cells_written_last}
-use Rattle.snippet_style.proofs.CellLemmas.{text_cells-append, written_end}
 use Rattle.snippet_style.proofs.RowLemmas.{closing_some as closing-some}
-use Rattle.snippet_grid.proofs.RowLemmas.{begun_by_text}
 pub use Rattle.snippet_grid.proofs.RowLemmas.{separator_row-begun}
 
 -- no glyph is empty

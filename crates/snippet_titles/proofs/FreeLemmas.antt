@@ -1,36 +1,16 @@
 -- A heading's rows hold no listed character but those of a trusted text.
-use Rattle.std.proofs.Common.{◌≡◌, ℕ, ◌==◌, ◌+◌, ◌&&◌, if◌then◌else◌, not, codes, Bool, true, false, List, [], ◌∷◌, ◌++◌, map, replicate, chars, All, Option}
-use Rattle.std.proofs.Common.{None, Some, refl, sym, subst}
-use Rattle.std.specs.List.{slice_split, onto_first, Contains}
-use Rattle.std.proofs.lemmas.List.{get_or_default}
-use Rattle.std.proofs.lemmas.List.Elements.{All-nil, All-cons, All-head, All-tail, All-append, All-from_get_or, All-map, All-replicate, All-weaker}
-use Rattle.std.proofs.lemmas.List.Splits.{slice_split-cons_yes, slice_split-cons_no}
-use Rattle.std.specs.Cow.{cow_str_bytes}
-use Rattle.std.specs.Option.{option_map}
-use Rattle.snippet_style.specs.declared.glyphs.DecorStyle.{DecorStyle}
-use Rattle.snippet_style.specs.declared.glyphs.DecorStyle.TheVariants.{Ascii, Unicode}
-use Rattle.snippet_style.specs.declared.role.ElementStyle.{ElementStyle}
-use Rattle.snippet_style.specs.declared.role.ElementStyle.TheVariants.{LineNumber}
-use Rattle.snippet_style.specs.Cell.{Cell, SPACE, text_cells}
-use Rattle.snippet_grid.specs.Print.{row_text}
-use Rattle.snippet_text.specs.Normalized.{norm, is_listed}
-use Rattle.snippet_text.proofs.NormLemmas.{list_any-norm}
-use Rattle.snippet_model.specs.declared.snippet.Id.{Id}
-use Rattle.snippet_model.specs.Heading.{Heading, is_hidden}
-use Rattle.snippet_model.specs.Level.{name_of}
-use Rattle.snippet_titles.specs.declared.style.HeadingRoles.{HeadingRoles}
-use Rattle.snippet_titles.specs.declared.style.TitleStyle.{TitleStyle}
-use Rattle.snippet_titles.specs.declared.style.TitleStyle.TheVariants.{Title, Short, Message}
-use Rattle.snippet_titles.specs.HeadingRows.{bracketed_text, closing_bracket_of, colon_of, shown_text, heading_lines, heading_rows, id_text, indent_cells}
-use Rattle.snippet_titles.specs.HeadingRows.{is_set}
-use Rattle.snippet_titles.specs.HeadingRows.{label_cells, heading_label_text, label_width, lines_below, note_bar_of, on_top, opening_bracket_of, roles_of}
-use Rattle.snippet_titles.specs.HeadingRows.{sign_cells, without_empty_end}
-use Rattle.snippet_style.specs.Glyphs.{note_sign_of}
-use Rattle.snippet_titles.specs.ShownHeading.{IsFreeButText}
+use Rattle.snippet_titles.proofs.Common.{◌≡◌, ℕ, ◌==◌, ◌+◌, ◌&&◌, if◌then◌else◌, not, codes, Bool, true, false, List, [], ◌∷◌}
+use Rattle.snippet_titles.proofs.Common.{◌++◌, map, replicate, All, Option, None, Some, refl, sym, subst, slice_split, onto_first, Contains, get_or_default}
+use Rattle.snippet_titles.proofs.Common.{All-nil, All-cons, All-head, All-tail, All-append, All-from_get_or, All-map, All-replicate, All-weaker}
+use Rattle.snippet_titles.proofs.Common.{slice_split-cons_yes, slice_split-cons_no, cow_str_bytes, option_map, DecorStyle, Ascii, Unicode, ElementStyle}
+use Rattle.snippet_titles.proofs.Common.{LineNumber, Cell, SPACE, text_cells, row_text, norm, is_listed, list_any-norm, Id, Heading, is_hidden, name_of}
+use Rattle.snippet_titles.proofs.Common.{HeadingRoles, TitleStyle, Title, Short, Message, bracketed_text, closing_bracket_of, colon_of, shown_text}
+use Rattle.snippet_titles.proofs.Common.{heading_lines, heading_rows, id_text, indent_cells, is_set, label_cells, heading_label_text, label_width, lines_below}
+use Rattle.snippet_titles.proofs.Common.{note_bar_of, on_top, opening_bracket_of, roles_of, sign_cells, without_empty_end, note_sign_of, IsFreeButText}
+use Rattle.snippet_titles.proofs.Common.{separator_of, row_text-text_cells}
+use Rattle.std.proofs.Common.{chars}
 use Rattle.snippet_titles.proofs.TextLemmas.{row_text-append, row_text-after, row_text-label, row_text-spaces}
 use Rattle.snippet_model.proofs.RowLemmas.{each_fails as fails_each}
-use Rattle.snippet_style.specs.Glyphs.{separator_of}
-use Rattle.snippet_grid.proofs.RowLemmas.{row_text-text_cells}
 
 -- a character that isn't listed
 abbrev pub IsUnlisted : ℕ → Type 0

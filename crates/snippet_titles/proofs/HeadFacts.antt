@@ -1,40 +1,19 @@
 -- What holds of each row that a snippet begins with, of the text in the row of a path, and of each row of a message.
-use Rattle.std.proofs.Common.{◌≡◌, ℕ, ◌+◌, ◌<◌, Bool, true, false, Option, None, Some, List, [], ◌∷◌, ◌++◌, All, length, map, drop, replicate, chars, refl, sym}
-use Rattle.std.proofs.Common.{ap, subst, ◌∙◌, arith}
-use Rattle.std.specs.Char.{is_ascii_alphanumeric}
-use Rattle.std.proofs.lemmas.List.{length-append, length-replicate, get_or_append_left}
-use Rattle.std.proofs.lemmas.List.Elements.{All-nil, All-cons, All-append, All-replicate, All-get_or}
-use Rattle.snippet_style.specs.declared.glyphs.DecorStyle.{DecorStyle}
-use Rattle.snippet_style.specs.declared.glyphs.DecorStyle.TheVariants.{Ascii, Unicode}
-use Rattle.snippet_style.specs.declared.role.ElementStyle.{ElementStyle}
-use Rattle.snippet_style.specs.declared.role.ElementStyle.TheVariants.{LineAndColumn, LineNumber}
-use Rattle.snippet_style.specs.Cell.{Cell, SPACE, text_cells}
-use Rattle.snippet_grid.specs.Print.{row_text}
-use Rattle.snippet_text.specs.Normalized.{norm}
-use Rattle.snippet_model.specs.declared.snippet.Id.{Id}
-use Rattle.snippet_model.specs.Heading.{Heading, is_hidden}
-use Rattle.snippet_model.specs.Level.{name_of}
-use Rattle.snippet_titles.specs.declared.origin.FileStart.{FileStart}
-use Rattle.snippet_titles.specs.declared.origin.FileStart.TheVariants.{Alone, First, Later, Secondary}
-use Rattle.snippet_titles.specs.declared.origin.OriginLocation.{OriginLocation}
-use Rattle.snippet_titles.specs.declared.origin.OriginLayout.{OriginLayout}
-use Rattle.snippet_titles.specs.declared.style.HeadingRoles.{HeadingRoles}
-use Rattle.snippet_titles.specs.declared.style.MessageContext.{MessageContext}
-use Rattle.snippet_titles.specs.declared.style.TitleStyle.{TitleStyle}
-use Rattle.snippet_titles.specs.declared.style.TitleStyle.TheVariants.{Message}
-use Rattle.snippet_titles.specs.HeadingRows.{colon_of, heading_lines, heading_rows, id_cells, indent_cells, label_cells, label_width, lines_below, note_bar_of}
-use Rattle.snippet_titles.specs.HeadingRows.{roles_of, sign_cells}
-use Rattle.snippet_style.specs.Glyphs.{note_sign_of}
-use Rattle.snippet_titles.specs.Origin.{file_glyph, file_row, origin_row, origin_text, primary_start, snippet_head}
-use Rattle.snippet_style.specs.Separators.{separator_row}
+use Rattle.snippet_titles.proofs.Common.{◌≡◌, ℕ, ◌+◌, ◌<◌, Bool, true, false, Option, None, Some, List, [], ◌∷◌, ◌++◌, All, length}
+use Rattle.snippet_titles.proofs.Common.{map, drop, replicate, refl, sym, ap, subst, ◌∙◌, arith, is_ascii_alphanumeric, length-append, length-replicate}
+use Rattle.snippet_titles.proofs.Common.{get_or_append_left, All-nil, All-cons, All-append, All-replicate, All-get_or, DecorStyle, Ascii, Unicode, ElementStyle}
+use Rattle.snippet_titles.proofs.Common.{LineAndColumn, LineNumber, Cell, SPACE, text_cells, row_text, norm, Id, Heading, is_hidden, name_of, FileStart, Alone}
+use Rattle.snippet_titles.proofs.Common.{First, Later, Secondary, OriginLocation, OriginLayout, HeadingRoles, MessageContext, TitleStyle, Message, colon_of}
+use Rattle.snippet_titles.proofs.Common.{heading_lines, heading_rows, id_cells, indent_cells, label_cells, label_width, lines_below, note_bar_of, roles_of}
+use Rattle.snippet_titles.proofs.Common.{sign_cells, note_sign_of, file_glyph, file_row, origin_row, origin_text, primary_start, snippet_head, separator_row}
+use Rattle.snippet_titles.proofs.Common.{HasNoNumber, IsFree, row_text-text_cells}
+use Rattle.std.proofs.Common.{chars}
 use Rattle.snippet_titles.proofs.FreeLemmas.{All-trimmed}
 use Rattle.snippet_titles.proofs.HeadLemmas.{nameless_head-each, primary_head-each, secondary_head-each}
 use Rattle.snippet_titles.proofs.LinkLemmas.{IsUnlinked, drawn_unlinked, indent_unlinked, sign_unlinked}
-use Rattle.snippet_model.specs.FreeRows.{HasNoNumber, IsFree}
 use Rattle.snippet_titles.proofs.OriginFree.{file_row-free, origin_row-free, separator_row-free}
 use Rattle.snippet_titles.proofs.OriginNumbers.{IsPlain, file_row-unnumbered, origin_row-unnumbered, separator_row-unnumbered}
 use Rattle.snippet_titles.proofs.OriginRowText.{origin_row-after}
-use Rattle.snippet_grid.proofs.RowLemmas.{row_text-text_cells}
 
 -- what a primary snippet without a path begins with
 abbrev pub opening_rows : DecorStyle → OriginLayout → Bool → List (List Cell)

@@ -1,13 +1,6 @@
 -- What holds of the rows of paths, and of separator rows, holds of each row that a snippet begins with.
-use Rattle.std.proofs.Common.{ℕ, Bool, true, false, Some, List, [], ◌∷◌, All}
-use Rattle.std.proofs.lemmas.List.Elements.{All-nil, All-cons}
-use Rattle.snippet_style.specs.Cell.{Cell}
-use Rattle.snippet_titles.specs.declared.origin.FileStart.{FileStart}
-use Rattle.snippet_titles.specs.declared.origin.FileStart.TheVariants.{First, Later, Secondary}
-use Rattle.snippet_titles.specs.declared.origin.OriginLocation.{OriginLocation}
-use Rattle.snippet_titles.specs.declared.origin.OriginLayout.{OriginLayout}
-use Rattle.snippet_titles.specs.Origin.{file_row, origin_row, snippet_head}
-use Rattle.snippet_style.specs.Separators.{separator_row}
+use Rattle.snippet_titles.proofs.Common.{ℕ, Bool, true, false, Some, List, [], ◌∷◌, All, All-nil, All-cons, Cell, FileStart, First, Later, Secondary}
+use Rattle.snippet_titles.proofs.Common.{OriginLocation, OriginLayout, file_row, origin_row, snippet_head, separator_row}
 
 module _ (P : List Cell → Type 0) (layout : OriginLayout) (separator : P (separator_row layout.base.decor layout.base.gutter)) where
   -- a separator row after others

@@ -1,20 +1,9 @@
 -- A heading's rows, from what is drawn of them.
-use Rattle.std.proofs.Common.{◌≡◌, ℕ, List, [], ◌++◌, All, length, map, take, Bool, true, false, if◌then◌else◌, refl, sym, ap, ◌∙◌, arith}
-use Rattle.std.specs.Str.{chars, IsUtf8}
-use Rattle.std.proofs.lemmas.List.{get_or_past}
-use Rattle.snippet_grid.specs.Grid.{row_at}
-use Rattle.snippet_style.specs.Cell.{Cell}
-use Rattle.snippet_style.specs.declared.role.ElementStyle.{ElementStyle}
-use Rattle.snippet_model.specs.declared.level.Level.{Level}
-use Rattle.snippet_model.specs.Heading.{Heading}
-use Rattle.snippet_text.specs.Normalized.{norm}
-use Rattle.snippet_text.specs.Plain.{IsPlain}
-use Rattle.snippet_text.proofs.PlainLemmas.{norm-plain}
-use Rattle.snippet_titles.specs.declared.style.HeadingRoles.{HeadingRoles}
-use Rattle.snippet_titles.specs.declared.style.TitleStyle.{TitleStyle}
-use Rattle.snippet_titles.specs.Appended.{IsAtEnd, appended}
-use Rattle.snippet_titles.specs.HeadingRows.{heading_lines, heading_rows, indent_cells, label_cells, label_width, lines_below, roles_of, sign_cells}
-use Rattle.snippet_titles.specs.HeadingRows.{without_empty_end}
+use Rattle.snippet_titles.proofs.Common.{◌≡◌, ℕ, List, [], ◌++◌, All, length, map, take, Bool, true, false, if◌then◌else◌, refl, sym, ap}
+use Rattle.snippet_titles.proofs.Common.{◌∙◌, arith, IsUtf8, get_or_past, row_at, Cell, ElementStyle, Level, Heading, norm, IsPlain, norm-plain}
+use Rattle.snippet_titles.proofs.Common.{HeadingRoles, TitleStyle, IsAtEnd, appended, heading_lines, heading_rows, indent_cells, label_cells, label_width}
+use Rattle.snippet_titles.proofs.Common.{lines_below, roles_of, sign_cells, without_empty_end}
+use Rattle.std.specs.Str.{chars}
 use Rattle.snippet_titles.proofs.AppendLemmas.{row_at-appended}
 use Rattle.snippet_titles.proofs.EndLemmas.{IsAtEnd-begun}
 use Rattle.snippet_titles.proofs.RowLemmas.{appended-two}

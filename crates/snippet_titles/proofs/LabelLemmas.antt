@@ -1,25 +1,10 @@
 -- A heading's label: its cells, its characters, and the columns that they take.
-use Rattle.std.proofs.Common.{◌≡◌, ℕ, ◌+◌, ◌^◌, ◌<◌, Bool, true, false, Option, Some, List, ◌++◌, length, chars, sym, ap, ◌∙◌, arith}
-use Rattle.std.specs.Cow.{cow_str_bytes}
-use Rattle.std.specs.Option.{option_map}
-use Rattle.std.proofs.lemmas.List.{length-append}
-use Rattle.std.proofs.lemmas.List.Sums.{sum_by-append}
-use Rattle.snippet_grid.specs.Grid.{row_at}
-use Rattle.snippet_style.specs.Cell.{Cell, text_cells}
-use Rattle.snippet_style.specs.declared.role.ElementStyle.{ElementStyle}
-use Rattle.snippet_style.proofs.CellLemmas.{length-text_cells, length-chars_le}
-use Rattle.snippet_text.specs.Normalized.{norm}
-use Rattle.snippet_text.specs.Width.{char_width, width_of}
-use Rattle.snippet_text.proofs.NormLemmas.{length-norm, width_of-norm}
-use Rattle.snippet_text.proofs.WidthLemmas.{width_of-opening, width_of-closing}
-use Rattle.snippet_model.specs.declared.level.Level.{Level}
-use Rattle.snippet_model.specs.declared.snippet.Id.{Id}
-use Rattle.snippet_model.specs.Fits.{LevelFits}
-use Rattle.snippet_model.specs.Heading.{Heading, is_hidden}
-use Rattle.snippet_model.specs.Level.{name_of}
-use Rattle.snippet_titles.specs.declared.style.HeadingRoles.{HeadingRoles}
-use Rattle.snippet_titles.specs.Appended.{appended}
-use Rattle.snippet_titles.specs.HeadingRows.{bracketed_text, closing_bracket_of, colon_of, id_cells, id_text, label_cells, opening_bracket_of}
+use Rattle.snippet_titles.proofs.Common.{◌≡◌, ℕ, ◌+◌, ◌^◌, ◌<◌, Bool, true, false, Option, Some, List, ◌++◌, length, sym, ap, ◌∙◌}
+use Rattle.snippet_titles.proofs.Common.{arith, cow_str_bytes, option_map, length-append, sum_by-append, row_at, Cell, text_cells, ElementStyle}
+use Rattle.snippet_titles.proofs.Common.{length-text_cells, length-chars_le, norm, char_width, width_of, length-norm, width_of-norm, width_of-opening}
+use Rattle.snippet_titles.proofs.Common.{width_of-closing, Level, Id, LevelFits, Heading, is_hidden, name_of, HeadingRoles, appended, bracketed_text}
+use Rattle.snippet_titles.proofs.Common.{closing_bracket_of, colon_of, id_cells, id_text, label_cells, opening_bracket_of}
+use Rattle.std.proofs.Common.{chars}
 use Rattle.snippet_titles.proofs.AppendLemmas.{row_at-appended}
 use Rattle.snippet_titles.proofs.RowLemmas.{appended-three}
 

@@ -1,19 +1,9 @@
 -- The rows of a text's lines.
-use Rattle.std.proofs.Common.{◌≡◌, ◌≢◌, ℕ, ◌+◌, ◌<◌, ◌==◌, false, List, [], ◌∷◌, ◌++◌, length, map, take, get_or, All, refl, sym, ap, ◌∙◌, arith}
-use Rattle.std.specs.Borrow.{Bor}
-use Rattle.std.specs.List.{enumerate_from}
+use Rattle.snippet_titles.proofs.Common.{◌≡◌, ◌≢◌, ℕ, ◌+◌, ◌<◌, ◌==◌, false, List, [], ◌∷◌, ◌++◌, length, map, take, get_or}
+use Rattle.snippet_titles.proofs.Common.{All, refl, sym, ap, ◌∙◌, arith, Bor, enumerate_from, nat_tests, get_or_past, length-append, length-map}
+use Rattle.snippet_titles.proofs.Common.{length-take, map-append, get_or-enumerate_from, length-enumerate_from, slice_split_none, slice_split_at}
+use Rattle.snippet_titles.proofs.Common.{All-from_get_or, row_at, Cell, text_cells, ElementStyle, IsPlain, IsAtEnd, appended, lines_below, without_empty_end}
 use Rattle.std.specs.Str.{chars}
-use Rattle.std.proofs.lemmas.Bool.Decides.{nat_tests}
-use Rattle.std.proofs.lemmas.List.{get_or_past, length-append, length-map, length-take, map-append}
-use Rattle.std.proofs.lemmas.List.FromFn.{get_or-enumerate_from, length-enumerate_from}
-use Rattle.std.proofs.lemmas.List.Splits.{slice_split_none, slice_split_at}
-use Rattle.std.proofs.lemmas.List.Elements.{All-from_get_or}
-use Rattle.snippet_grid.specs.Grid.{row_at}
-use Rattle.snippet_style.specs.Cell.{Cell, text_cells}
-use Rattle.snippet_style.specs.declared.role.ElementStyle.{ElementStyle}
-use Rattle.snippet_text.specs.Plain.{IsPlain}
-use Rattle.snippet_titles.specs.Appended.{IsAtEnd, appended}
-use Rattle.snippet_titles.specs.HeadingRows.{lines_below, without_empty_end}
 use Rattle.snippet_titles.proofs.SplitLemmas.{lines_at}
 use Rattle.snippet_titles.proofs.EndLemmas.{IsAtEnd-more, appended-further, refilled}
 

@@ -1,34 +1,14 @@
 -- A heading's rows link to the address of its id, and to no other.
-use Rattle.std.proofs.Common.{◌≡◌, ℕ, ◌+◌, ◌<◌, ◌==◌, Bool, true, false, Option, None, Some, List, [], ◌∷◌, ◌++◌, map, length, replicate, chars, All, refl, ap}
-use Rattle.std.proofs.Common.{◌∙◌, arith}
-use Rattle.std.specs.Cow.{cow_str_bytes}
-use Rattle.std.specs.declared.alloc.Global.{Global}
-use Rattle.std.specs.declared.borrow.CowStr.{CowStr}
-use Rattle.std.proofs.lemmas.Cmp.{nat_list_eq_equiv}
-use Rattle.std.proofs.lemmas.List.{append-nil}
-use Rattle.std.proofs.lemmas.List.Elements.{All-nil, All-append, All-cons, All-head, All-tail, All-replicate}
-use Rattle.std.proofs.lemmas.List.Splits.{length-slice_split}
-use Rattle.snippet_style.specs.declared.glyphs.DecorStyle.{DecorStyle}
-use Rattle.snippet_style.specs.declared.glyphs.DecorStyle.TheVariants.{Ascii, Unicode}
-use Rattle.snippet_grid.specs.Grid.{linked}
-use Rattle.snippet_style.specs.Cell.{Cell, SPACE, text_cells}
-use Rattle.snippet_grid.specs.Woven.{link_begun, links_after, links_of}
-use Rattle.snippet_style.specs.declared.role.ElementStyle.{ElementStyle}
-use Rattle.snippet_style.specs.declared.role.ElementStyle.TheVariants.{LineNumber}
-use Rattle.snippet_text.specs.Normalized.{norm}
-use Rattle.snippet_model.specs.declared.snippet.Id.{Id}
+use Rattle.snippet_titles.proofs.Common.{◌≡◌, ℕ, ◌+◌, ◌<◌, ◌==◌, Bool, true, false, Option, None, Some, List, [], ◌∷◌, ◌++◌, map}
+use Rattle.snippet_titles.proofs.Common.{length, replicate, All, refl, ap, ◌∙◌, arith, cow_str_bytes, Global, CowStr, nat_list_eq_equiv, append-nil}
+use Rattle.snippet_titles.proofs.Common.{All-nil, All-append, All-cons, All-head, All-tail, All-replicate, length-slice_split, DecorStyle, Ascii, Unicode}
+use Rattle.snippet_titles.proofs.Common.{linked, Cell, SPACE, text_cells, link_begun, links_after, links_of, ElementStyle, LineNumber, norm, Id, Heading}
+use Rattle.snippet_titles.proofs.Common.{heading_of_title, is_hidden, name_of, HeadingRoles, TitleStyle, Title, Short, Message, address_of, bracketed_cells}
+use Rattle.snippet_titles.proofs.Common.{closing_bracket_of, colon_of, shown_text, heading_lines, heading_rows, id_cells, indent_cells, label_cells}
+use Rattle.snippet_titles.proofs.Common.{label_width, lines_below, linked_to, note_bar_of, on_top, opening_bracket_of, roles_of, sign_cells, without_empty_end}
+use Rattle.snippet_titles.proofs.Common.{note_sign_of, id_links, text_links, title_rows}
+use Rattle.std.proofs.Common.{chars}
 use Rattle.snippet_model.specs.declared.snippet.Title as the_title
-use Rattle.snippet_model.specs.Heading.{Heading, heading_of_title, is_hidden}
-use Rattle.snippet_model.specs.Level.{name_of}
-use Rattle.snippet_titles.specs.declared.style.HeadingRoles.{HeadingRoles}
-use Rattle.snippet_titles.specs.declared.style.TitleStyle.{TitleStyle}
-use Rattle.snippet_titles.specs.declared.style.TitleStyle.TheVariants.{Title, Short, Message}
-use Rattle.snippet_titles.specs.HeadingRows.{address_of, bracketed_cells, closing_bracket_of, colon_of, shown_text, heading_lines, heading_rows, id_cells}
-use Rattle.snippet_titles.specs.HeadingRows.{indent_cells, label_cells, label_width, lines_below, linked_to, note_bar_of, on_top, opening_bracket_of, roles_of}
-use Rattle.snippet_titles.specs.HeadingRows.{sign_cells, without_empty_end}
-use Rattle.snippet_style.specs.Glyphs.{note_sign_of}
-use Rattle.snippet_titles.specs.Title.{id_links, text_links}
-use Rattle.snippet_titles.specs.PrintedHeading.{title_rows}
 
 -- a cell that links to nothing
 abbrev pub IsUnlinked : Cell → Type 0

@@ -1,16 +1,8 @@
 -- Names of levels that are drawn as they are.
-use Rattle.std.proofs.Common.{◌≡◌, ◌∙◌, ℕ, List, [], ap, codes, refl, sym}
+use Rattle.snippet_titles.proofs.Common.{◌≡◌, ◌∙◌, ℕ, List, [], ap, codes, refl, sym, name_of, standard_name_of, Level, LevelName, Hidden}
+use Rattle.snippet_titles.proofs.Common.{Standard, LevelInner, Error, Help, Info, Note, Warning, norm-unlisted, norm}
 use Rattle.std.specs.Str.{chars}
-use Rattle.snippet_model.specs.Level.{name_of}
 use Rattle.snippet_model.specs.Level as level
-use Rattle.snippet_model.specs.StandardName.{standard_name_of}
-use Rattle.snippet_model.specs.declared.level.Level.{Level}
-use Rattle.snippet_model.specs.declared.level.LevelName.{LevelName}
-use Rattle.snippet_model.specs.declared.level.LevelName.TheVariants.{Hidden, Standard}
-use Rattle.snippet_style.specs.declared.role.LevelInner.{LevelInner}
-use Rattle.snippet_style.specs.declared.role.LevelInner.TheVariants.{Error, Help, Info, Note, Warning}
-use Rattle.snippet_text.proofs.NormLemmas.{norm-unlisted}
-use Rattle.snippet_text.specs.Normalized.{norm}
 
 -- nothing in the name of a kind is listed
 standard_unlisted : (kind : LevelInner) → norm (chars (standard_name_of kind)) ≡ chars (standard_name_of kind)

@@ -1,12 +1,8 @@
 -- Rows of paths, computed.
-use Rattle.std.proofs.Common.{◌≡◌, true, false, None, Some, codes, refl}
+use Rattle.snippet_titles.proofs.Common.{◌≡◌, true, false, None, Some, codes, refl, Ascii, Unicode, plain_text, row_text, norm, Alone, First, file_row}
+use Rattle.snippet_titles.proofs.Common.{origin_row, origin_text, snippet_head}
 use Rattle.std.specs.Fmt.{digits}
 use Rattle.std.specs.Str.{chars}
-use Rattle.snippet_style.specs.declared.glyphs.DecorStyle.TheVariants.{Ascii, Unicode}
-use Rattle.snippet_grid.specs.Print.{plain_text, row_text}
-use Rattle.snippet_text.specs.Normalized.{norm}
-use Rattle.snippet_titles.specs.declared.origin.FileStart.TheVariants.{Alone, First}
-use Rattle.snippet_titles.specs.Origin.{file_row, origin_row, origin_text, snippet_head}
 use Rattle.snippet_titles.proofs.PaddingWords.{padding_row}
 
 -- the first element's path, in both styles, and with its line anonymized

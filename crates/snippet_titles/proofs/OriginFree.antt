@@ -1,24 +1,10 @@
 -- No row of a path, and none that sets others off, holds a listed character or a link.
-use Rattle.std.proofs.Common.{◌≡◌, ℕ, ◌+◌, Bool, true, false, List, ◌++◌, All, replicate, chars, refl, arith}
-use Rattle.std.specs.List.{list_any}
-use Rattle.std.proofs.lemmas.Bool.Decides.{nat_tests}
-use Rattle.std.proofs.lemmas.List.Elements.{All-append, All-replicate}
-use Rattle.snippet_style.specs.declared.glyphs.DecorStyle.{DecorStyle}
-use Rattle.snippet_style.specs.declared.glyphs.DecorStyle.TheVariants.{Ascii, Unicode}
-use Rattle.snippet_style.specs.declared.role.ElementStyle.{ElementStyle}
-use Rattle.snippet_style.specs.declared.role.ElementStyle.TheVariants.{LineAndColumn, LineNumber}
-use Rattle.snippet_style.specs.Glyphs.{closing_of}
-use Rattle.snippet_style.specs.Cell.{SPACE, text_cells}
-use Rattle.snippet_text.specs.Normalized.{norm, is_listed}
-use Rattle.snippet_text.proofs.NormLemmas.{list_any-norm}
-use Rattle.snippet_model.specs.FreeRows.{IsFree, IsFreeCell}
-use Rattle.snippet_titles.specs.declared.origin.FileStart.{FileStart}
-use Rattle.snippet_titles.specs.declared.origin.FileStart.TheVariants.{Alone, First, Later, Secondary}
-use Rattle.snippet_titles.specs.declared.origin.OriginLocation.{OriginLocation}
-use Rattle.snippet_titles.specs.declared.origin.OriginLayout.{OriginLayout}
-use Rattle.snippet_titles.specs.Origin.{file_glyph, file_row, line_text, origin_row, origin_text}
+use Rattle.snippet_titles.proofs.Common.{◌≡◌, ℕ, ◌+◌, Bool, true, false, List, ◌++◌, All, replicate, refl, arith, list_any, nat_tests}
+use Rattle.snippet_titles.proofs.Common.{All-append, All-replicate, DecorStyle, Ascii, Unicode, ElementStyle, LineAndColumn, LineNumber, closing_of, SPACE}
+use Rattle.snippet_titles.proofs.Common.{text_cells, norm, is_listed, list_any-norm, IsFree, IsFreeCell, FileStart, Alone, First, Later, Secondary}
+use Rattle.snippet_titles.proofs.Common.{OriginLocation, OriginLayout, file_glyph, file_row, line_text, origin_row, origin_text, closing_row}
+use Rattle.std.proofs.Common.{chars}
 use Rattle.snippet_titles.proofs.PaddingWords.{padding_row}
-use Rattle.snippet_style.specs.Separators.{closing_row}
 use Rattle.snippet_titles.proofs.DigitLemmas.{IsDigit}
 use Rattle.snippet_titles.proofs.OriginText.{place-each}
 pub use Rattle.snippet_model.proofs.RowLemmas.{each_fails as each-fails, free_drawn as text_cells-free, free_separator_row as separator_row-free}

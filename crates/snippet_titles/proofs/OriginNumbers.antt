@@ -1,23 +1,10 @@
 -- No row of a path, and none that sets others off, can be taken for a line's: none begins with a number.
-use Rattle.std.proofs.Common.{◌≡◌, ℕ, ◌+◌, ◌<◌, Bool, true, false, List, [], ◌∷◌, ◌++◌, All, length, replicate, refl, ap, ◌∙◌, arith}
-use Rattle.std.specs.Char.{is_ascii_alphanumeric}
-use Rattle.std.specs.List.{list_any}
-use Rattle.std.proofs.lemmas.List.{length-append, length-replicate, get_or_append_left}
-use Rattle.std.proofs.lemmas.List.Elements.{All-append, All-replicate, All-get_or}
-use Rattle.snippet_style.specs.declared.glyphs.DecorStyle.{DecorStyle}
-use Rattle.snippet_style.specs.declared.glyphs.DecorStyle.TheVariants.{Ascii, Unicode}
-use Rattle.snippet_style.specs.declared.role.ElementStyle.TheVariants.{LineAndColumn, LineNumber}
-use Rattle.snippet_style.specs.Glyphs.{closing_of, separator_of}
-use Rattle.snippet_style.specs.Cell.{Cell, SPACE, text_cells}
-use Rattle.snippet_style.proofs.CellLemmas.{All-text_cells, length-text_cells}
-use Rattle.snippet_model.specs.FreeRows.{HasNoNumber}
-use Rattle.snippet_titles.specs.declared.origin.FileStart.{FileStart}
-use Rattle.snippet_titles.specs.declared.origin.FileStart.TheVariants.{Alone, First, Later, Secondary}
-use Rattle.snippet_titles.specs.declared.origin.OriginLocation.{OriginLocation}
-use Rattle.snippet_titles.specs.declared.origin.OriginLayout.{OriginLayout}
-use Rattle.snippet_titles.specs.Origin.{file_glyph, file_row, origin_row, origin_text}
+use Rattle.snippet_titles.proofs.Common.{◌≡◌, ℕ, ◌+◌, ◌<◌, Bool, true, false, List, [], ◌∷◌, ◌++◌, All, length, replicate, refl, ap}
+use Rattle.snippet_titles.proofs.Common.{◌∙◌, arith, is_ascii_alphanumeric, list_any, length-append, length-replicate, get_or_append_left, All-append}
+use Rattle.snippet_titles.proofs.Common.{All-replicate, All-get_or, DecorStyle, Ascii, Unicode, LineAndColumn, LineNumber, closing_of, separator_of, Cell}
+use Rattle.snippet_titles.proofs.Common.{SPACE, text_cells, All-text_cells, length-text_cells, HasNoNumber, FileStart, Alone, First, Later, Secondary}
+use Rattle.snippet_titles.proofs.Common.{OriginLocation, OriginLayout, file_glyph, file_row, origin_row, origin_text, separator_row, closing_row}
 use Rattle.snippet_titles.proofs.PaddingWords.{padding_row}
-use Rattle.snippet_style.specs.Separators.{separator_row, closing_row}
 use Rattle.snippet_titles.proofs.FileRowLemmas.{file_glyph-some}
 use Rattle.snippet_titles.proofs.OriginFree.{each-fails}
 

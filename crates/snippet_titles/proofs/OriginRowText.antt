@@ -1,14 +1,7 @@
 -- What is read in the row of a path.
-use Rattle.std.proofs.Common.{◌≡◌, ℕ, ◌+◌, List, ◌++◌, length, drop, replicate, sym, ap, ◌∙◌, arith}
-use Rattle.std.proofs.lemmas.List.{length-append, length-replicate}
-use Rattle.std.proofs.Math.Seq.{drop-append_seam}
-use Rattle.snippet_style.specs.declared.role.ElementStyle.TheVariants.{LineAndColumn, LineNumber}
-use Rattle.snippet_style.specs.Cell.{SPACE, text_cells}
-use Rattle.snippet_style.proofs.CellLemmas.{length-text_cells}
-use Rattle.snippet_titles.specs.declared.origin.FileStart.{FileStart}
-use Rattle.snippet_titles.specs.declared.origin.OriginLocation.{OriginLocation}
-use Rattle.snippet_titles.specs.declared.origin.OriginLayout.{OriginLayout}
-use Rattle.snippet_titles.specs.Origin.{file_glyph, file_row, origin_row, origin_text}
+use Rattle.snippet_titles.proofs.Common.{◌≡◌, ℕ, ◌+◌, List, ◌++◌, length, drop, replicate, sym, ap, ◌∙◌, arith, length-append}
+use Rattle.snippet_titles.proofs.Common.{length-replicate, drop-append_seam, LineAndColumn, LineNumber, SPACE, text_cells, length-text_cells, FileStart}
+use Rattle.snippet_titles.proofs.Common.{OriginLocation, OriginLayout, file_glyph, file_row, origin_row, origin_text}
 
 -- they stand after the glyph
 pub origin_row-after : (layout : OriginLayout) (start : FileStart) (path : List ℕ) (place : OriginLocation)

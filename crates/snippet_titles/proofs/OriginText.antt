@@ -1,13 +1,8 @@
 -- The characters of a path and of the place after it.
-use Rattle.std.proofs.Common.{◌≡◌, ℕ, ◌<◌, Bool, true, false, Option, None, Some, List, [], ◌∷◌, ◌++◌, All, chars, codes, ap, ◌∙◌, arith}
-use Rattle.std.specs.Fmt.{decimal}
-use Rattle.std.specs.Str.{IsUtf8}
-use Rattle.std.proofs.lemmas.List.Elements.{All-nil, All-cons, All-append, All-weaker}
-use Rattle.std.proofs.lemmas.Str.{chars-append, chars-IsAscii}
-use Rattle.std.proofs.lemmas.Str.Ascii.{IsAscii-from_all}
-use Rattle.snippet_text.specs.Normalized.{norm}
-use Rattle.snippet_titles.specs.declared.origin.OriginLocation.{OriginLocation}
-use Rattle.snippet_titles.specs.Origin.{line_name, column_text, line_text, origin_text}
+use Rattle.snippet_titles.proofs.Common.{◌≡◌, ℕ, ◌<◌, Bool, true, false, Option, None, Some, List, [], ◌∷◌, ◌++◌, All, codes, ap}
+use Rattle.snippet_titles.proofs.Common.{◌∙◌, arith, decimal, IsUtf8, All-nil, All-cons, All-append, All-weaker, chars-append, chars-IsAscii}
+use Rattle.snippet_titles.proofs.Common.{IsAscii-from_all, norm, OriginLocation, line_name, column_text, line_text, origin_text}
+use Rattle.std.proofs.Common.{chars}
 use Rattle.snippet_titles.proofs.DigitLemmas.{IsDigit, decimal-all}
 
 -- a fact that holds of the digits, of a colon and of an L holds of each character after a path

@@ -1,8 +1,6 @@
 -- The row of a padding, in one word.
 use Rattle.std.specs.Prelude.{ℕ, Bool, List, if◌then◌else◌}
-use Rattle.snippet_style.specs.Cell.{Cell}
-use Rattle.snippet_style.specs.Separators.{closing_row, separator_row}
-use Rattle.snippet_style.specs.declared.glyphs.DecorStyle.{DecorStyle}
+use Rattle.snippet_titles.proofs.Common.{Cell, closing_row, separator_row, DecorStyle}
 
 -- the row of a padding: the closing row where it is the group's last element, else the separator row
 abbrev pub padding_row : DecorStyle → ℕ → Bool → List Cell

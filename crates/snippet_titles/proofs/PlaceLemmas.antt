@@ -1,29 +1,13 @@
 -- Which cells of a heading's rows link to its id's address.
-use Rattle.std.proofs.Common.{◌≡◌, ℕ, suc, ◌+◌, ◌-◌, ◌<◌, ◌≤◌, ◌==◌, ◌&&◌, nat_le, nat_lt, cond, Bool, true, false, Option, None, Some, List, [], ◌∷◌, ◌++◌}
-use Rattle.std.proofs.Common.{length, map, chars, get_or, All, refl, sym, ap, ◌∙◌, arith, inl, inr}
-use Rattle.std.specs.Cow.{cow_str_bytes}
-use Rattle.std.specs.declared.alloc.Global.{Global}
-use Rattle.std.specs.declared.borrow.CowStr.{CowStr}
-use Rattle.std.specs.Option.{option_map}
-use Rattle.std.proofs.lemmas.Bool.{and_parts, cases_Bool, cases_eq, cases_lt, eqb-true, leb-true, ltb-true}
-use Rattle.std.proofs.lemmas.Bool.Decides.{nat_tests}
-use Rattle.std.proofs.lemmas.List.Splits.{length-slice_split}
-use Rattle.std.proofs.lemmas.List.{append-nil, append_assoc, get_or-map, get_or_past, length-map, length-append, places}
-use Rattle.std.proofs.lemmas.List.Elements.{All-nil, All-append, All-get_or}
-use Rattle.snippet_grid.specs.Grid.{cell_at, linked}
-use Rattle.snippet_style.specs.Cell.{Cell, SPACE, text_cells}
-use Rattle.snippet_style.specs.declared.role.ElementStyle.{ElementStyle}
-use Rattle.snippet_style.proofs.CellLemmas.{length-text_cells}
-use Rattle.snippet_text.specs.Normalized.{norm}
-use Rattle.snippet_model.specs.declared.snippet.Id.{Id}
-use Rattle.snippet_model.specs.Heading.{Heading, is_hidden}
-use Rattle.snippet_model.specs.Level.{name_of}
-use Rattle.snippet_titles.specs.declared.style.HeadingRoles.{HeadingRoles}
-use Rattle.snippet_titles.specs.declared.style.TitleStyle.{TitleStyle}
-use Rattle.snippet_titles.specs.HeadingRows.{address_of, bracketed_cells, closing_bracket_of, colon_of, shown_text, heading_lines, heading_rows, id_cells}
-use Rattle.snippet_titles.specs.HeadingRows.{indent_cells, label_cells, label_width, lines_below, linked_to, opening_bracket_of, roles_of, sign_cells}
-use Rattle.snippet_titles.specs.LinkedId.{LinksId, id_start, is_id_cell}
-use Rattle.snippet_titles.specs.Title.{id_address, id_chars}
+use Rattle.snippet_titles.proofs.Common.{◌≡◌, ℕ, suc, ◌+◌, ◌-◌, ◌<◌, ◌≤◌, ◌==◌, ◌&&◌, nat_le, nat_lt, cond, Bool, true, false}
+use Rattle.snippet_titles.proofs.Common.{Option, None, Some, List, [], ◌∷◌, ◌++◌, length, map, get_or, All, refl, sym, ap, ◌∙◌, arith, inl, inr}
+use Rattle.snippet_titles.proofs.Common.{cow_str_bytes, Global, CowStr, option_map, and_parts, cases_Bool, cases_eq, cases_lt, eqb-true, leb-true, ltb-true}
+use Rattle.snippet_titles.proofs.Common.{nat_tests, length-slice_split, append-nil, append_assoc, get_or-map, get_or_past, length-map, length-append, places}
+use Rattle.snippet_titles.proofs.Common.{All-nil, All-append, All-get_or, cell_at, linked, Cell, SPACE, text_cells, ElementStyle, length-text_cells, norm, Id}
+use Rattle.snippet_titles.proofs.Common.{Heading, is_hidden, name_of, HeadingRoles, TitleStyle, address_of, bracketed_cells, closing_bracket_of, colon_of}
+use Rattle.snippet_titles.proofs.Common.{shown_text, heading_lines, heading_rows, id_cells, indent_cells, label_cells, label_width, lines_below, linked_to}
+use Rattle.snippet_titles.proofs.Common.{opening_bracket_of, roles_of, sign_cells, LinksId, id_start, is_id_cell, id_address, id_chars}
+use Rattle.std.proofs.Common.{chars}
 use Rattle.snippet_titles.proofs.EndLemmas.{row_at-trimmed}
 use Rattle.snippet_titles.proofs.LinkLemmas.{IsUnlinked, drawn_unlinked, indent_unlinked, sign_unlinked}
 

@@ -1,39 +1,15 @@
 -- The one row of a plain heading.
-use Rattle.std.proofs.Common.{◌≡◌, ◌<◌, ℕ, Bool, Option, None, Some, List, [], ◌∷◌, ◌++◌, replicate, length, map, refl, sym, ap, ◌∙◌, arith, subst}
-use Rattle.std.specs.Cow.{cow_str_bytes}
-use Rattle.std.specs.Option.{option_map}
-use Rattle.std.specs.Str.{chars, IsUtf8}
-use Rattle.std.proofs.lemmas.List.{length-append}
-use Rattle.snippet_grid.proofs.GridShown.{chars_some}
-use Rattle.snippet_grid.proofs.OpenRowLemmas.{adds_more}
-use Rattle.snippet_grid.proofs.RowsWoven.{rows_one}
-use Rattle.snippet_grid.specs.Layout.{separator_cell}
-use Rattle.snippet_grid.specs.OpenRow.{AddsCells, IsPrinted}
-use Rattle.snippet_grid.specs.Weaving.{WeavesRow, WeavesRows}
-use Rattle.snippet_grid.specs.declared.printed_row.PrintedRow.{PrintedRow}
-use Rattle.snippet_model.specs.Heading.{Heading, is_hidden}
-use Rattle.snippet_model.specs.Level.{name_of}
-use Rattle.snippet_model.specs.declared.level.Level.{Level}
-use Rattle.snippet_model.specs.declared.snippet.Id.{Id}
-use Rattle.snippet_style.proofs.CellLemmas.{length-text_cells}
-use Rattle.snippet_style.specs.Cell.{Cell, SPACE, text_cells}
-use Rattle.snippet_style.specs.Glyphs.{note_sign_of}
-use Rattle.snippet_style.specs.declared.role.ElementStyle.{ElementStyle}
-use Rattle.snippet_style.specs.declared.role.ElementStyle.TheVariants.{LineNumber}
-use Rattle.snippet_style.specs.declared.role.LevelInner.{LevelInner}
-use Rattle.snippet_style.specs.declared.stylesheet.Stylesheet.{Stylesheet}
+use Rattle.snippet_titles.proofs.Common.{◌≡◌, ◌<◌, ℕ, Bool, Option, None, Some, List, [], ◌∷◌, ◌++◌, replicate, length, map, refl, sym}
+use Rattle.snippet_titles.proofs.Common.{ap, ◌∙◌, arith, subst, cow_str_bytes, option_map, IsUtf8, length-append, chars_some, adds_more, rows_one}
+use Rattle.snippet_titles.proofs.Common.{separator_cell, AddsCells, IsPrinted, WeavesRow, WeavesRows, PrintedRow, Heading, is_hidden, name_of, Level, Id}
+use Rattle.snippet_titles.proofs.Common.{length-text_cells, Cell, SPACE, text_cells, note_sign_of, ElementStyle, LineNumber, LevelInner, Stylesheet, norm}
+use Rattle.snippet_titles.proofs.Common.{address_of, bracketed_cells, closing_bracket_of, colon_of, id_cells, opening_bracket_of, heading_lines, heading_rows}
+use Rattle.snippet_titles.proofs.Common.{indent_cells, label_cells, label_width, lines_below, roles_of, sign_cells, without_empty_end, IsPlainHeading}
+use Rattle.snippet_titles.proofs.Common.{HeadingRoles, MessageContext, TitleStyle, Message}
+use Rattle.std.specs.Str.{chars}
 use Rattle.snippet_titles.proofs.HeadingLemmas.{plain_shown, roles_known}
 use Rattle.snippet_titles.proofs.LineLemmas.{lines_at-plain}
 use Rattle.snippet_titles.proofs.SplitLemmas.{lines_at, lines_at-chars}
-use Rattle.snippet_text.specs.Normalized.{norm}
-use Rattle.snippet_titles.specs.HeadingRows.{address_of, bracketed_cells, closing_bracket_of, colon_of, id_cells, opening_bracket_of}
-use Rattle.snippet_titles.specs.HeadingRows.{heading_lines, heading_rows, indent_cells, label_cells, label_width, lines_below, roles_of, sign_cells}
-use Rattle.snippet_titles.specs.HeadingRows.{without_empty_end}
-use Rattle.snippet_titles.specs.PrintedHeading.{IsPlainHeading}
-use Rattle.snippet_titles.specs.declared.style.HeadingRoles.{HeadingRoles}
-use Rattle.snippet_titles.specs.declared.style.MessageContext.{MessageContext}
-use Rattle.snippet_titles.specs.declared.style.TitleStyle.{TitleStyle}
-use Rattle.snippet_titles.specs.declared.style.TitleStyle.TheVariants.{Message}
 
 -- the cells of that row
 abbrev pub plain_row : Bool → TitleStyle → Heading → List Cell

@@ -1,23 +1,10 @@
 -- What a row becomes where signs, spaces, an id or a label are drawn into it.
-use Rattle.std.proofs.Common.{◌≡◌, ℕ, ◌+◌, ◌-◌, ◌^◌, ◌<◌, ◌≤◌, List, [], ◌∷◌, ◌++◌, length, replicate, Bool, true, false, Option, Some, refl, sym, ap, ◌∙◌}
-use Rattle.std.proofs.Common.{arith}
+use Rattle.snippet_titles.proofs.Common.{◌≡◌, ℕ, ◌+◌, ◌-◌, ◌^◌, ◌<◌, ◌≤◌, List, [], ◌∷◌, ◌++◌, length, replicate, Bool}
+use Rattle.snippet_titles.proofs.Common.{true, false, Option, Some, refl, sym, ap, ◌∙◌, arith, append_assoc, length-append, places, same_lists}
+use Rattle.snippet_titles.proofs.Common.{cow_str_bytes, option_map, row_at, cells_written, Cell, SPACE, text_cells, written, ElementStyle, length-text_cells}
+use Rattle.snippet_titles.proofs.Common.{length-chars_le, norm, length-norm, Id, appended, linked_from, address_of, bracketed_cells, closing_bracket_of}
+use Rattle.snippet_titles.proofs.Common.{id_cells, linked_to, opening_bracket_of, note_sign_of, DecorStyle, Ascii, Unicode, LineNumber}
 use Rattle.std.specs.Str.{chars}
-use Rattle.std.proofs.lemmas.List.{append_assoc, length-append, places, same_lists}
-use Rattle.std.specs.Cow.{cow_str_bytes}
-use Rattle.std.specs.Option.{option_map}
-use Rattle.snippet_grid.specs.Grid.{row_at, cells_written}
-use Rattle.snippet_style.specs.Cell.{Cell, SPACE, text_cells, written}
-use Rattle.snippet_style.specs.declared.role.ElementStyle.{ElementStyle}
-use Rattle.snippet_style.proofs.CellLemmas.{length-text_cells, length-chars_le}
-use Rattle.snippet_text.specs.Normalized.{norm}
-use Rattle.snippet_text.proofs.NormLemmas.{length-norm}
-use Rattle.snippet_model.specs.declared.snippet.Id.{Id}
-use Rattle.snippet_titles.specs.Appended.{appended, linked_from}
-use Rattle.snippet_titles.specs.HeadingRows.{address_of, bracketed_cells, closing_bracket_of, id_cells, linked_to, opening_bracket_of}
-use Rattle.snippet_style.specs.Glyphs.{note_sign_of}
-use Rattle.snippet_style.specs.declared.glyphs.DecorStyle.{DecorStyle}
-use Rattle.snippet_style.specs.declared.glyphs.DecorStyle.TheVariants.{Ascii, Unicode}
-use Rattle.snippet_style.specs.declared.role.ElementStyle.TheVariants.{LineNumber}
 use Rattle.snippet_titles.proofs.AppendLemmas.{appended-appended, appended-is, linked_from-appended, row_at-appended}
 use Rattle.snippet_titles.proofs.EndLemmas.{written_past}
 

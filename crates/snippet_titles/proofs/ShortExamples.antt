@@ -1,16 +1,7 @@
 -- Rows of the short form, computed.
-use Rattle.std.proofs.Common.{◌≡◌, List, ℕ, [], ◌∷◌, false, None, codes, refl}
+use Rattle.snippet_titles.proofs.Common.{◌≡◌, List, ℕ, [], ◌∷◌, false, None, codes, refl, Error, plain_text, norm, char_width, unicode_width}
+use Rattle.snippet_titles.proofs.Common.{LevelName, Hidden, Standard, Heading, label_cells, short_rows, short_texts}
 use Rattle.std.specs.Str.{chars}
-use Rattle.snippet_style.specs.declared.role.LevelInner.TheVariants.{Error}
-use Rattle.snippet_grid.specs.Print.{plain_text}
-use Rattle.snippet_text.specs.Normalized.{norm}
-use Rattle.snippet_text.specs.Width.{char_width}
-use Rattle.snippet_text.proofs.WidthLemmas.{unicode_width}
-use Rattle.snippet_model.specs.declared.level.LevelName.{LevelName}
-use Rattle.snippet_model.specs.declared.level.LevelName.TheVariants.{Hidden, Standard}
-use Rattle.snippet_model.specs.Heading.{Heading}
-use Rattle.snippet_titles.specs.HeadingRows.{label_cells}
-use Rattle.snippet_titles.specs.ShortRows.{short_rows, short_texts}
 
 -- an error whose name is shown like this, with this text
 abbrev error_of : LevelName → List ℕ → Heading

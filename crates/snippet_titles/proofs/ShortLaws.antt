@@ -1,29 +1,15 @@
 -- What the rows of the short form show.
-use Rattle.std.proofs.Common.{◌≡◌, ◌∙◌, ℕ, ◌==◌, Bool, false, None, List, [], ◌∷◌, ◌++◌, All, map, refl, sym, subst, ap, arith}
-use Rattle.std.specs.List.{slice_index_or}
-use Rattle.std.proofs.lemmas.List.{append-nil}
-use Rattle.std.proofs.lemmas.List.Elements.{All-nil, All-append, All-cons, All-head, All-tail}
-use Rattle.std.proofs.lemmas.List.Splits.{length-slice_split}
-use Rattle.snippet_style.specs.declared.role.ElementStyle.TheVariants.{LineAndColumn, NoStyle}
-use Rattle.snippet_grid.specs.Grid.{row_at}
-use Rattle.snippet_style.specs.Cell.{Cell, text_cells}
-use Rattle.snippet_grid.specs.Print.{row_text}
-use Rattle.snippet_grid.specs.Woven.{links_after, links_of}
-use Rattle.snippet_text.specs.Normalized.{is_listed}
-use Rattle.snippet_model.specs.Heading.{Heading}
-use Rattle.snippet_titles.specs.declared.style.HeadingRoles.{HeadingRoles}
-use Rattle.snippet_titles.specs.declared.style.TitleStyle.TheVariants.{Short}
-use Rattle.snippet_titles.specs.HeadingRows.{shown_text, heading_lines, indent_cells, label_cells, heading_label_text, label_width, lines_below, roles_of}
-use Rattle.snippet_titles.specs.ShortRows.{short_rows, short_texts, with_end}
-use Rattle.snippet_titles.specs.ShownHeading.{IsFreeButText}
-use Rattle.snippet_titles.specs.Title.{id_links}
+use Rattle.snippet_titles.proofs.Common.{◌≡◌, ◌∙◌, ℕ, ◌==◌, Bool, false, None, List, [], ◌∷◌, ◌++◌, All, map, refl, sym, subst, ap}
+use Rattle.snippet_titles.proofs.Common.{arith, slice_index_or, append-nil, All-nil, All-append, All-cons, All-head, All-tail, length-slice_split}
+use Rattle.snippet_titles.proofs.Common.{LineAndColumn, NoStyle, row_at, Cell, text_cells, row_text, links_after, links_of, is_listed, Heading, HeadingRoles}
+use Rattle.snippet_titles.proofs.Common.{Short, shown_text, heading_lines, indent_cells, label_cells, heading_label_text, label_width, lines_below, roles_of}
+use Rattle.snippet_titles.proofs.Common.{short_rows, short_texts, with_end, IsFreeButText, id_links, row_text-text_cells}
 use Rattle.snippet_titles.proofs.EndLemmas.{row_at-trimmed}
 use Rattle.snippet_titles.proofs.FreeLemmas.{All-slice_split, All-trimmed, IsUnlisted, IsOwn, from_free, indent-all, label-all, lines_all, own_text}
 use Rattle.snippet_titles.proofs.FreeLemmas.{own_unlisted, row-all}
 use Rattle.snippet_titles.proofs.LinkLemmas.{IsUnlinked, drawn_unlinked, indent_unlinked, label-links, lines-links, links-before, links_after-unlinked}
 use Rattle.snippet_titles.proofs.LinkLemmas.{trimmed-links}
 use Rattle.snippet_titles.proofs.TextLemmas.{row_text-append, row_text-after, row_text-label, text_at, texts_of_lines}
-use Rattle.snippet_grid.proofs.RowLemmas.{row_text-text_cells}
 
 -- the row that a text and a label begin
 first_text : (hyperlink : Bool) (roles : HeadingRoles) (before : List ℕ) (heading : Heading)

@@ -1,16 +1,8 @@
 -- The rows of the short form, from what is drawn of them.
-use Rattle.std.proofs.Common.{◌≡◌, ℕ, ◌-◌, List, [], ◌∷◌, ◌++◌, length, replicate, take, Bool, refl, sym, ap, ◌∙◌, arith}
-use Rattle.std.proofs.lemmas.List.{append-nil, places, same_lists}
-use Rattle.snippet_grid.specs.Grid.{row_at}
-use Rattle.snippet_style.specs.Cell.{Cell, text_cells, written}
-use Rattle.snippet_style.specs.declared.role.ElementStyle.TheVariants.{LineAndColumn, NoStyle}
-use Rattle.snippet_model.specs.declared.level.Level.{Level}
-use Rattle.snippet_model.specs.Heading.{Heading}
-use Rattle.snippet_titles.specs.declared.style.HeadingRoles.{HeadingRoles}
-use Rattle.snippet_titles.specs.declared.style.TitleStyle.TheVariants.{Short}
-use Rattle.snippet_titles.specs.Appended.{appended}
-use Rattle.snippet_titles.specs.HeadingRows.{heading_lines, indent_cells, label_cells, label_width, lines_below, on_top, roles_of, without_empty_end}
-use Rattle.snippet_titles.specs.ShortRows.{short_rows, with_end}
+use Rattle.snippet_titles.proofs.Common.{◌≡◌, ℕ, ◌-◌, List, [], ◌∷◌, ◌++◌, length, replicate, take, Bool, refl, sym, ap, ◌∙◌, arith}
+use Rattle.snippet_titles.proofs.Common.{append-nil, places, same_lists, row_at, Cell, text_cells, written, LineAndColumn, NoStyle, Level, Heading}
+use Rattle.snippet_titles.proofs.Common.{HeadingRoles, Short, appended, heading_lines, indent_cells, label_cells, label_width, lines_below, on_top, roles_of}
+use Rattle.snippet_titles.proofs.Common.{without_empty_end, short_rows, with_end}
 use Rattle.snippet_titles.proofs.AppendLemmas.{appended-is}
 use Rattle.snippet_titles.proofs.EndLemmas.{appended_below, get_or-append_seam, row_at-trimmed, written_past}
 use Rattle.snippet_titles.proofs.HeadingLemmas.{label_begun, roles_known}

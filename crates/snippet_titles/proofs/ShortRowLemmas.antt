@@ -1,25 +1,10 @@
 -- A title in the short form that has one row, put together from its parts.
-use Rattle.std.proofs.Common.{◌≡◌, ℕ, ◌<◌, Bool, List, [], ◌∷◌, ◌++◌, length, map, Option, None, Some, refl, sym, ap, ◌∙◌, arith, chars, All}
-use Rattle.std.proofs.lemmas.List.{append-nil, append_assoc, length-append}
-use Rattle.std.specs.Cow.{cow_str_bytes}
-use Rattle.std.specs.Option.{option_map}
-use Rattle.std.specs.Str.{IsUtf8}
-use Rattle.snippet_titles.specs.StretchCells.{cells_alike}
-use Rattle.snippet_style.specs.Cell.{Cell, text_cells}
-use Rattle.snippet_style.specs.declared.role.ElementStyle.{ElementStyle}
-use Rattle.snippet_style.specs.declared.role.ElementStyle.TheVariants.{LineAndColumn, NoStyle}
-use Rattle.snippet_style.proofs.CellLemmas.{length-text_cells}
-use Rattle.snippet_model.specs.Heading.{Heading, is_hidden}
-use Rattle.snippet_model.specs.Level.{name_of}
-use Rattle.snippet_text.specs.Normalized.{norm}
-use Rattle.snippet_model.specs.declared.snippet.Id.{Id}
-use Rattle.snippet_text.specs.Plain.{IsPlain}
-use Rattle.snippet_titles.specs.declared.style.HeadingRoles.{HeadingRoles}
-use Rattle.snippet_titles.specs.declared.style.TitleStyle.TheVariants.{Short}
-use Rattle.snippet_titles.specs.HeadingRows.{address_of, bracketed_cells, colon_of, heading_lines, id_cells, indent_cells, label_cells, label_width, linked_to}
-use Rattle.snippet_titles.specs.HeadingRows.{lines_below, on_top, roles_of}
-use Rattle.snippet_titles.specs.HeadingRows.{without_empty_end}
-use Rattle.snippet_titles.specs.ShortRows.{short_rows, with_end}
+use Rattle.snippet_titles.proofs.Common.{◌≡◌, ℕ, ◌<◌, Bool, List, [], ◌∷◌, ◌++◌, length, map, Option, None, Some, refl, sym, ap}
+use Rattle.snippet_titles.proofs.Common.{◌∙◌, arith, All, append-nil, append_assoc, length-append, cow_str_bytes, option_map, IsUtf8, cells_alike, Cell}
+use Rattle.snippet_titles.proofs.Common.{text_cells, ElementStyle, LineAndColumn, NoStyle, length-text_cells, Heading, is_hidden, name_of, norm, Id, IsPlain}
+use Rattle.snippet_titles.proofs.Common.{HeadingRoles, Short, address_of, bracketed_cells, colon_of, heading_lines, id_cells, indent_cells, label_cells}
+use Rattle.snippet_titles.proofs.Common.{label_width, linked_to, lines_below, on_top, roles_of, without_empty_end, short_rows, with_end}
+use Rattle.std.proofs.Common.{chars}
 use Rattle.snippet_titles.proofs.HeadingLemmas.{plain_shown}
 use Rattle.snippet_titles.proofs.LineLemmas.{lines_at-plain}
 use Rattle.snippet_titles.proofs.SplitLemmas.{lines_at, lines_at-chars}

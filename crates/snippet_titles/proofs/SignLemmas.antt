@@ -1,8 +1,6 @@
 -- The characters of what stands in a heading's rows beside its texts.
-use Rattle.std.proofs.Common.{◌≡◌, ◌∷◌, [], Bool, true, false, Option, codes, chars, refl}
-use Rattle.std.proofs.lemmas.Str.{chars-encodes, chars-nil}
-use Rattle.snippet_model.specs.declared.snippet.Id.{Id}
-use Rattle.snippet_titles.specs.HeadingRows.{colon_of, is_set}
+use Rattle.snippet_titles.proofs.Common.{◌≡◌, ◌∷◌, [], Bool, true, false, Option, codes, refl, chars-encodes, chars-nil, Id, colon_of, is_set}
+use Rattle.std.proofs.Common.{chars}
 
 -- a colon and a space, and brackets
 pub chars-colon : chars (58 ∷ 32 ∷ []) ≡ codes ": "

@@ -1,24 +1,9 @@
 -- A row that is printed stretch by stretch.
-use Rattle.std.proofs.Common.{◌≡◌, ℕ, ◌+◌, ◌<◌, List, [], ◌∷◌, ◌++◌, length, take, Option, None, Some, get_or, refl, sym, ap, ◌∙◌}
-use Rattle.std.proofs.Common.{◌≤◌, subst, arith, suc, take-suc}
-use Rattle.std.proofs.lemmas.Grind.{flat_map-append}
-use Rattle.std.proofs.lemmas.List.{append-nil, take_all}
-use Rattle.std.proofs.lemmas.Str.{chars-nil}
-use Rattle.std.specs.List.{flat_map}
-use Rattle.std.specs.Option.{option_copied}
+use Rattle.snippet_titles.proofs.Common.{◌≡◌, ℕ, ◌+◌, ◌<◌, List, [], ◌∷◌, ◌++◌, length, take, Option, None, Some, get_or, refl, sym}
+use Rattle.snippet_titles.proofs.Common.{ap, ◌∙◌, ◌≤◌, subst, arith, suc, take-suc, flat_map-append, append-nil, take_all, chars-nil, flat_map}
+use Rattle.snippet_titles.proofs.Common.{option_copied, stretch_printed, Url, Goes, PrintsStretch, Prints, piece_text, WeavesRow, cells_alike, stretch_cells}
+use Rattle.snippet_titles.proofs.Common.{RowStretch, Cell, style_of, LevelInner, Style, Stylesheet}
 use Rattle.std.specs.Str.{chars}
-use Rattle.snippet_grid.proofs.StretchPrinted.{stretch_printed}
-use Rattle.snippet_grid.proofs.WeaveLemmas.{Url, Goes}
-use Rattle.snippet_grid.specs.Stretch.{PrintsStretch}
-use Rattle.snippet_grid.specs.Woven.{Prints, piece_text}
-use Rattle.snippet_grid.specs.Weaving.{WeavesRow}
-use Rattle.snippet_titles.specs.StretchCells.{cells_alike, stretch_cells}
-use Rattle.snippet_titles.specs.declared.stretch.RowStretch.{RowStretch}
-use Rattle.snippet_style.specs.Cell.{Cell}
-use Rattle.snippet_style.specs.Stylesheet.{style_of}
-use Rattle.snippet_style.specs.declared.role.LevelInner.{LevelInner}
-use Rattle.snippet_style.specs.declared.style.Style.{Style}
-use Rattle.snippet_style.specs.declared.stylesheet.Stylesheet.{Stylesheet}
 
 -- the cells of the first of some stretches
 abbrev pub cells_before : List RowStretch → ℕ → List Cell

@@ -1,26 +1,12 @@
 -- The characters of a heading's rows.
-use Rattle.std.proofs.Common.{◌≡◌, ℕ, zero, suc, Bool, Option, None, Some, List, [], ◌∷◌, ◌++◌, map, replicate, chars, get_or, length, refl, sym, ap, ◌∙◌}
-use Rattle.std.proofs.Common.{arith, inl, inr}
-use Rattle.std.specs.Cow.{cow_str_bytes}
-use Rattle.std.specs.Option.{option_map}
-use Rattle.std.proofs.lemmas.Bool.{cases_lt}
-use Rattle.std.proofs.lemmas.List.{get_or-map, get_or_past, length-map, map-append}
-use Rattle.snippet_grid.specs.Grid.{row_at}
-use Rattle.snippet_style.specs.Cell.{Cell, SPACE, text_cells}
-use Rattle.snippet_grid.specs.Print.{row_text}
-use Rattle.snippet_style.specs.declared.role.ElementStyle.{ElementStyle}
-use Rattle.snippet_text.specs.Normalized.{norm}
-use Rattle.snippet_model.specs.declared.snippet.Id.{Id}
-use Rattle.snippet_model.specs.Heading.{Heading, is_hidden}
-use Rattle.snippet_model.specs.Level.{name_of}
-use Rattle.snippet_titles.specs.declared.style.HeadingRoles.{HeadingRoles}
-use Rattle.snippet_titles.specs.declared.style.TitleStyle.{TitleStyle}
-use Rattle.snippet_titles.specs.HeadingRows.{address_of, bracketed_cells, bracketed_text, closing_bracket_of, colon_of, heading_lines, heading_rows, id_cells}
-use Rattle.snippet_titles.specs.HeadingRows.{id_text, indent_cells, label_cells, heading_label_text, label_width, lines_below, linked_to, opening_bracket_of}
-use Rattle.snippet_titles.specs.HeadingRows.{roles_of, sign_cells}
-use Rattle.snippet_titles.specs.ShownHeading.{heading_texts, texts_below}
+use Rattle.snippet_titles.proofs.Common.{◌≡◌, ℕ, zero, suc, Bool, Option, None, Some, List, [], ◌∷◌, ◌++◌, map, replicate, get_or, length}
+use Rattle.snippet_titles.proofs.Common.{refl, sym, ap, ◌∙◌, arith, inl, inr, cow_str_bytes, option_map, cases_lt, get_or-map, get_or_past, length-map}
+use Rattle.snippet_titles.proofs.Common.{map-append, row_at, Cell, SPACE, text_cells, row_text, ElementStyle, norm, Id, Heading, is_hidden, name_of}
+use Rattle.snippet_titles.proofs.Common.{HeadingRoles, TitleStyle, address_of, bracketed_cells, bracketed_text, closing_bracket_of, colon_of, heading_lines}
+use Rattle.snippet_titles.proofs.Common.{heading_rows, id_cells, id_text, indent_cells, label_cells, heading_label_text, label_width, lines_below, linked_to}
+use Rattle.snippet_titles.proofs.Common.{opening_bracket_of, roles_of, sign_cells, heading_texts, texts_below, row_text-text_cells}
+use Rattle.std.proofs.Common.{chars}
 use Rattle.snippet_titles.proofs.EndLemmas.{row_at-trimmed}
-use Rattle.snippet_grid.proofs.RowLemmas.{row_text-text_cells}
 
 -- the text of blank cells is spaces
 pub row_text-spaces : (n : ℕ) → row_text (replicate n SPACE) ≡ replicate n 32

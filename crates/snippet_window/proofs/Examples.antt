@@ -1,22 +1,10 @@
 -- The definitions, computed on small inputs.
-use Rattle.std.proofs.Common.{◌≡◌, ℕ, true, false, Some, None, [], ◌∷◌, ◌++◌, replicate, codes, encode_utf8_all, refl}
+use Rattle.snippet_window.proofs.Common.{◌≡◌, ℕ, true, false, Some, None, [], ◌∷◌, ◌++◌, replicate, codes, encode_utf8_all, refl, written}
+use Rattle.snippet_window.proofs.Common.{char_width, width_of, unicode_width, norm, Annotation, AnnotationKind, Primary, Context, Visible, Eof, Lf, Crlf}
+use Rattle.snippet_window.proofs.Common.{Reversed, PastEnd, OffBoundary, source_lines, start_of, line_of, place_of, location_of, start_location, end_location}
+use Rattle.snippet_window.proofs.Common.{locations_of, steps_after_text, span_fault, annotated_lines, is_trivial, kept_lines, primary_place, secondary_place}
+use Rattle.snippet_window.proofs.Common.{window, end_mark_column, is_near_span}
 use Rattle.std.specs.Str.{chars}
-use Rattle.snippet_style.specs.Cell.{written}
-use Rattle.snippet_text.specs.Width.{char_width, width_of}
-use Rattle.snippet_text.proofs.WidthLemmas.{unicode_width}
-use Rattle.snippet_text.specs.Normalized.{norm}
-use Rattle.snippet_model.specs.declared.snippet.Annotation.{Annotation}
-use Rattle.snippet_model.specs.declared.snippet.AnnotationKind.{AnnotationKind}
-use Rattle.snippet_model.specs.declared.snippet.AnnotationKind.TheVariants.{Primary, Context, Visible}
-use Rattle.snippet_lines.specs.declared.lines.EndLine.TheVariants.{Eof, Lf, Crlf}
-use Rattle.snippet_lines.specs.declared.span.SpanFault.TheVariants.{Reversed, PastEnd, OffBoundary}
-use Rattle.snippet_lines.specs.Lines.{source_lines, start_of}
-use Rattle.snippet_lines.specs.Place.{line_of, place_of, location_of, start_location, end_location, locations_of, steps_after_text}
-use Rattle.snippet_lines.specs.Span.{span_fault}
-use Rattle.snippet_parts.specs.Annotated.{annotated_lines}
-use Rattle.snippet_parts.specs.Kept.{is_trivial, kept_lines}
-use Rattle.snippet_parts.specs.Location.{primary_place, secondary_place}
-use Rattle.snippet_window.specs.Window.{window, end_mark_column, is_near_span}
 
 -- ---- lines
 

@@ -1,23 +1,12 @@
 -- Lemmas on how far lines reach, line by line and entry by entry.
-use Rattle.std.proofs.Common.{◌≡◌, ℕ, min, max, Bool, true, false, not, List, [], ◌∷◌, ◌++◌, Option, Some, None, All, map, chars, refl, sym, ap}
-use Rattle.std.proofs.Common.{subst, cond, ◌∙◌, inl, inr}
-use Rattle.std.specs.List.{flat_map, filter_map}
-use Rattle.std.specs.Option.{option_map_or, option_to_list}
-use Rattle.std.proofs.lemmas.List.{map-append, map_push, append-nil}
-use Rattle.std.proofs.lemmas.List.Elements.{filter-append, filter_map-append, All-nil, All-cons, All-head, All-tail}
-use Rattle.std.proofs.lemmas.Grind.{flat_map-append}
-use Rattle.std.proofs.lemmas.Bool.{cases_Bool}
-use Rattle.snippet_text.specs.Width.{width_of}
-use Rattle.snippet_parts.specs.declared.entries.LineAnnotation.{LineAnnotation}
-use Rattle.snippet_parts.specs.declared.entries.AnnotatedLineInfo.{AnnotatedLineInfo}
-use Rattle.snippet_window.specs.declared.extent.Extent.{Extent}
-use Rattle.snippet_parts.specs.Least.{least, greatest}
-use Rattle.snippet_parts.specs.Entries.{is_bar}
-use Rattle.snippet_window.specs.Measures.{end_with}
-use Rattle.snippet_window.specs.Window.{leading_whitespace}
-use Rattle.snippet_window.specs.Extent.{ReachesEntries, ReachesLines, with_columns, entries_of, columns_of, ends_of, line_texts}
+use Rattle.snippet_window.proofs.Common.{◌≡◌, ℕ, min, max, Bool, true, false, not, List, [], ◌∷◌, ◌++◌, Option, Some, None, All, map, refl}
+use Rattle.snippet_window.proofs.Common.{sym, ap, subst, cond, ◌∙◌, inl, inr, flat_map, filter_map, option_map_or, option_to_list, map-append, map_push}
+use Rattle.snippet_window.proofs.Common.{append-nil, filter-append, filter_map-append, All-nil, All-cons, All-head, All-tail, flat_map-append, cases_Bool}
+use Rattle.snippet_window.proofs.Common.{width_of, LineAnnotation, AnnotatedLineInfo, Extent, least, greatest, is_bar, end_with, leading_whitespace}
+use Rattle.snippet_window.proofs.Common.{ReachesEntries, ReachesLines, with_columns, entries_of, columns_of, ends_of, line_texts, least-push, greatest-push}
+use Rattle.snippet_window.proofs.Common.{least-push_two, greatest-push_two}
+use Rattle.std.proofs.Common.{chars}
 use Rattle.snippet_window.proofs.MeasureWords.{whitespaces_of, widths_of}
-use Rattle.snippet_parts.proofs.LeastLemmas.{least-push, greatest-push, least-push_two, greatest-push_two}
 
 -- one more entry, by whether it is a bar
 with_columns-push : (es : List LineAnnotation) (e : LineAnnotation) (bar : Bool) → is_bar e.annotation_type ≡ bar

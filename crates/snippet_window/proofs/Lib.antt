@@ -1,3 +1,4 @@
+pub mod Common
 pub mod Examples
 pub mod ExtentLemmas
 pub mod LineWindowLemmas

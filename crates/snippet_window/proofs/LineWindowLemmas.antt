@@ -1,16 +1,10 @@
 -- How the window of a line is found, character by character.
-use Rattle.std.proofs.Common.{◌≡◌, ◌^◌, Option, Some, None, IfSome, unwrap_or, ℕ, ◌+◌, ◌-◌, ◌<◌, ◌≤◌, cond, eqb, leb, true, false, List, [], ◌∷◌, ◌++◌, length}
-use Rattle.std.proofs.Common.{take, drop, refl, sym, ap, ◌∙◌, le_refl, arith, chars, encode_utf8, IsUtf8, zero, suc, Bool, reverse}
-use Rattle.std.proofs.lemmas.Str.{encodes-chars}
-use Rattle.std.proofs.lemmas.List.{drop_all, length-drop, length-take, take_all, length-reverse, places, reverse-append, same_lists}
-use Rattle.std.proofs.lemmas.List.Sums.{sum_by-cons, fold_push}
-use Rattle.std.proofs.lemmas.Bool.{le-leb}
-use Rattle.std.proofs.lemmas.Bool.Decides.{nat_tests}
-use Rattle.snippet_text.specs.Width.{char_width, width_of}
-use Rattle.snippet_window.specs.Window.{reaching, fitting, uncovered_part}
-use Rattle.snippet_window.specs.NearPart.{reaching_last}
-use Rattle.snippet_style.proofs.CellLemmas.{length-chars_le}
-use Rattle.snippet_style.specs.Cell.{bytes_of}
+use Rattle.snippet_window.proofs.Common.{◌≡◌, ◌^◌, Option, Some, None, IfSome, unwrap_or, ℕ, ◌+◌, ◌-◌, ◌<◌, ◌≤◌, cond, eqb, leb}
+use Rattle.snippet_window.proofs.Common.{true, false, List, [], ◌∷◌, ◌++◌, length, take, drop, refl, sym, ap, ◌∙◌, le_refl, arith, encode_utf8}
+use Rattle.snippet_window.proofs.Common.{IsUtf8, zero, suc, Bool, reverse, encodes-chars, drop_all, length-drop, length-take, take_all, length-reverse, places}
+use Rattle.snippet_window.proofs.Common.{reverse-append, same_lists, sum_by-cons, fold_push, le-leb, nat_tests, char_width, width_of, reaching, fitting}
+use Rattle.snippet_window.proofs.Common.{uncovered_part, reaching_last, length-chars_le, bytes_of}
+use Rattle.std.proofs.Common.{chars}
 pub use Rattle.snippet_style.proofs.CutLemmas.{text_parts, cut_boundary, cut_front, cut_back, bytes-push, IsNext, take-next, drop-next, bytes_within}
 pub use Rattle.snippet_style.proofs.CutLemmas.{bytes_next}
 

@@ -1,23 +1,10 @@
 -- What holds of the bounds of a snippet's window: they are in order, and entries stand after the padding of the left one.
-use Rattle.std.proofs.Common.{◌≡◌, ℕ, ◌+◌, ◌-◌, ◌*◌, ◌/◌, ◌<◌, ◌≤◌, ◌^◌, ◌&&◌, nat_le, nat_lt, Bool, true, false, cond, not, min, max, List, [], ◌∷◌, All}
-use Rattle.std.proofs.Common.{ap, arith, inl, inr, map, refl, unwrap_or, fold, chars}
-use Rattle.std.specs.List.{flat_map, filter}
-use Rattle.std.proofs.lemmas.Bool.{cases_lt}
-use Rattle.std.proofs.lemmas.List.Elements.{All-append, All-cons, All-head, All-nil, All-tail, All-weaker}
-use Rattle.snippet_parts.specs.declared.entries.AnnotatedLineInfo.{AnnotatedLineInfo}
-use Rattle.snippet_parts.specs.declared.entries.LineAnnotation.{LineAnnotation}
-use Rattle.snippet_parts.specs.Annotated.{KeptLine}
-use Rattle.snippet_parts.specs.Entries.{is_bar}
-use Rattle.snippet_parts.specs.EntryBounds.{AllEntries, HasColumnRoom}
-use Rattle.snippet_parts.specs.OnLine.{seen_kept}
-use Rattle.snippet_parts.specs.Least.{greatest, least}
-use Rattle.snippet_parts.proofs.LeastLemmas.{least_below}
-use Rattle.snippet_style.specs.Bounds.{max_usize}
-use Rattle.snippet_window.specs.declared.margin.Margin.{Margin}
-use Rattle.snippet_window.specs.declared.extent.Extent.{Extent}
-use Rattle.snippet_window.specs.Extent.{ReachesLines, columns_of, ends_of, entries_of, line_texts, with_columns}
-use Rattle.snippet_window.specs.Margin.{capped_sum}
-use Rattle.snippet_window.specs.Measures.{StandsClear, margin_of, end_with}
+use Rattle.snippet_window.proofs.Common.{◌≡◌, ℕ, ◌+◌, ◌-◌, ◌*◌, ◌/◌, ◌<◌, ◌≤◌, ◌^◌, ◌&&◌, nat_le, nat_lt, Bool, true}
+use Rattle.snippet_window.proofs.Common.{false, cond, not, min, max, List, [], ◌∷◌, All, ap, arith, inl, inr, map, refl, unwrap_or, fold, flat_map}
+use Rattle.snippet_window.proofs.Common.{filter, cases_lt, All-append, All-cons, All-head, All-nil, All-tail, All-weaker, AnnotatedLineInfo, LineAnnotation}
+use Rattle.snippet_window.proofs.Common.{KeptLine, is_bar, AllEntries, HasColumnRoom, seen_kept, greatest, least, least_below, max_usize, Margin, Extent}
+use Rattle.snippet_window.proofs.Common.{ReachesLines, columns_of, ends_of, entries_of, line_texts, with_columns, capped_sum, StandsClear, margin_of, end_with}
+use Rattle.std.proofs.Common.{chars}
 use Rattle.snippet_window.proofs.ExtentLemmas.{lines_all, starts_all}
 use Rattle.snippet_window.proofs.MarginLaws.{bounds_reached}
 use Rattle.snippet_window.proofs.MeasureWords.{margin_by, whitespaces_of, widths_of}

@@ -1,41 +1,18 @@
 -- The bounds of a snippet's window follow from its spans, as they do from the entries of its lines.
-use Rattle.std.proofs.Common.{◌≡◌, ◌∙◌, ◌⊎◌, ℕ, ◌+◌, ◌-◌, ◌<◌, ◌≤◌, Bool, true, false, not, cond, eqb, leb, ◌&&◌, ◌||◌, List, [], ◌∷◌, ◌++◌, All, Option, None}
-use Rattle.std.proofs.Common.{map, chars, unwrap_or, refl, sym, ap, subst, inl, inr, arith, length}
-use Rattle.std.specs.List.{filter, flat_map, list_any, range_with_len}
-use Rattle.std.proofs.lemmas.Bool.{cases_Bool, or_right, and_parts, and_from, eq-eqb, eqb-true}
-use Rattle.std.proofs.lemmas.Bool.Decides.{nat_tests}
-use Rattle.snippet_model.specs.declared.snippet.Annotation.{Annotation}
-use Rattle.snippet_model.specs.declared.snippet.AnnotationKind.TheVariants.{Primary}
-use Rattle.snippet_parts.specs.declared.depths.LongExtent.{LongExtent}
-use Rattle.snippet_parts.specs.declared.entries.AnnotatedLineInfo.{AnnotatedLineInfo}
-use Rattle.snippet_parts.specs.declared.entries.LineAnnotation.{LineAnnotation}
-use Rattle.snippet_parts.specs.declared.entries.LineAnnotationType.TheVariants.{Singleline, MultilineEnd}
-use Rattle.snippet_lines.specs.declared.place.Loc.{Loc}
-use Rattle.snippet_parts.specs.Annotated.{long_entry, long_place, is_long, long_spans}
-use Rattle.snippet_parts.specs.LongSpans.{bar_lines}
-use Rattle.snippet_parts.specs.Annotated.{bar_part, single_part, start_part, end_part, span_parts, promoted, long_parts, made_parts, parts_on, KeptLine}
-use Rattle.snippet_parts.specs.Annotated.{kept_line, annotated_lines}
-use Rattle.snippet_parts.specs.OnLine.{seen_kept}
-use Rattle.snippet_parts.specs.Depths.{same_place, depth_among}
-use Rattle.snippet_parts.specs.Kept.{keeps, kept_lines}
-use Rattle.snippet_lines.specs.Lines.{Source, source_lines}
-use Rattle.snippet_parts.specs.Mark.{is_marking, is_single_line}
-use Rattle.snippet_parts.specs.Marked.{first_line, last_line}
-use Rattle.snippet_window.specs.Extent.{ReachesLines, columns_of, ends_of, entries_of, with_columns}
-use Rattle.snippet_window.specs.Measures.{end_with, margin_of}
-use Rattle.snippet_parts.specs.Least.{greatest, least}
-use Rattle.snippet_window.specs.declared.extent.Extent.{Extent}
+use Rattle.snippet_window.proofs.Common.{◌≡◌, ◌∙◌, ◌⊎◌, ℕ, ◌+◌, ◌-◌, ◌<◌, ◌≤◌, Bool, true, false, not, cond, eqb, leb}
+use Rattle.snippet_window.proofs.Common.{◌&&◌, ◌||◌, List, [], ◌∷◌, ◌++◌, All, Option, None, map, unwrap_or, refl, sym, ap, subst, inl, inr}
+use Rattle.snippet_window.proofs.Common.{arith, length, filter, flat_map, list_any, range_with_len, cases_Bool, or_right, and_parts, and_from, eq-eqb, eqb-true}
+use Rattle.snippet_window.proofs.Common.{nat_tests, Annotation, Primary, LongExtent, AnnotatedLineInfo, LineAnnotation, Singleline, MultilineEnd, Loc}
+use Rattle.snippet_window.proofs.Common.{long_entry, long_place, is_long, long_spans, bar_lines, bar_part, single_part, start_part, end_part, span_parts}
+use Rattle.snippet_window.proofs.Common.{promoted, long_parts, made_parts, parts_on, KeptLine, kept_line, annotated_lines, seen_kept, same_place, depth_among}
+use Rattle.snippet_window.proofs.Common.{keeps, kept_lines, Source, source_lines, is_marking, is_single_line, first_line, last_line, ReachesLines, columns_of}
+use Rattle.snippet_window.proofs.Common.{ends_of, entries_of, with_columns, end_with, margin_of, greatest, least, Extent, start_location, IsSpan, chars_at}
+use Rattle.snippet_window.proofs.Common.{Among, all_among, among_left, among_right, append_cases, among_map, among_filter, among_flat_map, flat_map_cases}
+use Rattle.snippet_window.proofs.Common.{among_in_order, among_range, any_among, any_cases, least_same, greatest_same, start-line, end-line, entry_of-line}
+use Rattle.snippet_window.proofs.Common.{line_of-mono, line_of-within, locations_of-start, start_byte, is_promoted, is_short, long_places, stands_among}
+use Rattle.snippet_window.proofs.Common.{stands_before}
+use Rattle.std.proofs.Common.{chars}
 use Rattle.snippet_window.proofs.MeasureWords.{margin_by, whitespaces_of, widths_of}
-use Rattle.snippet_lines.specs.Place.{start_location}
-use Rattle.snippet_lines.specs.IsSpan.{IsSpan}
-use Rattle.snippet_window.specs.Window.{chars_at}
-use Rattle.snippet_parts.proofs.AmongLemmas.{Among, all_among, among_left, among_right, append_cases, among_map, among_filter}
-use Rattle.snippet_parts.proofs.AmongLemmas.{among_flat_map, flat_map_cases, among_in_order, among_range, any_among, any_cases, least_same}
-use Rattle.snippet_parts.proofs.AmongLemmas.{greatest_same}
-use Rattle.snippet_parts.proofs.MarkLemmas.{start-line, end-line, entry_of-line}
-use Rattle.snippet_lines.proofs.PlaceLemmas.{line_of-mono, line_of-within, locations_of-start}
-use Rattle.snippet_parts.proofs.StartByte.{start_byte}
-use Rattle.snippet_parts.proofs.PartWords.{is_promoted, is_short, long_places, stands_among, stands_before}
 use Rattle.snippet_window.proofs.SpanMeasures.{Measure, columns, drawn_end, drawn_start, ends, has_columns, kept_parts, kept_texts, long_among, long_span}
 use Rattle.snippet_window.proofs.SpanMeasures.{measured, measured_long, measured_parts, measured_span, parts_there, seen_entries}
 use Rattle.snippet_window.proofs.SpanMeasures.{seen_texts, short_span, single_list, span_columns, span_ends}

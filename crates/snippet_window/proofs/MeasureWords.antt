@@ -1,10 +1,5 @@
 -- Words for what the bounds of a window are computed from, which proofs cite.
-use Rattle.std.proofs.Common.{List, ℕ, cond, eqb, map}
-use Rattle.std.specs.List.{filter_map}
-use Rattle.snippet_text.specs.Width.{width_of}
-use Rattle.snippet_window.specs.Margin.{margin_bounds}
-use Rattle.snippet_window.specs.Window.{leading_whitespace}
-use Rattle.snippet_window.specs.declared.margin.Margin.{Margin}
+use Rattle.snippet_window.proofs.Common.{List, ℕ, cond, eqb, map, filter_map, width_of, margin_bounds, leading_whitespace, Margin}
 
 -- the columns of a character of leading whitespace: four of a tab, one of any other
 abbrev pub whitespace_width : ℕ → ℕ

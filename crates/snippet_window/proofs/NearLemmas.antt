@@ -1,18 +1,10 @@
 -- The window of a line is found in a part of the line that is sure to hold it.
-use Rattle.std.proofs.Common.{◌≡◌, ℕ, suc, ◌+◌, ◌-◌, ◌<◌, ◌≤◌, inl, inr, Option, Some, None, unwrap_or, cond, nat_le, nat_lt, true, false, min, List, [], ◌∷◌}
-use Rattle.std.proofs.Common.{◌++◌, length, take, drop, sym, ap, ◌∙◌, subst, arith, reverse}
-use Rattle.std.proofs.Math.Seq.{take-append-add, drop-append-add}
-use Rattle.std.proofs.lemmas.List.{take-append-drop, take-append-le, drop-append-le, append-nil}
-use Rattle.std.proofs.lemmas.List.Sums.{sum_by-append}
-use Rattle.std.proofs.lemmas.Bool.{cases_lt}
-use Rattle.std.proofs.lemmas.Grind.{flat_map-append}
-use Rattle.snippet_text.specs.Normalized.{norm, shown}
-use Rattle.snippet_text.specs.Width.{char_width, width_of}
-use Rattle.snippet_text.proofs.NormLemmas.{width_of-norm}
-use Rattle.std.proofs.lemmas.Bool.Decides.{nat_tests}
-use Rattle.snippet_window.specs.Window.{reaching, fitting, window_left, window_right, dropped_part, inner_part, covered_columns, uncovered_part, covered_end}
-use Rattle.snippet_window.specs.declared.margin.Margin.{Margin}
-use Rattle.snippet_window.specs.NearPart.{HoldsWindow, IsPartOf, falling_short, window_columns, reaching_last}
+use Rattle.snippet_window.proofs.Common.{◌≡◌, ℕ, suc, ◌+◌, ◌-◌, ◌<◌, ◌≤◌, inl, inr, Option, Some, None, unwrap_or, cond, nat_le}
+use Rattle.snippet_window.proofs.Common.{nat_lt, true, false, min, List, [], ◌∷◌, ◌++◌, length, take, drop, sym, ap, ◌∙◌, subst, arith, reverse}
+use Rattle.snippet_window.proofs.Common.{take-append-add, drop-append-add, take-append-drop, take-append-le, drop-append-le, append-nil, sum_by-append}
+use Rattle.snippet_window.proofs.Common.{cases_lt, flat_map-append, norm, shown, char_width, width_of, width_of-norm, nat_tests, reaching, fitting, window_left}
+use Rattle.snippet_window.proofs.Common.{window_right, dropped_part, inner_part, covered_columns, uncovered_part, covered_end, Margin, HoldsWindow, IsPartOf}
+use Rattle.snippet_window.proofs.Common.{falling_short, window_columns, reaching_last}
 use Rattle.snippet_window.proofs.LineWindowLemmas.{width-cons, reaching-cons, reaching-none, fitting-cons, fitting-stop, reaching_last-reverse}
 
 take-cons : (n c : ℕ) (cs : List ℕ) → take (n + 1) (c ∷ cs) ≡ c ∷ take n cs

@@ -1,20 +1,10 @@
 -- A text that begins with printable ASCII: each of these bytes is a character of one column.
-use Rattle.std.proofs.Common.{◌≡◌, ℕ, ◌+◌, ◌-◌, ◌<◌, ◌≤◌, List, [], ◌∷◌, ◌++◌, length, take, drop, chars, encode_utf8_all, IsUtf8, All, sym, ap, ◌∙◌, arith}
-use Rattle.std.proofs.Common.{cond, inl, inr, min}
-use Rattle.std.proofs.lemmas.Bool.{cases_lt, lt-leb}
-use Rattle.std.proofs.lemmas.Bool.Decides.{nat_tests}
-use Rattle.std.proofs.lemmas.List.{length-append, length-take-le, take-append-drop}
-use Rattle.std.proofs.lemmas.List.Elements.{All-head, All-tail, All-weaker}
-use Rattle.std.proofs.lemmas.List.Sums.{sum_by-append}
-use Rattle.std.proofs.lemmas.Str.{IsUtf8-from_ascii, chars-append, encodes-append, encodes-chars}
-use Rattle.std.proofs.lemmas.Str.Ascii.{IsAscii-from_all}
-use Rattle.std.proofs.Math.Seq.{take-append-add, take-append_seam}
-use Rattle.snippet_style.specs.Cell.{bytes_of}
-use Rattle.snippet_text.specs.Plain.{IsPlain}
-use Rattle.snippet_text.specs.Width.{char_width, width_of}
-use Rattle.snippet_text.proofs.PlainLemmas.{char_width-plain, chars-plain, width_of-all_plain}
-use Rattle.snippet_window.specs.Window.{fitting, reaching}
-use Rattle.snippet_window.specs.NearPart.{reaching_last}
+use Rattle.snippet_window.proofs.Common.{◌≡◌, ℕ, ◌+◌, ◌-◌, ◌<◌, ◌≤◌, List, [], ◌∷◌, ◌++◌, length, take, drop}
+use Rattle.snippet_window.proofs.Common.{encode_utf8_all, IsUtf8, All, sym, ap, ◌∙◌, arith, cond, inl, inr, min, cases_lt, lt-leb, nat_tests}
+use Rattle.snippet_window.proofs.Common.{length-append, length-take-le, take-append-drop, All-head, All-tail, All-weaker, sum_by-append, IsUtf8-from_ascii}
+use Rattle.snippet_window.proofs.Common.{chars-append, encodes-append, encodes-chars, IsAscii-from_all, take-append-add, take-append_seam, bytes_of, IsPlain}
+use Rattle.snippet_window.proofs.Common.{char_width, width_of, char_width-plain, chars-plain, width_of-all_plain, fitting, reaching, reaching_last}
+use Rattle.std.proofs.Common.{chars}
 use Rattle.snippet_window.proofs.LineWindowLemmas.{fitting-cons, reaching-cons}
 
 plain_utf8 : (front : List ℕ) → All IsPlain front → IsUtf8 front

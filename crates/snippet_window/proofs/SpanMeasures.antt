@@ -1,31 +1,13 @@
 -- What is measured of a snippet's spans, and of the entries that they become, is measured of no other: no part has more.
-use Rattle.std.proofs.Common.{◌≡◌, ◌∙◌, ℕ, ◌+◌, ◌-◌, Bool, true, false, not, cond, eqb, List, [], ◌∷◌, ◌++◌, Option}
-use Rattle.std.proofs.Common.{map, chars, refl, sym, ap, subst, inl, inr}
-use Rattle.std.specs.List.{filter, flat_map}
-use Rattle.std.proofs.lemmas.Bool.{and_parts, not-true}
-use Rattle.snippet_model.specs.declared.snippet.Annotation.{Annotation}
-use Rattle.snippet_model.specs.declared.snippet.AnnotationKind.TheVariants.{Primary}
-use Rattle.snippet_parts.specs.declared.depths.LongExtent.{LongExtent}
-use Rattle.snippet_parts.specs.declared.entries.AnnotatedLineInfo.{AnnotatedLineInfo}
-use Rattle.snippet_parts.specs.declared.entries.LineAnnotation.{LineAnnotation}
-use Rattle.snippet_parts.specs.declared.entries.LineAnnotationType.{LineAnnotationType}
-use Rattle.snippet_parts.specs.declared.entries.LineAnnotationType.TheVariants.{Singleline, MultilineEnd}
-use Rattle.snippet_lines.specs.declared.place.Loc.{Loc}
-use Rattle.snippet_parts.specs.Annotated.{long_entry, long_place, is_long, long_spans, bar_part, single_part, start_part, end_part, span_parts, promoted}
-use Rattle.snippet_parts.specs.Annotated.{long_parts, made_parts, parts_on, KeptLine, kept_line, annotated_lines}
-use Rattle.snippet_parts.specs.OnLine.{seen_kept}
-use Rattle.snippet_parts.specs.Depths.{depth_among}
-use Rattle.snippet_parts.specs.LongSpans.{bar_lines}
-use Rattle.snippet_parts.specs.Kept.{kept_lines}
-use Rattle.snippet_lines.specs.Lines.{Source}
-use Rattle.snippet_parts.specs.Mark.{is_marking, is_single_line}
-use Rattle.snippet_window.specs.Extent.{entries_of, line_texts}
-use Rattle.snippet_window.specs.Measures.{end_with}
-use Rattle.snippet_parts.specs.Entries.{is_bar}
-use Rattle.snippet_window.specs.Window.{chars_at}
-use Rattle.snippet_parts.proofs.AmongLemmas.{Among, among_left, among_right, append_cases, map_cases, filter_cases}
-use Rattle.snippet_parts.proofs.AmongLemmas.{among_flat_map, flat_map_cases, in_order_cases}
-use Rattle.snippet_parts.proofs.PartWords.{is_promoted, is_short, long_places, stands_among, stands_before}
+use Rattle.snippet_window.proofs.Common.{◌≡◌, ◌∙◌, ℕ, ◌+◌, ◌-◌, Bool, true, false, not, cond, eqb, List, [], ◌∷◌, ◌++◌, Option}
+use Rattle.snippet_window.proofs.Common.{map, refl, sym, ap, subst, inl, inr, filter, flat_map, and_parts, not-true, Annotation, Primary, LongExtent}
+use Rattle.snippet_window.proofs.Common.{AnnotatedLineInfo, LineAnnotation, LineAnnotationType, Singleline, MultilineEnd, Loc, long_entry, long_place, is_long}
+use Rattle.snippet_window.proofs.Common.{long_spans, bar_part, single_part, start_part, end_part, span_parts, promoted, long_parts, made_parts, parts_on}
+use Rattle.snippet_window.proofs.Common.{KeptLine, kept_line, annotated_lines, seen_kept, depth_among, bar_lines, kept_lines, Source, is_marking}
+use Rattle.snippet_window.proofs.Common.{is_single_line, entries_of, line_texts, end_with, is_bar, chars_at, Among, among_left, among_right, append_cases}
+use Rattle.snippet_window.proofs.Common.{map_cases, filter_cases, among_flat_map, flat_map_cases, in_order_cases, is_promoted, is_short, long_places}
+use Rattle.snippet_window.proofs.Common.{stands_among, stands_before}
+use Rattle.std.proofs.Common.{chars}
 
 -- what is measured of an entry: some numbers, by where it starts and ends and by its label
 abbrev pub Measure : Type 0

@@ -1,30 +1,18 @@
 -- Where a snippet stands whole, nothing of its lines is cut on the left.
-use Rattle.std.proofs.Common.{◌≡◌, ◌∙◌, ℕ, ◌+◌, ◌-◌, ◌≤◌, Bool, true, false, not, cond, eqb, leb, ltb, max, min, ◌&&◌, ◌||◌, List, [], ◌∷◌, ◌++◌, Option, Some}
-use Rattle.std.proofs.Common.{None, map, chars, unwrap_or, refl, sym, ap, subst, inl, inr, arith}
-use Rattle.std.specs.List.{All, cons_option, flat_map, list_all, list_any}
-use Rattle.std.specs.Option.{is_none, option_map_or}
-use Rattle.std.proofs.lemmas.Bool.{cases_Bool, cond-true, cond-false, and_parts, and_from, not-true, eqb-false, leb-true, or_cases}
-use Rattle.std.proofs.lemmas.Bool.Decides.{nat_tests}
-use Rattle.snippet_text.specs.Width.{width_of}
-use Rattle.snippet_model.specs.declared.snippet.Annotation.{Annotation}
-use Rattle.snippet_lines.specs.declared.place.Loc.{Loc}
-use Rattle.snippet_parts.specs.Annotated.{annotated_lines, long_entry, single_part}
-use Rattle.snippet_parts.specs.Kept.{kept_lines}
-use Rattle.snippet_lines.specs.Lines.{Source, source_lines}
-use Rattle.snippet_parts.specs.Mark.{is_marking, is_marked_on, is_single_line, is_wide, start_column}
-use Rattle.snippet_parts.specs.Marked.{first_line, last_line}
-use Rattle.snippet_parts.specs.Least.{greatest, least}
-use Rattle.snippet_window.specs.Measures.{margin_of}
-use Rattle.snippet_lines.specs.IsSpan.{IsSpan}
-use Rattle.snippet_lines.specs.Place.{end_location, line_of, location_of, locations_of, place_of, prefix_at, steps_after_text}
-use Rattle.snippet_window.specs.Window.{chars_at, end_mark_column, is_near_left, is_near_span, leading_whitespace, stands_whole}
-use Rattle.snippet_parts.proofs.AmongLemmas.{Among, among_map, map_cases, among_flat_map, any_cases, least_le, greatest_most, all_pass, among_filter_map}
-use Rattle.snippet_parts.proofs.MarkLemmas.{start_column-from}
-use Rattle.snippet_lines.proofs.PlaceLemmas.{locations_of-end}
+use Rattle.snippet_window.proofs.Common.{◌≡◌, ◌∙◌, ℕ, ◌+◌, ◌-◌, ◌≤◌, Bool, true, false, not, cond, eqb, leb, ltb, max, min}
+use Rattle.snippet_window.proofs.Common.{◌&&◌, ◌||◌, List, [], ◌∷◌, ◌++◌, Option, Some, None, map, unwrap_or, refl, sym, ap, subst, inl, inr}
+use Rattle.snippet_window.proofs.Common.{arith, cons_option, flat_map, list_all, list_any, is_none, option_map_or, cases_Bool, cond-true, cond-false, and_parts}
+use Rattle.snippet_window.proofs.Common.{and_from, not-true, eqb-false, leb-true, or_cases, nat_tests, width_of, Annotation, Loc, annotated_lines, long_entry}
+use Rattle.snippet_window.proofs.Common.{single_part, kept_lines, Source, source_lines, is_marking, is_marked_on, is_single_line, is_wide, start_column}
+use Rattle.snippet_window.proofs.Common.{first_line, last_line, greatest, least, margin_of, IsSpan, end_location, line_of, location_of, locations_of, place_of}
+use Rattle.snippet_window.proofs.Common.{prefix_at, steps_after_text, chars_at, end_mark_column, is_near_left, is_near_span, leading_whitespace, stands_whole}
+use Rattle.snippet_window.proofs.Common.{Among, among_map, map_cases, among_flat_map, any_cases, least_le, greatest_most, all_pass, among_filter_map}
+use Rattle.snippet_window.proofs.Common.{start_column-from, locations_of-end, Margin}
+use Rattle.std.proofs.Common.{chars}
+use Rattle.std.specs.List.{All}
 use Rattle.snippet_window.proofs.MarginLaws.{margin_of_spans}
 use Rattle.snippet_window.proofs.SpanMeasures.{columns, measured, measured_long, short_span, long_span, span_columns, span_ends}
 use Rattle.snippet_window.proofs.MeasureWords.{margin_by, whitespaces_of, widths_of}
-use Rattle.snippet_window.specs.declared.margin.Margin.{Margin}
 
 -- lines of which each is blank begin with no whitespace that counts
 blank_none : (source ks : List ℕ) → list_all (λ k. is_none (leading_whitespace (chars_at source k))) ks ≡ true → whitespaces_of (map (chars_at source) ks) ≡ []

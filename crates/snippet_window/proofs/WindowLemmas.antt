@@ -1,10 +1,6 @@
 -- How the leading whitespace of a line is counted character by character.
-use Rattle.std.proofs.Common.{◌≡◌, ℕ, ◌+◌, ◌<◌, cond, true, false, List, Option, Some, None, length, drop, get_or, refl, sym, ap, ◌∙◌, add_assoc, add-zero}
-use Rattle.std.proofs.Common.{le_refl}
-use Rattle.std.specs.Option.{option_map}
-use Rattle.std.specs.Char.{is_whitespace}
-use Rattle.std.proofs.lemmas.List.{at_drop_more, drop_all}
-use Rattle.snippet_window.specs.Window.{leading_whitespace}
+use Rattle.snippet_window.proofs.Common.{◌≡◌, ℕ, ◌+◌, ◌<◌, cond, true, false, List, Option, Some, None, length, drop, get_or, refl, sym, ap}
+use Rattle.snippet_window.proofs.Common.{◌∙◌, add_assoc, add-zero, le_refl, option_map, is_whitespace, at_drop_more, drop_all, leading_whitespace}
 use Rattle.snippet_window.proofs.MeasureWords.{whitespace_width}
 
 -- what stands from a character on

@@ -1,10 +1,8 @@
-use Rattle.std.proofs.Common.{◌≡◌, ◌∙◌, ◌-◌, ◌<◌, ◌^◌, ap, arith, chars, drop, encode_utf8_all, length, map, refl, rules, string_bytes, sym, take}
-use Rattle.std.proofs.lemmas.List.{get_or_default, length-drop, length-map, length-take}
-use Rattle.std.proofs.lemmas.Str.{IsUtf8-string_bytes}
+use Rattle.snippet_grid.proofs.Common.{◌≡◌, ◌∙◌, ◌-◌, ◌<◌, ◌^◌, ap, arith, drop, encode_utf8_all, length, map, refl, rules}
+use Rattle.snippet_grid.proofs.Common.{string_bytes, sym, take, get_or_default, length-drop, length-map, length-take, IsUtf8-string_bytes, ch_of, StyledChar}
+use Rattle.std.proofs.Common.{chars}
 use Rattle.snippet_grid.proofs.AddedRows.{FIRST}
 use Rattle.snippet_grid.proofs.GridShown.{IsWord-pushed, chars_added}
-use Rattle.snippet_grid.specs.StyledChars.{ch_of}
-use Rattle.snippet_grid.specs.declared.styled_char.StyledChar.{StyledChar}
 use Rattle.snippet_grid.proofs.added_row.add_stretch.Goals as goal
 
 pub returns-clause-ok : goal.returns-clause-ok

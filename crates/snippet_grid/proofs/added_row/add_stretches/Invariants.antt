@@ -1,7 +1,6 @@
 -- Runs show the cells so far.
-use Rattle.std.proofs.Common.{◌-◌, length, string_bytes}
+use Rattle.snippet_grid.proofs.Common.{◌-◌, length, string_bytes, BeginsWith}
 use Rattle.snippet_grid.proofs.AddedRows.{RowSoFar}
-use Rattle.snippet_grid.specs.Runs.{BeginsWith}
 use Rattle.snippet_grid.proofs.added_row.add_stretches.Given as goal
 
 abbrev pub invariant-loop-from : goal.invariant-loop-from

@@ -1,11 +1,7 @@
-use Rattle.std.proofs.Common.{◌≡◌, ◌∙◌, ◌+◌, ◌-◌, ◌<◌, ◌≤◌, ◌++◌, ◌∷◌, [], List, ap, arith, drop, encode_utf8, encode_utf8_all, get_or, inl, inr}
-use Rattle.std.proofs.Common.{length, map, rules, string_bytes, sym, take, ℕ}
-use Rattle.std.proofs.lemmas.Bool.{cases_eq}
-use Rattle.std.proofs.lemmas.List.{append-nil, append_assoc, get_or-drop, get_or_default, length-drop, map-append, take_more}
-use Rattle.std.proofs.lemmas.Str.{encodes-append}
+use Rattle.snippet_grid.proofs.Common.{◌≡◌, ◌∙◌, ◌+◌, ◌-◌, ◌<◌, ◌≤◌, ◌++◌, ◌∷◌, [], List, ap, arith, drop, encode_utf8}
+use Rattle.snippet_grid.proofs.Common.{encode_utf8_all, get_or, inl, inr, length, map, rules, string_bytes, sym, take, ℕ, cases_eq, append-nil, append_assoc}
+use Rattle.snippet_grid.proofs.Common.{get_or-drop, get_or_default, length-drop, map-append, take_more, encodes-append, ch_of, StyledChar}
 use Rattle.snippet_grid.proofs.AddedRows.{FIRST}
-use Rattle.snippet_grid.specs.StyledChars.{ch_of}
-use Rattle.snippet_grid.specs.declared.styled_char.StyledChar.{StyledChar}
 use Rattle.snippet_grid.proofs.added_row.spell.Goals as goal
 
 -- one character more of some cells

@@ -1,8 +1,7 @@
 -- The characters so far are added, of cells of the first one's role.
-use Rattle.std.proofs.Common.{◌≡◌, ◌++◌, ◌-◌, ◌<◌, ◌≤◌, ℕ, drop, encode_utf8_all, length, map, string_bytes, take}
+use Rattle.snippet_grid.proofs.Common.{◌≡◌, ◌++◌, ◌-◌, ◌<◌, ◌≤◌, ℕ, drop, encode_utf8_all, length, map, string_bytes, take, ch_of}
+use Rattle.snippet_grid.proofs.Common.{StyledChar}
 use Rattle.std.specs.List.{slice_index_or}
-use Rattle.snippet_grid.specs.StyledChars.{ch_of}
-use Rattle.snippet_grid.specs.declared.styled_char.StyledChar.{StyledChar}
 use Rattle.snippet_grid.proofs.added_row.spell.Given as goal
 
 abbrev pub invariant-loop-to : goal.invariant-loop-to

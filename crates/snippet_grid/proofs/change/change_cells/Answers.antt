@@ -1,5 +1,6 @@
-use Rattle.std.proofs.Common.{◌≡◌, ◌∙◌, ◌+◌, ◌<◌, ◌≤◌, ◌^◌, ap, arith, refl, sym, subst, min, length, string_bytes, get_or, List, ℕ, All}
-use Rattle.std.proofs.lemmas.Result.{on_ok_weaker, on_err_weaker}
+use Rattle.snippet_grid.proofs.Common.{◌≡◌, ◌∙◌, ◌+◌, ◌<◌, ◌≤◌, ◌^◌, ap, arith, refl, sym, subst, min, length, string_bytes}
+use Rattle.snippet_grid.proofs.Common.{get_or, List, ℕ, All, on_ok_weaker, on_err_weaker, changed_by, RowAt, ShowsSpan, cells_changed, Cell, IsRun, IsPut}
+use Rattle.snippet_grid.proofs.Common.{FitIn, shown_cell, Run, ◌++◌, ◌-◌, ◌*◌, take, drop, IsRow, EndsBy, row_at, Stored}
 use Rattle.snippet_grid.proofs.ChangeLemmas.{cells_changed_none}
 use Rattle.snippet_grid.proofs.ChangedRow.{put_span, put_stays, part_same}
 use Rattle.snippet_grid.proofs.GridChanged.{grid_span}
@@ -9,18 +10,9 @@ use Rattle.snippet_grid.proofs.PutLemmas.{AreOrdered, AreApart, IsRow-stretch}
 use Rattle.snippet_grid.proofs.RowPut.{RowAt-read, row_shows, begins_fit}
 use Rattle.snippet_grid.proofs.ShownLemmas.{All-IsRun-grown}
 use Rattle.snippet_grid.proofs.StretchLemmas.{stretch, BeginsWith-trans}
-use Rattle.snippet_grid.specs.Changes.{changed_by, RowAt, ShowsSpan}
-use Rattle.snippet_grid.specs.Calls.{cells_changed}
-use Rattle.snippet_style.specs.Cell.{Cell}
-use Rattle.snippet_grid.specs.Runs.{IsRun, IsPut, FitIn, shown_cell}
-use Rattle.snippet_grid.specs.declared.runs.Run.{Run}
-use Rattle.std.proofs.Common.{◌++◌, ◌-◌, ◌*◌, take, drop}
 use Rattle.snippet_grid.proofs.GridChanged.{IsExchanged, IsGrid-put, FitIn-put, grid_changed}
 use Rattle.snippet_grid.proofs.RowPut.{put_length, length-stretch}
-use Rattle.snippet_grid.specs.Runs.{IsRow, EndsBy}
 use Rattle.snippet_grid.proofs.StoredLemmas.{stored_grown}
-use Rattle.snippet_grid.specs.Grid.{row_at}
-use Rattle.snippet_grid.specs.Stored.{Stored}
 use Rattle.snippet_grid.proofs.change.change_cells.Goals as goal
 use Rattle.snippet_grid.proofs.change.change_cells.Goals.{After-row_bounds-from}
 

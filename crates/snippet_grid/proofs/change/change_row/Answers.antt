@@ -1,9 +1,6 @@
-use Rattle.std.proofs.Common.{string_bytes, subst, sym, List}
+use Rattle.snippet_grid.proofs.Common.{string_bytes, subst, sym, List, IsPartOfRow, IsRow, shown_cell, Run}
 use Rattle.snippet_grid.proofs.ChangedRow.{change_next}
 use Rattle.snippet_grid.proofs.ShownLemmas.{All-IsRun-grown}
-use Rattle.snippet_grid.specs.Changes.{IsPartOfRow}
-use Rattle.snippet_grid.specs.Runs.{IsRow, shown_cell}
-use Rattle.snippet_grid.specs.declared.runs.Run.{Run}
 use Rattle.snippet_grid.proofs.change.change_row.Goals as goal
 
 pub put_run-requires-clause-runs : goal.put_run-requires-clause-runs

@@ -1,5 +1,5 @@
 -- What stands before the cell `col` is changed.
-use Rattle.std.proofs.Common.{◌-◌, string_bytes}
+use Rattle.snippet_grid.proofs.Common.{◌-◌, string_bytes}
 use Rattle.snippet_grid.proofs.ChangedRow.{ChangeSoFar}
 use Rattle.snippet_grid.proofs.change.change_row.Given as goal
 

@@ -1,5 +1,4 @@
-use Rattle.std.proofs.Common.{rules, arith, refl, string_bytes}
-use Rattle.std.proofs.lemmas.Str.{IsUtf8-string_bytes}
+use Rattle.snippet_grid.proofs.Common.{rules, arith, refl, string_bytes, IsUtf8-string_bytes}
 use Rattle.snippet_grid.proofs.SpanLemmas.{IsGap-pushed}
 use Rattle.snippet_grid.proofs.change.push_gap.Goals as goal
 

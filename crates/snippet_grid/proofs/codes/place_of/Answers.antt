@@ -1,4 +1,4 @@
-use Rattle.std.proofs.Common.{◌∙◌, sym, ap, inl, inr}
+use Rattle.snippet_grid.proofs.Common.{◌∙◌, sym, ap, inl, inr}
 use Rattle.snippet_style.specs.Stylesheet as spec
 use Rattle.snippet_grid.proofs.codes.place_of.Goals as goal
 

@@ -1,11 +1,6 @@
-use Rattle.std.proofs.Common.{◌≡◌, ◌∙◌, ◌++◌, ◌∷◌, [], ℕ, List, ap, sym, append_assoc, append-nil, encode_utf8_all, string_bytes}
-use Rattle.std.specs.List.{flat_map}
-use Rattle.std.proofs.lemmas.List.{map-id}
-use Rattle.std.proofs.lemmas.Grind.{flat_map-append}
-use Rattle.std.proofs.lemmas.Str.{encodes-append}
-use Rattle.std.proofs.lemmas.Iterator.{YieldsList-from_chars}
-use Rattle.std.proofs.lemmas.Iterator.Consumers.{YieldsList-end}
-use Rattle.snippet_grid.specs.Html.{escape, escaped}
+use Rattle.snippet_grid.proofs.Common.{◌≡◌, ◌∙◌, ◌++◌, ◌∷◌, [], ℕ, List, ap, sym, encode_utf8_all, string_bytes, flat_map, map-id}
+use Rattle.snippet_grid.proofs.Common.{flat_map-append, encodes-append, YieldsList-from_chars, YieldsList-end, escape, escaped}
+use Rattle.std.proofs.Common.{append_assoc, append-nil}
 use Rattle.snippet_grid.proofs.html.push_escaped.Goals as goal
 
 -- a text that has the characters so far escaped, and one more, has them all escaped

@@ -1,6 +1,5 @@
 -- What is added so far spells the characters so far, escaped.
-use Rattle.std.proofs.Common.{◌≡◌, ◌++◌, encode_utf8_all, string_bytes}
-use Rattle.snippet_grid.specs.Html.{escaped}
+use Rattle.snippet_grid.proofs.Common.{◌≡◌, ◌++◌, encode_utf8_all, string_bytes, escaped}
 use Rattle.snippet_grid.proofs.html.push_escaped.Given as goal
 
 abbrev pub invariant-loop-ch : goal.invariant-loop-ch

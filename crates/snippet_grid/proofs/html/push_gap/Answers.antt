@@ -1,7 +1,5 @@
-use Rattle.std.proofs.Common.{arith, map, refl, replicate, string_bytes, ◌-◌}
+use Rattle.snippet_grid.proofs.Common.{arith, map, refl, replicate, string_bytes, ◌-◌, Text, tags_between, plain_look, look_seen}
 use Rattle.snippet_grid.proofs.HtmlLemmas.{adds_both, adds_spaces}
-use Rattle.snippet_grid.specs.Html.{Text, tags_between, plain_look}
-use Rattle.snippet_grid.specs.HtmlLooks.{look_seen}
 use Rattle.snippet_grid.proofs.html.push_gap.Goals as goal
 
 pub returns : goal.returns

@@ -1,16 +1,11 @@
-use Rattle.std.proofs.Common.{◌≤◌, ◌<◌, ◌+◌, ◌++◌, subst, sym, arith, get_or, refl, length, map, None, string_bytes, List, ℕ}
-use Rattle.std.proofs.lemmas.Result.{on_ok_weaker}
-use Rattle.std.specs.Option.{option_copied}
+use Rattle.snippet_grid.proofs.Common.{◌≤◌, ◌<◌, ◌+◌, ◌++◌, subst, sym, arith, get_or, refl, length, map, None, string_bytes, List, ℕ}
+use Rattle.snippet_grid.proofs.Common.{on_ok_weaker, option_copied, AddsHtml, HtmlLook, Text, tags_between, look_at, look_seen, run_chars, cells_to, Run}
+use Rattle.snippet_grid.proofs.Common.{MainHeaderMsg}
 use Rattle.std.specs.Str.{chars}
 use Rattle.snippet_grid.proofs.HtmlLemmas.{html_closed}
 use Rattle.snippet_grid.proofs.HtmlRows.{HtmlTo, html_start, html_gap, html_run}
 use Rattle.snippet_grid.proofs.RowWoven.{first_ahead}
 use Rattle.snippet_grid.proofs.RunLemmas.{starts_at_boundary, ends_at_boundary}
-use Rattle.snippet_grid.specs.Html.{AddsHtml, HtmlLook, Text, tags_between, look_at}
-use Rattle.snippet_grid.specs.HtmlLooks.{look_seen}
-use Rattle.snippet_grid.specs.Runs.{run_chars, cells_to}
-use Rattle.snippet_grid.specs.declared.runs.Run.{Run}
-use Rattle.snippet_style.specs.declared.role.ElementStyle.TheVariants.{MainHeaderMsg}
 use Rattle.snippet_grid.proofs.html.push_html_row.Goals as goal
 
 -- what stands where a list has no run

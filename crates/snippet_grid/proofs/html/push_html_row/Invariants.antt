@@ -1,7 +1,6 @@
 -- The row is printed up to the end of the last run.
-use Rattle.std.proofs.Common.{◌≤◌, string_bytes}
+use Rattle.snippet_grid.proofs.Common.{◌≤◌, string_bytes, look_seen}
 use Rattle.snippet_grid.proofs.HtmlRows.{HtmlTo}
-use Rattle.snippet_grid.specs.HtmlLooks.{look_seen}
 use Rattle.snippet_grid.proofs.html.push_html_row.Given as goal
 
 abbrev pub invariant-loop-run : goal.invariant-loop-run

@@ -1,5 +1,5 @@
 -- The rows so far are printed.
-use Rattle.std.proofs.Common.{string_bytes}
+use Rattle.snippet_grid.proofs.Common.{string_bytes}
 use Rattle.snippet_grid.proofs.HtmlRows.{HtmlRowsTo}
 use Rattle.snippet_grid.proofs.html.push_html_rows.Given as goal
 

@@ -1,5 +1,4 @@
-use Rattle.std.proofs.Common.{◌∙◌, sym, string_bytes}
-use Rattle.std.proofs.lemmas.Result.{on_ok_weaker}
+use Rattle.snippet_grid.proofs.Common.{◌∙◌, sym, string_bytes, on_ok_weaker}
 use Rattle.snippet_grid.proofs.HtmlLemmas.{adds_anchor}
 use Rattle.snippet_grid.proofs.OutcomeLemmas.{on_ok_value}
 use Rattle.snippet_grid.proofs.html.start_anchor.Goals as goal

@@ -1,7 +1,5 @@
-use Rattle.std.proofs.Common.{string_bytes}
-use Rattle.std.proofs.lemmas.Result.{on_ok_weaker}
+use Rattle.snippet_grid.proofs.Common.{string_bytes, on_ok_weaker, anchor_started, span_started}
 use Rattle.snippet_grid.proofs.HtmlLemmas.{adds_both}
-use Rattle.snippet_grid.specs.Html.{anchor_started, span_started}
 use Rattle.snippet_grid.proofs.html.start_look.Goals as goal
 
 pub returns : goal.returns

@@ -1,7 +1,4 @@
-use Rattle.std.proofs.Common.{arith, None}
-use Rattle.std.proofs.lemmas.Bool.{leb-true}
-use Rattle.snippet_grid.specs.declared.runs.Run.{Run}
-use Rattle.snippet_style.specs.declared.role.ElementStyle.TheVariants.{MainHeaderMsg}
+use Rattle.snippet_grid.proofs.Common.{arith, None, leb-true, Run, MainHeaderMsg}
 use Rattle.snippet_grid.proofs.PutLemmas.{all_before}
 use Rattle.snippet_grid.proofs.put.are_before.Goals as goal
 

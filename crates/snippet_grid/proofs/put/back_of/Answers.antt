@@ -1,5 +1,4 @@
-use Rattle.std.proofs.Common.{arith, length, get_or, ◌-◌, ◌+◌, refl}
-use Rattle.std.proofs.lemmas.List.{get_or_default}
+use Rattle.snippet_grid.proofs.Common.{arith, length, get_or, ◌-◌, ◌+◌, refl, get_or_default}
 use Rattle.snippet_grid.proofs.RunLemmas.{none}
 use Rattle.snippet_grid.proofs.PieceLemmas.{IsBack-none, IsBack-some, end_before}
 use Rattle.snippet_grid.proofs.put.back_of.Goals as goal

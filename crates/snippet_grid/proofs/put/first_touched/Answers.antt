@@ -1,4 +1,4 @@
-use Rattle.std.proofs.Common.{arith}
+use Rattle.snippet_grid.proofs.Common.{arith}
 use Rattle.snippet_grid.proofs.TouchLemmas.{clear_all}
 use Rattle.snippet_grid.proofs.put.first_touched.Goals as goal
 

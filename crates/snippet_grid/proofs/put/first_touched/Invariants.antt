@@ -1,7 +1,5 @@
 -- What stands between the two places touches the run.
-use Rattle.std.proofs.Common.{◌<◌, ◌≤◌, ℕ, slice_index_or}
-use Rattle.snippet_grid.specs.Runs.{Touches}
-use Rattle.snippet_grid.specs.declared.runs.Run.{Run}
+use Rattle.snippet_grid.proofs.Common.{◌<◌, ◌≤◌, ℕ, slice_index_or, Touches, Run}
 use Rattle.snippet_grid.proofs.put.first_touched.Given as goal
 
 abbrev pub invariant-loop-start : goal.invariant-loop-start

@@ -1,5 +1,4 @@
-use Rattle.std.proofs.Common.{arith, get_or}
-use Rattle.std.proofs.lemmas.List.{get_or_default}
+use Rattle.snippet_grid.proofs.Common.{arith, get_or, get_or_default}
 use Rattle.snippet_grid.proofs.RunLemmas.{none}
 use Rattle.snippet_grid.proofs.PieceLemmas.{IsFront-none, IsFront-some, begin_after}
 use Rattle.snippet_grid.proofs.put.front_of.Goals as goal

@@ -1,5 +1,4 @@
-use Rattle.std.proofs.Common.{◌≡◌, ◌∙◌, ◌+◌, ap, arith, rules, length, string_bytes, ℕ}
-use Rattle.std.proofs.lemmas.Result.{on_ok_weaker}
+use Rattle.snippet_grid.proofs.Common.{◌≡◌, ◌∙◌, ◌+◌, ap, arith, rules, length, string_bytes, ℕ, on_ok_weaker}
 use Rattle.std.specs.Str.{chars}
 use Rattle.snippet_grid.proofs.StretchLemmas.{BeginsWith-trans}
 use Rattle.snippet_grid.proofs.GridShown.{chars_some}

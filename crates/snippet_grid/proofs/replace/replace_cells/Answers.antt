@@ -1,24 +1,15 @@
-use Rattle.std.proofs.Common.{rules, ◌≡◌, ◌∙◌, ◌+◌, ◌-◌, ◌<◌, ◌≤◌, ◌^◌, ap, arith, refl, sym, subst, inl, inr, string_bytes, get_or, List, ℕ, All, length}
-use Rattle.std.proofs.Common.{set}
-use Rattle.std.proofs.lemmas.Bool.{cases_lt}
-use Rattle.std.proofs.lemmas.List.{length-set, get_or-set_same, get_or-set_other, get_or_past}
+use Rattle.snippet_grid.proofs.Common.{rules, ◌≡◌, ◌∙◌, ◌+◌, ◌-◌, ◌<◌, ◌≤◌, ◌^◌, ap, arith, refl, sym, subst, inl, inr}
+use Rattle.snippet_grid.proofs.Common.{string_bytes, get_or, List, ℕ, All, length, set, cases_lt, length-set, get_or-set_same, get_or-set_other, get_or_past}
+use Rattle.snippet_grid.proofs.Common.{length-text_cells, RowAt, ShowsReplaced, text_cells, IsRun, EndsBy, FitIn, Run, row_at, cells_replaced, Stored}
 use Rattle.std.specs.Str.{chars}
 use Rattle.snippet_grid.proofs.GridChanged.{IsExchanged, IsGrid-put}
-use Rattle.snippet_style.proofs.CellLemmas.{length-text_cells}
 use Rattle.snippet_grid.proofs.GridShown.{on_err_from, IsGrid-grown, width_shown}
 use Rattle.snippet_grid.proofs.PutLemmas.{AreOrdered, AreApart, IsRow-stretch}
 use Rattle.snippet_grid.proofs.ReplaceLemmas.{cells_replaced_empty, cells_replaced_past}
 use Rattle.snippet_grid.proofs.ReplacedRow.{grid_replaced, FitIn-replaced}
 use Rattle.snippet_grid.proofs.RowPut.{RowAt-read, begins_fit, row_ends, put_length, length-stretch}
 use Rattle.snippet_grid.proofs.StretchLemmas.{stretch}
-use Rattle.snippet_grid.specs.Changes.{RowAt, ShowsReplaced}
-use Rattle.snippet_style.specs.Cell.{text_cells}
-use Rattle.snippet_grid.specs.Runs.{IsRun, EndsBy, FitIn}
-use Rattle.snippet_grid.specs.declared.runs.Run.{Run}
 use Rattle.snippet_grid.proofs.StoredLemmas.{stored_grown}
-use Rattle.snippet_grid.specs.Grid.{row_at}
-use Rattle.snippet_grid.specs.Calls.{cells_replaced}
-use Rattle.snippet_grid.specs.Stored.{Stored}
 use Rattle.snippet_grid.proofs.replace.replace_cells.Goals as goal
 use Rattle.snippet_grid.proofs.replace.replace_cells.Goals.{After-row_bounds-from, After-checked_add}
 

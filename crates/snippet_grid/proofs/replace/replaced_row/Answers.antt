@@ -1,17 +1,11 @@
-use Rattle.std.proofs.Common.{◌+◌, ◌-◌, arith, ap, sym, subst, slice_index_or, List, length, string_bytes}
-use Rattle.std.proofs.lemmas.List.Elements.{All-nil}
-use Rattle.std.proofs.lemmas.Result.{on_ok_weaker}
+use Rattle.snippet_grid.proofs.Common.{◌+◌, ◌-◌, arith, ap, sym, subst, slice_index_or, List, length, string_bytes, All-nil, on_ok_weaker}
+use Rattle.snippet_grid.proofs.Common.{length-text_cells, ShowsSpan, SPACE, text_cells, IsRow, EndsBy, Run}
 use Rattle.std.specs.Str.{chars}
 use Rattle.snippet_grid.proofs.PieceLemmas.{IsRow-none}
 use Rattle.snippet_grid.proofs.TouchedRuns.{touched_outer}
-use Rattle.snippet_style.proofs.CellLemmas.{length-text_cells}
 use Rattle.snippet_grid.proofs.PutLemmas.{IsRow-grown}
 use Rattle.snippet_grid.proofs.ReplacedRow.{row_replaced}
 use Rattle.snippet_grid.proofs.StretchLemmas.{BeginsWith-trans}
-use Rattle.snippet_grid.specs.Changes.{ShowsSpan}
-use Rattle.snippet_style.specs.Cell.{SPACE, text_cells}
-use Rattle.snippet_grid.specs.Runs.{IsRow, EndsBy}
-use Rattle.snippet_grid.specs.declared.runs.Run.{Run}
 use Rattle.snippet_grid.proofs.replace.replaced_row.Goals as goal
 
 -- the row is begun with no runs

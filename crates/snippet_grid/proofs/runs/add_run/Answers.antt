@@ -1,9 +1,5 @@
-use Rattle.std.proofs.Common.{string_bytes, arith, ◌-◌, ◌<◌, ◌≡◌, get_or, set, length, List, ℕ, All, subst, sym, ap, ◌∙◌}
-use Rattle.std.proofs.lemmas.List.{get_or_default, set-get_or}
-use Rattle.std.proofs.lemmas.Result.{on_ok_weaker, on_err_weaker}
-use Rattle.std.proofs.lemmas.List.Elements.{All-set, All-push}
-use Rattle.snippet_grid.specs.Runs.{IsRun, Continues, Differ}
-use Rattle.snippet_grid.specs.declared.runs.Run.{Run}
+use Rattle.snippet_grid.proofs.Common.{string_bytes, arith, ◌-◌, ◌<◌, ◌≡◌, get_or, set, length, List, ℕ, All, subst, sym, ap, ◌∙◌}
+use Rattle.snippet_grid.proofs.Common.{get_or_default, set-get_or, on_ok_weaker, on_err_weaker, All-set, All-push, IsRun, Continues, Differ, Run}
 use Rattle.snippet_grid.proofs.ShownLemmas.{All-IsRun-grown, ShowsMore-joined, ShowsMore-pushed, AddsRun-pushed, AddsRun-joined}
 use Rattle.snippet_grid.proofs.runs.add_run.Goals as goal
 use Rattle.snippet_grid.proofs.runs.add_run.Goals.{then-len-gt0+else-continues, else-len-gt0}

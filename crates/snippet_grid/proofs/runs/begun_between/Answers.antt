@@ -1,4 +1,4 @@
-use Rattle.std.proofs.Common.{◌-◌, ℕ, arith}
+use Rattle.snippet_grid.proofs.Common.{◌-◌, ℕ, arith}
 use Rattle.snippet_grid.proofs.TouchLemmas.{begun_all, later_all}
 use Rattle.snippet_grid.proofs.runs.begun_between.Goals as goal
 

@@ -1,7 +1,5 @@
 -- What stands from the high place on begins after the cell.
-use Rattle.std.proofs.Common.{◌<◌, ◌≤◌, ℕ, length, slice_index_or}
-use Rattle.snippet_grid.specs.Runs.{BeginsAfter}
-use Rattle.snippet_grid.specs.declared.runs.Run.{Run}
+use Rattle.snippet_grid.proofs.Common.{◌<◌, ◌≤◌, ℕ, length, slice_index_or, BeginsAfter, Run}
 use Rattle.snippet_grid.proofs.runs.begun_between.Given as goal
 
 abbrev pub invariant-loop-step : goal.invariant-loop-step

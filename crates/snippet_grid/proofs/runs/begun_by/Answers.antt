@@ -1,5 +1,4 @@
-use Rattle.std.proofs.Common.{◌+◌, ◌-◌, ◌<◌, ◌/◌, ℕ, arith}
-use Rattle.std.proofs.Math.Nat.{div-lt_self}
+use Rattle.snippet_grid.proofs.Common.{◌+◌, ◌-◌, ◌<◌, ◌/◌, ℕ, arith, div-lt_self}
 use Rattle.snippet_grid.proofs.TouchLemmas.{begun_all, later_all}
 use Rattle.snippet_grid.proofs.runs.begun_by.Goals as goal
 

@@ -1,7 +1,5 @@
 -- What stands before the low place begins by the cell; what stands from the high place on begins after it.
-use Rattle.std.proofs.Common.{◌<◌, ◌≤◌, ◌-◌, ℕ, length, slice_index_or}
-use Rattle.snippet_grid.specs.Runs.{BeginsAfter, BeginsBy}
-use Rattle.snippet_grid.specs.declared.runs.Run.{Run}
+use Rattle.snippet_grid.proofs.Common.{◌<◌, ◌≤◌, ◌-◌, ℕ, length, slice_index_or, BeginsAfter, BeginsBy, Run}
 use Rattle.snippet_grid.proofs.runs.begun_by.Given as goal
 
 abbrev pub invariant-loop-low : goal.invariant-loop-low

@@ -1,7 +1,5 @@
-use Rattle.std.proofs.Common.{length, arith, chars, refl}
-use Rattle.std.proofs.lemmas.Iterator.{YieldsList-from_chars}
-use Rattle.std.proofs.lemmas.List.{length_push}
-use Rattle.std.proofs.lemmas.Iterator.Consumers.{YieldsList-turn, YieldsList-end}
+use Rattle.snippet_grid.proofs.Common.{length, arith, refl, YieldsList-from_chars, length_push, YieldsList-turn, YieldsList-end}
+use Rattle.std.proofs.Common.{chars}
 use Rattle.snippet_grid.proofs.CutLemmas.{cut_next, cut_here, cut_all, bytes_next, bytes_within}
 use Rattle.snippet_grid.proofs.runs.byte_at.Goals as goal
 

@@ -1,4 +1,4 @@
-use Rattle.std.proofs.Common.{refl}
+use Rattle.snippet_grid.proofs.Common.{refl}
 use Rattle.snippet_grid.proofs.CutLemmas.{IsPart-cut}
 use Rattle.snippet_grid.proofs.runs.clipped.Goals as goal
 

@@ -1,9 +1,6 @@
-use Rattle.std.proofs.Common.{◌≡◌, refl, sym, subst, get_or, string_bytes, List, ℕ}
-use Rattle.std.proofs.lemmas.List.{get_or_default}
+use Rattle.snippet_grid.proofs.Common.{◌≡◌, refl, sym, subst, get_or, string_bytes, List, ℕ, get_or_default, IsRun, IsPart, Run}
 use Rattle.snippet_grid.proofs.CopyLemmas.{copy_start, copy_next, copy_past}
 use Rattle.snippet_grid.proofs.RunLemmas.{none, IsRun-grown}
-use Rattle.snippet_grid.specs.Runs.{IsRun, IsPart}
-use Rattle.snippet_grid.specs.declared.runs.Run.{Run}
 use Rattle.snippet_grid.proofs.runs.copy_cells.Goals as goal
 use Rattle.snippet_grid.proofs.runs.copy_cells.Goals.{then-start-end+in_ok-add_run, else-start-end}
 

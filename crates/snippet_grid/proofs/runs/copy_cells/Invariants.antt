@@ -1,5 +1,5 @@
 -- What the runs so far hold is copied.
-use Rattle.std.proofs.Common.{string_bytes}
+use Rattle.snippet_grid.proofs.Common.{string_bytes}
 use Rattle.snippet_grid.proofs.CopyLemmas.{CopySoFar}
 use Rattle.snippet_grid.proofs.runs.copy_cells.Given as goal
 

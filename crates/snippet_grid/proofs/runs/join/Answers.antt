@@ -1,8 +1,6 @@
-use Rattle.std.proofs.Common.{string_bytes, refl, rules, subst, sym, ap, take, drop, ◌≡◌, ◌∙◌, ◌-◌, ◌++◌, List, ℕ}
-use Rattle.std.proofs.lemmas.Str.{IsUtf8-string_bytes}
-use Rattle.std.specs.Str.{IsCharBoundary}
+use Rattle.snippet_grid.proofs.Common.{string_bytes, refl, rules, subst, sym, ap, take, drop, ◌≡◌, ◌∙◌, ◌-◌, ◌++◌, List, ℕ}
+use Rattle.snippet_grid.proofs.Common.{IsUtf8-string_bytes, IsCharBoundary, run_bytes}
 use Rattle.snippet_grid.proofs.RunLemmas.{IsJoined-copied, IsJoined-here, ends_at_boundary, starts_at_boundary}
-use Rattle.snippet_grid.specs.Runs.{run_bytes}
 use Rattle.snippet_grid.proofs.runs.join.Goals as goal
 
 pub returns-then-stands_at-clause-ok : goal.returns-then-stands_at-clause-ok

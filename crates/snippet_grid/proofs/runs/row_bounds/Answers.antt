@@ -1,5 +1,4 @@
-use Rattle.std.proofs.Common.{ℕ, arith, inl, inr}
-use Rattle.std.proofs.lemmas.Bool.{cases_lt}
+use Rattle.snippet_grid.proofs.Common.{ℕ, arith, inl, inr, cases_lt}
 use Rattle.snippet_grid.proofs.RunLemmas.{none}
 use Rattle.snippet_grid.proofs.runs.row_bounds.Goals as goal
 

@@ -1,9 +1,6 @@
-use Rattle.std.proofs.Common.{◌≡◌, ◌∙◌, ◌<◌, ◌-◌, ◌++◌, ap, sym, subst, arith, ℕ, List, length, take, replicate, string_bytes}
-use Rattle.std.proofs.lemmas.List.{take-replicate, get_or-replicate, length-replicate}
-use Rattle.std.specs.List.{slice_range}
-use Rattle.std.specs.Str.{IsCharBoundary}
-use Rattle.std.proofs.lemmas.Str.{IsCharBoundary-from_ascii}
-use Rattle.std.proofs.lemmas.Str.Ascii.{IsAscii-from_all}
+use Rattle.snippet_grid.proofs.Common.{◌≡◌, ◌∙◌, ◌<◌, ◌-◌, ◌++◌, ap, sym, subst, arith, ℕ, List, length, take, replicate}
+use Rattle.snippet_grid.proofs.Common.{string_bytes, take-replicate, get_or-replicate, length-replicate, slice_range, IsCharBoundary, IsCharBoundary-from_ascii}
+use Rattle.snippet_grid.proofs.Common.{IsAscii-from_all}
 use Rattle.snippet_grid.proofs.StretchLemmas.{BeginsWith-added}
 use Rattle.snippet_grid.proofs.spaces.push_part.Goals as goal
 

@@ -1,4 +1,4 @@
-use Rattle.std.proofs.Common.{◌-◌, arith, refl, string_bytes}
+use Rattle.snippet_grid.proofs.Common.{◌-◌, arith, refl, string_bytes}
 use Rattle.snippet_grid.proofs.StretchPrinted.{more_spaces}
 use Rattle.snippet_grid.proofs.StretchLemmas.{BeginsWith-added, BeginsWith-trans}
 use Rattle.snippet_grid.proofs.spaces.push_spaces.Goals as goal

@@ -1,5 +1,5 @@
 -- The spaces so far are added.
-use Rattle.std.proofs.Common.{◌≡◌, ◌≤◌, ◌-◌, ◌++◌, replicate, string_bytes}
+use Rattle.snippet_grid.proofs.Common.{◌≡◌, ◌≤◌, ◌-◌, ◌++◌, replicate, string_bytes}
 use Rattle.snippet_grid.proofs.spaces.push_spaces.Given as goal
 
 abbrev pub invariant-loop-left : goal.invariant-loop-left

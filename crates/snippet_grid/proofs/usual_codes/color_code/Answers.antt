@@ -1,4 +1,4 @@
-use Rattle.std.proofs.Common.{refl}
+use Rattle.snippet_grid.proofs.Common.{refl}
 use Rattle.std.specs.Fmt.{digits}
 use Rattle.snippet_grid.proofs.usual_codes.color_code.Goals as goal
 

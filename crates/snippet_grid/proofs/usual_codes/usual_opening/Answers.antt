@@ -1,6 +1,4 @@
-use Rattle.std.proofs.Common.{◌∙◌, ap, sym}
-use Rattle.snippet_style.proofs.StyleLemmas.{same_told}
-use Rattle.snippet_grid.specs.SheetCodes.{opening_bytes}
+use Rattle.snippet_grid.proofs.Common.{◌∙◌, ap, sym, same_told, opening_bytes}
 use Rattle.snippet_grid.proofs.OutcomeLemmas.{if_some_weaker}
 use Rattle.snippet_grid.proofs.usual_codes.usual_opening.Goals as goal
 

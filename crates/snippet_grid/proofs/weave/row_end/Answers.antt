@@ -1,7 +1,5 @@
-use Rattle.std.proofs.Common.{None}
+use Rattle.snippet_grid.proofs.Common.{None, Run, MainHeaderMsg}
 use Rattle.snippet_grid.proofs.RowsWoven.{later_rows}
-use Rattle.snippet_grid.specs.declared.runs.Run.{Run}
-use Rattle.snippet_style.specs.declared.role.ElementStyle.TheVariants.{MainHeaderMsg}
 use Rattle.snippet_grid.proofs.weave.row_end.Goals as goal
 
 -- what stands where a list has no run

@@ -1,6 +1,5 @@
 -- The runs so far are of the row.
-use Rattle.std.proofs.Common.{◌≡◌, ◌<◌, ◌≤◌, ◌-◌, ℕ, length, slice_index_or}
-use Rattle.snippet_grid.specs.declared.runs.Run.{Run}
+use Rattle.snippet_grid.proofs.Common.{◌≡◌, ◌<◌, ◌≤◌, ◌-◌, ℕ, length, slice_index_or, Run}
 use Rattle.snippet_grid.proofs.weave.row_end.Given as goal
 
 abbrev pub invariant-loop-to : goal.invariant-loop-to

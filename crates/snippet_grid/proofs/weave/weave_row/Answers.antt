@@ -1,17 +1,10 @@
-use Rattle.std.proofs.Common.{◌≡◌, ◌∙◌, ◌≤◌, ◌<◌, ap, subst, sym, arith, get_or, refl, length, None, Some, replicate, string_bytes, List, ℕ, ◌-◌}
-use Rattle.std.proofs.lemmas.Result.{on_ok_weaker}
-use Rattle.std.specs.Option.{option_copied}
+use Rattle.snippet_grid.proofs.Common.{◌≡◌, ◌∙◌, ◌≤◌, ◌<◌, ap, subst, sym, arith, get_or, refl, length, None, Some, replicate}
+use Rattle.snippet_grid.proofs.Common.{string_bytes, List, ℕ, ◌-◌, on_ok_weaker, option_copied, style_at, run_bytes, cells_to, PrintsStretch, Run}
+use Rattle.snippet_grid.proofs.Common.{MainHeaderMsg, Style, Stylesheet}
 use Rattle.std.specs.Str.{chars}
 use Rattle.snippet_grid.proofs.RunLemmas.{starts_at_boundary, ends_at_boundary}
 use Rattle.snippet_grid.proofs.RowWoven.{WovenTo, woven_start, woven_gap, woven_run, first_ahead}
 use Rattle.snippet_grid.proofs.WeaveLemmas.{Goes, row_closed}
-use Rattle.snippet_grid.specs.SheetCodes.{style_at}
-use Rattle.snippet_grid.specs.Runs.{run_bytes, cells_to}
-use Rattle.snippet_grid.specs.Stretch.{PrintsStretch}
-use Rattle.snippet_grid.specs.declared.runs.Run.{Run}
-use Rattle.snippet_style.specs.declared.role.ElementStyle.TheVariants.{MainHeaderMsg}
-use Rattle.snippet_style.specs.declared.style.Style.{Style}
-use Rattle.snippet_style.specs.declared.stylesheet.Stylesheet.{Stylesheet}
 use Rattle.snippet_grid.proofs.weave.weave_row.Goals as goal
 use Rattle.snippet_grid.proofs.weave.weave_row.Goals.{then-col-run+in_ok-weave_gap, else-col-run, then-col-line+in_ok-weave_gap-2, else-col-line}
 

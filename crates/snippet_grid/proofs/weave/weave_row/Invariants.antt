@@ -1,8 +1,6 @@
 -- The row is printed up to the end of the last run.
-use Rattle.std.proofs.Common.{◌≡◌, ◌<◌, ◌≤◌, string_bytes}
-use Rattle.std.specs.Option.{option_copied}
+use Rattle.snippet_grid.proofs.Common.{◌≡◌, ◌<◌, ◌≤◌, string_bytes, option_copied, style_at}
 use Rattle.snippet_grid.proofs.RowWoven.{WovenTo}
-use Rattle.snippet_grid.specs.SheetCodes.{style_at}
 use Rattle.snippet_grid.proofs.weave.weave_row.Given as goal
 
 abbrev pub invariant-loop-run : goal.invariant-loop-run

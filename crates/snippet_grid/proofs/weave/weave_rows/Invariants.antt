@@ -1,5 +1,5 @@
 -- The rows so far are printed.
-use Rattle.std.proofs.Common.{◌≡◌, string_bytes}
+use Rattle.snippet_grid.proofs.Common.{◌≡◌, string_bytes}
 use Rattle.snippet_grid.proofs.RowsWoven.{RowsTo}
 use Rattle.snippet_grid.proofs.weave.weave_rows.Given as goal
 

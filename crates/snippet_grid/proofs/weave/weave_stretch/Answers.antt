@@ -1,6 +1,4 @@
-use Rattle.std.proofs.Common.{◌∙◌, ◌++◌, ap, sym, string_bytes, List, ℕ}
-use Rattle.std.proofs.lemmas.Result.{on_ok_weaker}
-use Rattle.std.proofs.lemmas.Str.{encodes-chars}
+use Rattle.snippet_grid.proofs.Common.{◌∙◌, ◌++◌, ap, sym, string_bytes, List, ℕ, on_ok_weaker, encodes-chars}
 use Rattle.snippet_grid.proofs.weave.weave_stretch.Goals as goal
 
 pub returns-clause-text : goal.returns-clause-text

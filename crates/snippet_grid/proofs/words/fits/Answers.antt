@@ -1,5 +1,4 @@
-use Rattle.std.proofs.Common.{arith, refl}
-use Rattle.snippet_style.proofs.CellLemmas.{length-chars_le}
+use Rattle.snippet_grid.proofs.Common.{arith, refl, length-chars_le}
 use Rattle.snippet_grid.proofs.words.fits.Goals as goal
 
 pub returns-then-text-room : goal.returns-then-text-room

@@ -1,7 +1,6 @@
-use Rattle.std.proofs.Common.{◌≡◌, ◌+◌, ◌≤◌, refl, set, arith, string_bytes, length, slice_index_or}
-use Rattle.std.proofs.lemmas.List.{length-set}
+use Rattle.snippet_grid.proofs.Common.{◌≡◌, ◌+◌, ◌≤◌, refl, set, arith, string_bytes, length, slice_index_or, length-set, FitIn, IsPut}
+use Rattle.snippet_grid.proofs.Common.{IsWidened, IsWord, run_bytes}
 use Rattle.std.specs.Str.{chars}
-use Rattle.snippet_grid.specs.Runs.{FitIn, IsPut, IsWidened, IsWord, run_bytes}
 use Rattle.snippet_grid.proofs.GridShown.{on_err_from, FitIn-widened, IsGrid-grown, IsWidened-to, grid_written, word_end}
 use Rattle.snippet_grid.proofs.LastLemmas.{last_before, last_widened}
 use Rattle.snippet_grid.proofs.StoredLemmas.{stored_grown}

@@ -1,6 +1,5 @@
-use Rattle.std.proofs.Common.{◌≡◌, ◌+◌, refl, arith, string_bytes, length, ◌≤◌, slice_index_or}
+use Rattle.snippet_grid.proofs.Common.{◌≡◌, ◌+◌, refl, arith, string_bytes, length, ◌≤◌, slice_index_or, IsWidened, IsWord, FitIn, run_bytes}
 use Rattle.std.specs.Str.{chars}
-use Rattle.snippet_grid.specs.Runs.{IsWidened, IsWord, FitIn, run_bytes}
 use Rattle.snippet_grid.proofs.StretchLemmas.{BeginsWith-same}
 use Rattle.snippet_grid.proofs.GridShown.{on_err_from, IsGrid-grown, grid_written, FitIn-widened, IsWidened-to, word_end}
 use Rattle.snippet_grid.proofs.StoredLemmas.{stored_grown}

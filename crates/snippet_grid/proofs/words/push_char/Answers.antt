@@ -1,10 +1,8 @@
-use Rattle.std.proofs.Common.{◌≡◌, ◌∙◌, ◌++◌, ◌∷◌, [], ap, arith, chars, encode_utf8, length, refl, rules, string_bytes, sym, List, ℕ}
-use Rattle.std.proofs.lemmas.List.{append-nil}
-use Rattle.std.proofs.lemmas.Str.{IsUtf8-string_bytes}
-use Rattle.std.specs.Str.{IsUtf8}
+use Rattle.snippet_grid.proofs.Common.{◌≡◌, ◌∙◌, ◌++◌, ◌∷◌, [], ap, arith, encode_utf8, length, refl, rules, string_bytes, sym, List, ℕ}
+use Rattle.snippet_grid.proofs.Common.{append-nil, IsUtf8-string_bytes, IsUtf8, BeginsWith}
+use Rattle.std.proofs.Common.{chars}
 use Rattle.snippet_grid.proofs.GridShown.{IsWord-pushed, chars_added}
 use Rattle.snippet_grid.proofs.StretchLemmas.{BeginsWith-added}
-use Rattle.snippet_grid.specs.Runs.{BeginsWith}
 use Rattle.snippet_grid.proofs.words.push_char.Goals as goal
 
 -- a character that was added to a text is the only one of its bytes

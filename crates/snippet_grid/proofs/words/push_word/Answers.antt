@@ -1,5 +1,4 @@
-use Rattle.std.proofs.Common.{rules, refl, string_bytes}
-use Rattle.std.proofs.lemmas.Str.{IsUtf8-string_bytes}
+use Rattle.snippet_grid.proofs.Common.{rules, refl, string_bytes, IsUtf8-string_bytes}
 use Rattle.snippet_grid.proofs.GridShown.{IsWord-pushed}
 use Rattle.snippet_grid.proofs.words.push_word.Goals as goal
 

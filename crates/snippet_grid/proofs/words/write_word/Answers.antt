@@ -1,9 +1,5 @@
-use Rattle.std.proofs.Common.{◌∙◌, ap, arith, subst, length, string_bytes, List, ℕ}
-use Rattle.std.proofs.lemmas.Result.{on_ok_weaker, on_err_weaker}
-use Rattle.snippet_grid.specs.Grid.{cells_written}
-use Rattle.snippet_style.specs.Cell.{text_cells}
-use Rattle.snippet_grid.specs.Runs.{BeginsWith, run_chars}
-use Rattle.snippet_grid.specs.Stored.{Stored}
+use Rattle.snippet_grid.proofs.Common.{◌∙◌, ap, arith, subst, length, string_bytes, List, ℕ, on_ok_weaker, on_err_weaker, cells_written, text_cells}
+use Rattle.snippet_grid.proofs.Common.{BeginsWith, run_chars, Stored}
 use Rattle.snippet_grid.proofs.GridShown.{on_err_from, IsGrid-grown}
 use Rattle.snippet_grid.proofs.StoredLemmas.{stored_grown}
 use Rattle.snippet_grid.proofs.words.write_word.Goals as goal

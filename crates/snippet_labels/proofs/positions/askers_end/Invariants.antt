@@ -1,6 +1,4 @@
-use Rattle.std.proofs.Common.{◌≡◌, ℕ, ◌<◌, ◌≤◌, false, get_or}
-use Rattle.snippet_labels.specs.Placing.{asks}
-use Rattle.snippet_labels.specs.declared.positions.PlacedEntry.{PlacedEntry}
+use Rattle.snippet_labels.proofs.Common.{◌≡◌, ℕ, ◌<◌, ◌≤◌, false, get_or, asks, PlacedEntry}
 use Rattle.snippet_labels.proofs.positions.askers_end.Given as goal
 
 -- none between the end found so far and this entry asks

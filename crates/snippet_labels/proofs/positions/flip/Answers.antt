@@ -1,9 +1,6 @@
-use Rattle.std.proofs.Common.{◌≡◌, ◌∙◌, ◌+◌, ◌-◌, ◌<◌, List, ℕ, ap, arith, drop, get_or, length, map, refl, sym}
-use Rattle.std.proofs.Math.Seq.{map-set_same}
-use Rattle.std.proofs.lemmas.Grind.{drop_more_same}
-use Rattle.std.proofs.lemmas.List.{drop-set-lt, get_or-drop, get_or-map, length-map, length-set, take_all}
-use Rattle.snippet_labels.specs.Placing.{unplaced}
-use Rattle.snippet_labels.specs.declared.positions.PlacedEntry.{PlacedEntry}
+use Rattle.snippet_labels.proofs.Common.{◌≡◌, ◌∙◌, ◌+◌, ◌-◌, ◌<◌, List, ℕ, ap, arith, drop, get_or, length, map, refl, sym}
+use Rattle.snippet_labels.proofs.Common.{map-set_same, drop_more_same, drop-set-lt, get_or-drop, get_or-map, length-map, length-set, take_all, unplaced}
+use Rattle.snippet_labels.proofs.Common.{PlacedEntry}
 use Rattle.snippet_labels.proofs.PlacedLemmas.{placed_more}
 use Rattle.snippet_labels.proofs.positions.flip.Goals as goal
 

@@ -1,6 +1,4 @@
-use Rattle.std.proofs.Common.{◌≡◌, ◌-◌, drop, length, map, take}
-use Rattle.snippet_labels.specs.Placing.{unplaced}
-use Rattle.snippet_labels.specs.declared.positions.PlacedEntry.{PlacedEntry}
+use Rattle.snippet_labels.proofs.Common.{◌≡◌, ◌-◌, drop, length, map, take, unplaced, PlacedEntry}
 use Rattle.snippet_labels.proofs.positions.flip.Given as goal
 
 -- the positions so far are flipped, and nothing else is changed

@@ -1,7 +1,5 @@
-use Rattle.std.proofs.Common.{◌∙◌, ◌+◌, ◌-◌, List, ℕ, ap, arith, drop, length}
-use Rattle.std.proofs.lemmas.List.{get_or_default, length-drop, take_all}
-use Rattle.snippet_labels.specs.Positions.{position_after, position_at}
-use Rattle.snippet_labels.specs.declared.positions.PlacedEntry.{PlacedEntry}
+use Rattle.snippet_labels.proofs.Common.{◌∙◌, ◌+◌, ◌-◌, List, ℕ, ap, arith, drop, length, get_or_default, length-drop, take_all, position_after}
+use Rattle.snippet_labels.proofs.Common.{position_at, PlacedEntry}
 use Rattle.snippet_labels.proofs.positions.found_at.Goals as goal
 
 pub returns-clause-after : goal.returns-clause-after

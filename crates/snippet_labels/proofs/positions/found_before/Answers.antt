@@ -1,5 +1,4 @@
-use Rattle.std.proofs.Common.{◌∙◌, arith, ap}
-use Rattle.snippet_labels.specs.Positions.{position_after}
+use Rattle.snippet_labels.proofs.Common.{◌∙◌, arith, ap, position_after}
 use Rattle.snippet_labels.proofs.PlacedLemmas.{position_after-front}
 use Rattle.snippet_labels.proofs.positions.found_before.Goals as goal
 

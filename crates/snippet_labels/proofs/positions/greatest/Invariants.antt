@@ -1,5 +1,4 @@
-use Rattle.std.proofs.Common.{◌≡◌, max, fold, take}
-use Rattle.snippet_labels.specs.declared.positions.PlacedEntry.{PlacedEntry}
+use Rattle.snippet_labels.proofs.Common.{◌≡◌, max, fold, take, PlacedEntry}
 use Rattle.snippet_labels.proofs.positions.greatest.Given as goal
 
 -- the greatest so far

@@ -1,7 +1,4 @@
-use Rattle.std.proofs.Common.{◌≡◌, ◌-◌, All, drop, length, map, reverse}
-use Rattle.std.specs.List.{range_with_len}
-use Rattle.snippet_labels.specs.PlacedEntries.{shifted}
-use Rattle.snippet_labels.specs.Placing.{HasItsBytes, HasItsLabel}
+use Rattle.snippet_labels.proofs.Common.{◌≡◌, ◌-◌, All, drop, length, map, reverse, range_with_len, shifted, HasItsBytes, HasItsLabel}
 use Rattle.snippet_labels.proofs.positions.labelled_entries.Given as goal
 
 -- the entries from this one on have their labels, the last one first

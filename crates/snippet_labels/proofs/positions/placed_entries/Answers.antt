@@ -1,15 +1,9 @@
-use Rattle.std.proofs.Common.{rules, List, ◌≡◌, ◌∙◌, ◌-◌, ◌<◌, ◌^◌, All, sym, subst, ap, map, reverse}
-use Rattle.std.specs.List.{range_with_len}
-use Rattle.std.specs.List.Sorted.{IsPermutation}
-use Rattle.std.proofs.lemmas.List.Sorted.{All-permutation, IsPermutation-map, IsPermutation-reverse, answers_always}
-use Rattle.snippet_parts.specs.declared.entries.LineAnnotation.{LineAnnotation}
-use Rattle.snippet_labels.specs.declared.positions.PlacedEntry.{PlacedEntry}
+use Rattle.snippet_labels.proofs.Common.{rules, List, ◌≡◌, ◌∙◌, ◌-◌, ◌<◌, ◌^◌, All, sym, subst, ap, map, reverse, range_with_len}
+use Rattle.snippet_labels.proofs.Common.{IsPermutation, All-permutation, IsPermutation-map, IsPermutation-reverse, answers_always, LineAnnotation, PlacedEntry}
+use Rattle.snippet_labels.proofs.Common.{shifted, line_positions, look_counts, ArePlaced, HasItsBytes, HasItsLabel, StandInRow, unplaced, length-map}
+use Rattle.snippet_labels.proofs.Common.{reverse-reverse}
 use Rattle.snippet_labels.proofs.PlacedLemmas.{entries_all, written_back, ArePlaced-from, shifted_narrow}
-use Rattle.snippet_labels.specs.PlacedEntries.{shifted}
-use Rattle.snippet_labels.specs.Positions.{line_positions, look_counts}
-use Rattle.snippet_labels.specs.Placing.{ArePlaced, HasItsBytes, HasItsLabel, StandInRow, unplaced}
 use Rattle.snippet_labels.proofs.RowLemmas.{ArePlaced-row, map-reverse}
-use Rattle.std.proofs.lemmas.List.{length-map, reverse-reverse}
 use Rattle.snippet_labels.proofs.OrderLemmas.{order_of_sort, place_key, from_right_from_sort}
 use Rattle.snippet_labels.proofs.positions.placed_entries.Goals as goal
 

@@ -1,5 +1,4 @@
-use Rattle.std.proofs.Common.{sym, ◌∙◌}
-use Rattle.snippet_labels.specs.Positions.{crosses}
+use Rattle.snippet_labels.proofs.Common.{sym, ◌∙◌, crosses}
 use Rattle.snippet_labels.proofs.PlacedLemmas.{any_at_first, any_at_none, position_at-clear, position_at-crossed}
 use Rattle.snippet_labels.proofs.positions.position_at.Goals as goal
 

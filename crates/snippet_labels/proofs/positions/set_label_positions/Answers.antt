@@ -1,10 +1,6 @@
-use Rattle.std.proofs.Common.{◌≡◌, ◌∙◌, ◌+◌, ◌<◌, ◌≤◌, ◌^◌, ◌++◌, ◌∷◌, [], ℕ, get_or, map, refl, set, sym, ap, subst, take, drop, length, arith}
-use Rattle.std.proofs.Math.Seq.{map-set_same}
-use Rattle.std.proofs.lemmas.Grind.{drop_more_same}
-use Rattle.std.proofs.lemmas.List.{drop-set-lt, get_or-map, length-set, map_push, take_more_set}
-use Rattle.snippet_labels.specs.Positions.{look_counts, looked_after, position_at, position_after, positions}
-use Rattle.snippet_labels.specs.Placing.{asks, unplaced}
-use Rattle.snippet_labels.specs.declared.positions.PlacedEntry.{PlacedEntry}
+use Rattle.snippet_labels.proofs.Common.{◌≡◌, ◌∙◌, ◌+◌, ◌<◌, ◌≤◌, ◌^◌, ◌++◌, ◌∷◌, [], ℕ, get_or, map, refl, set, sym}
+use Rattle.snippet_labels.proofs.Common.{ap, subst, take, drop, length, arith, map-set_same, drop_more_same, drop-set-lt, get_or-map, length-set, map_push}
+use Rattle.snippet_labels.proofs.Common.{take_more_set, look_counts, looked_after, position_at, position_after, positions, asks, unplaced, PlacedEntry}
 use Rattle.snippet_labels.proofs.PlacedLemmas.{each_kept, look_counts_more, positions_more, reached_low}
 use Rattle.snippet_labels.proofs.positions.set_label_positions.Goals as goal
 

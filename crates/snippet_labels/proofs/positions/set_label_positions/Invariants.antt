@@ -1,6 +1,4 @@
-use Rattle.std.proofs.Common.{◌≡◌, ◌+◌, ◌≤◌, ◌++◌, drop, length, map, take}
-use Rattle.snippet_labels.specs.Placing.{unplaced}
-use Rattle.snippet_labels.specs.Positions.{look_counts, positions}
+use Rattle.snippet_labels.proofs.Common.{◌≡◌, ◌+◌, ◌≤◌, ◌++◌, drop, length, map, take, unplaced, look_counts, positions}
 use Rattle.snippet_labels.proofs.positions.set_label_positions.Given as goal
 
 -- the entries so far have their positions and their counts, and the others, which are as they were, get theirs from the position reached

@@ -1,6 +1,4 @@
-use Rattle.std.proofs.Common.{◌∙◌, chars, sym, ap}
-use Rattle.std.proofs.lemmas.Str.{chars-nil}
-use Rattle.std.specs.Option.{option_copied}
+use Rattle.snippet_labels.proofs.Common.{◌∙◌, chars, sym, ap, chars-nil, option_copied}
 use Rattle.snippet_labels.proofs.LabelWords.{label_chars}
 use Rattle.snippet_labels.proofs.positions.shown_label.Goals as goal
 

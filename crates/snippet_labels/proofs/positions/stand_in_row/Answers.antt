@@ -1,6 +1,4 @@
-use Rattle.std.proofs.Common.{◌+◌, ◌∷◌, ◌∙◌, ap, sym, subst, refl, drop, arith}
-use Rattle.std.proofs.lemmas.List.{drop_all, drop_more}
-use Rattle.snippet_labels.specs.Placing.{StandInRow}
+use Rattle.snippet_labels.proofs.Common.{◌+◌, ◌∷◌, ◌∙◌, ap, sym, subst, refl, drop, arith, drop_all, drop_more, StandInRow}
 use Rattle.snippet_labels.proofs.positions.stand_in_row.Goals as goal
 
 pub loop-entry-preserved : goal.loop-entry-preserved

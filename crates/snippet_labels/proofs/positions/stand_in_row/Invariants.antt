@@ -1,5 +1,4 @@
-use Rattle.std.proofs.Common.{◌-◌, ◌^◌, drop}
-use Rattle.snippet_labels.specs.Placing.{StandInRow}
+use Rattle.snippet_labels.proofs.Common.{◌-◌, ◌^◌, drop, StandInRow}
 use Rattle.snippet_labels.proofs.positions.stand_in_row.Given as goal
 
 -- the entries need one row if those from here on do, left of what is still free

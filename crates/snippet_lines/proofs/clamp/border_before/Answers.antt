@@ -1,4 +1,4 @@
-use Rattle.std.proofs.Common.{◌≤◌, arith}
+use Rattle.snippet_lines.proofs.Common.{◌≤◌, arith}
 use Rattle.snippet_lines.proofs.Borders.{last_border}
 use Rattle.snippet_lines.proofs.Walk.{no-border}
 use Rattle.snippet_lines.proofs.clamp.border_before.Goals as goal

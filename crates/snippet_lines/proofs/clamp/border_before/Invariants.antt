@@ -1,5 +1,4 @@
-use Rattle.std.proofs.Common.{ℕ, ◌<◌, ◌≤◌, length}
-use Rattle.std.specs.Str.{IsCharBoundary}
+use Rattle.snippet_lines.proofs.Common.{ℕ, ◌<◌, ◌≤◌, length, IsCharBoundary}
 use Rattle.snippet_lines.proofs.clamp.border_before.Given as goal
 
 -- no border lies between here and the byte

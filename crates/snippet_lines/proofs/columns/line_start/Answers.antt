@@ -1,6 +1,4 @@
-use Rattle.std.proofs.Common.{refl, subst, sym}
-use Rattle.std.proofs.lemmas.Str.{IsCharBoundary-start}
-use Rattle.std.specs.Str.{IsCharBoundary}
+use Rattle.snippet_lines.proofs.Common.{refl, subst, sym, IsCharBoundary-start, IsCharBoundary}
 use Rattle.snippet_lines.proofs.TextLinesLemmas.{found-border, found-on, found-past}
 use Rattle.snippet_lines.proofs.columns.line_start.Goals as goal
 use Rattle.snippet_lines.proofs.columns.line_start.Goals.{then-byte-eq10, else-byte-eq10}

@@ -1,7 +1,5 @@
 -- The line that is looked for is that of the lines left, from here on.
-use Rattle.std.proofs.Common.{◌≡◌, ◌∷◌, drop, slice_get}
-use Rattle.std.specs.Str.{IsCharBoundary}
-use Rattle.snippet_lines.specs.TextLines.{start_bytes, starts_after}
+use Rattle.snippet_lines.proofs.Common.{◌≡◌, ◌∷◌, drop, slice_get, IsCharBoundary, start_bytes, starts_after}
 use Rattle.snippet_lines.proofs.columns.line_start.Given as goal
 
 abbrev pub invariant-loop-at : goal.invariant-loop-at

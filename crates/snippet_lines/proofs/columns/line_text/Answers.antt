@@ -1,6 +1,4 @@
-use Rattle.std.proofs.Common.{◌∙◌, ap, subst, sym}
-use Rattle.std.specs.Str.{IsCharBoundary}
-use Rattle.snippet_lines.specs.TextLines.{line_length}
+use Rattle.snippet_lines.proofs.Common.{◌∙◌, ap, subst, sym, IsCharBoundary, line_length}
 use Rattle.snippet_lines.proofs.TextLinesLemmas.{line_length-border}
 use Rattle.snippet_lines.proofs.columns.line_text.Goals as goal
 

@@ -1,6 +1,5 @@
-use Rattle.std.proofs.Common.{◌∙◌, ◌<◌, ap, arith, length, length-append, sym}
-use Rattle.std.proofs.lemmas.Str.{IsUtf8-past_char, chars_past_char, length-encode}
-use Rattle.snippet_lines.specs.Places.{units_of}
+use Rattle.snippet_lines.proofs.Common.{◌∙◌, ◌<◌, ap, arith, length, sym, IsUtf8-past_char, chars_past_char, length-encode, units_of}
+use Rattle.std.proofs.Common.{length-append}
 use Rattle.snippet_lines.proofs.UnitLemmas.{place_from-here, place_from-next, place_from-end}
 use Rattle.snippet_lines.proofs.columns.place_after.Goals as goal
 

@@ -1,7 +1,6 @@
 -- The place is that after the units that are left, from here on.
-use Rattle.std.proofs.Common.{◌≡◌, ◌+◌, chars, length}
-use Rattle.std.specs.Str.{IsUtf8}
-use Rattle.snippet_lines.specs.Places.{place_from}
+use Rattle.snippet_lines.proofs.Common.{◌≡◌, ◌+◌, length, IsUtf8, place_from}
+use Rattle.std.proofs.Common.{chars}
 use Rattle.snippet_lines.proofs.columns.place_after.Given as goal
 
 abbrev pub invariant-loop-c : goal.invariant-loop-c

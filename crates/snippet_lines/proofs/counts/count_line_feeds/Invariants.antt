@@ -1,5 +1,4 @@
-use Rattle.std.proofs.Common.{◌≡◌, ◌+◌, ◌≤◌, count_by, length}
-use Rattle.snippet_lines.specs.Lines.{is_lf}
+use Rattle.snippet_lines.proofs.Common.{◌≡◌, ◌+◌, ◌≤◌, count_by, length, is_lf}
 use Rattle.snippet_lines.proofs.counts.count_line_feeds.Given as goal
 
 abbrev pub invariant-loop-rest : goal.invariant-loop-rest

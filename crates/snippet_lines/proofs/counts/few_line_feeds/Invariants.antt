@@ -1,5 +1,4 @@
-use Rattle.std.proofs.Common.{◌≡◌, count_by, take}
-use Rattle.snippet_lines.specs.Lines.{is_lf}
+use Rattle.snippet_lines.proofs.Common.{◌≡◌, count_by, take, is_lf}
 use Rattle.snippet_lines.proofs.counts.few_line_feeds.Given as goal
 
 abbrev pub invariant-loop-byte : goal.invariant-loop-byte

@@ -1,4 +1,4 @@
-use Rattle.std.proofs.Common.{◌∙◌, ap, sym, length, min, List, ℕ}
+use Rattle.snippet_lines.proofs.Common.{◌∙◌, ap, sym, length, min, List, ℕ}
 use Rattle.snippet_lines.proofs.CountLemmas.{newline_count-cut}
 use Rattle.snippet_lines.proofs.counts.newline_count_before.Goals as goal
 

@@ -1,6 +1,4 @@
-use Rattle.std.proofs.Common.{◌≡◌, ◌+◌, ◌-◌, List, ℕ, length, min, subst, sym, ap, ◌∙◌}
-use Rattle.snippet_lines.specs.Lines.{source_lines, start_of}
-use Rattle.snippet_lines.specs.Place.{line_of}
+use Rattle.snippet_lines.proofs.Common.{◌≡◌, ◌+◌, ◌-◌, List, ℕ, length, min, subst, sym, ap, ◌∙◌, source_lines, start_of, line_of}
 use Rattle.snippet_lines.proofs.PlaceLemmas.{HoldsByte-source, line_of-is}
 use Rattle.snippet_lines.proofs.BoundsLemmas.{bounds-around, same_line}
 use Rattle.snippet_lines.proofs.line_bounds.line_bounds.Goals as goal

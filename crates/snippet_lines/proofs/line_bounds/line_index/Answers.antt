@@ -1,7 +1,5 @@
-use Rattle.std.proofs.Common.{◌≡◌, ◌+◌, ◌<◌, ◌≤◌, ◌∙◌, ℕ, List, min, take, length, ap, sym, arith, inl, inr}
-use Rattle.std.proofs.lemmas.Bool.{cases_lt}
-use Rattle.std.proofs.lemmas.List.{take_all}
-use Rattle.snippet_lines.specs.Lines.{newline_count}
+use Rattle.snippet_lines.proofs.Common.{◌≡◌, ◌+◌, ◌<◌, ◌≤◌, ◌∙◌, ℕ, List, min, take, length, ap, sym, arith, inl, inr, cases_lt}
+use Rattle.snippet_lines.proofs.Common.{take_all, newline_count}
 use Rattle.snippet_lines.proofs.IndexLemmas.{line_of-count}
 use Rattle.snippet_lines.proofs.line_bounds.line_index.Goals as goal
 

@@ -1,6 +1,4 @@
-use Rattle.std.proofs.Common.{◌∙◌, ap, length, arith}
-use Rattle.std.proofs.lemmas.List.{take_all}
-use Rattle.snippet_lines.specs.Lines.{newline_count}
+use Rattle.snippet_lines.proofs.Common.{◌∙◌, ap, length, arith, take_all, newline_count}
 use Rattle.snippet_lines.proofs.LinesLemmas.{length-source_lines}
 use Rattle.snippet_lines.proofs.lines.newline_count.Goals as goal
 

@@ -1,7 +1,6 @@
-use Rattle.std.proofs.Common.{◌≡◌, ◌≢◌, ℕ, ◌<◌, List, length, get_or, sym, ap, subst, ◌∙◌, arith, eq-eqb}
-use Rattle.std.proofs.lemmas.Str.{IsCharBoundary-after_ascii}
-use Rattle.std.proofs.lemmas.Bool.{eqb-true}
-use Rattle.snippet_lines.specs.CutLines.{IsLineWithEnd}
+use Rattle.snippet_lines.proofs.Common.{◌≡◌, ◌≢◌, ℕ, ◌<◌, List, length, get_or, sym, ap, subst, ◌∙◌, arith, IsCharBoundary-after_ascii}
+use Rattle.snippet_lines.proofs.Common.{eqb-true, IsLineWithEnd}
+use Rattle.std.proofs.Common.{eq-eqb}
 use Rattle.snippet_lines.proofs.CursorLemmas.{IsOneLine-cut}
 use Rattle.snippet_lines.proofs.lines.split_first_line.Goals as goal
 

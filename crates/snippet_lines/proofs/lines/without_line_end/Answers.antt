@@ -1,5 +1,4 @@
-use Rattle.std.proofs.Common.{Some, None, arith}
-use Rattle.std.proofs.lemmas.Str.Pattern.{strip_suffix_char}
+use Rattle.snippet_lines.proofs.Common.{Some, None, arith, strip_suffix_char}
 use Rattle.snippet_lines.proofs.CursorLemmas.{last_byte-not, no_lf-open, no_lf-closed, no_lf-front}
 use Rattle.snippet_lines.proofs.lines.without_line_end.Goals as goal
 

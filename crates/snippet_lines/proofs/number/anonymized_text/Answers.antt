@@ -1,4 +1,4 @@
-use Rattle.std.proofs.Common.{◌∙◌, ℕ, List, ◌++◌, ◌∷◌, [], ap, replicate}
+use Rattle.snippet_lines.proofs.Common.{◌∙◌, ℕ, List, ◌++◌, ◌∷◌, [], ap, replicate}
 use Rattle.snippet_lines.proofs.NumberLemmas.{repeat-one_space}
 use Rattle.snippet_lines.proofs.number.anonymized_text.Goals as goal
 

@@ -1,5 +1,4 @@
-use Rattle.std.proofs.Common.{◌≡◌, ◌∙◌, ◌-◌, ◌++◌, ℕ, List, ap, arith, length, replicate}
-use Rattle.std.specs.Fmt.{decimal}
+use Rattle.snippet_lines.proofs.Common.{◌≡◌, ◌∙◌, ◌-◌, ◌++◌, ℕ, List, ap, arith, length, replicate, decimal}
 use Rattle.snippet_lines.proofs.number.digits_text.Goals as goal
 
 pub returns : goal.returns

@@ -1,6 +1,4 @@
-use Rattle.std.proofs.Common.{◌≡◌, ◌≤◌, length, arith}
-use Rattle.std.specs.Fmt.{decimal}
-use Rattle.std.proofs.lemmas.Fmt.{length-decimal-le}
+use Rattle.snippet_lines.proofs.Common.{◌≡◌, ◌≤◌, length, arith, decimal, length-decimal-le}
 use Rattle.snippet_lines.proofs.NumberLemmas.{length-decimal_last, length-decimal_more}
 use Rattle.snippet_lines.proofs.number.gutter_width.Goals as goal
 

@@ -1,5 +1,4 @@
-use Rattle.std.proofs.Common.{◌≡◌, ◌+◌, length}
-use Rattle.std.specs.Fmt.{decimal}
+use Rattle.snippet_lines.proofs.Common.{◌≡◌, ◌+◌, length, decimal}
 use Rattle.snippet_lines.proofs.number.gutter_width.Given as goal
 
 -- the digits of what is left and those that were counted are the number's

@@ -1,4 +1,4 @@
-use Rattle.std.proofs.Common.{rules}
+use Rattle.snippet_lines.proofs.Common.{rules}
 use Rattle.snippet_lines.proofs.NumberLemmas.{repeat-one_space}
 use Rattle.snippet_lines.proofs.number.number_text.Goals as goal
 

@@ -1,6 +1,5 @@
-use Rattle.std.proofs.Common.{◌≡◌, ◌∷◌, ◌++◌, [], List, ℕ, ap, ◌∙◌, replicate, arith, string_bytes}
-use Rattle.std.proofs.lemmas.List.{replicate_more}
-use Rattle.std.proofs.lemmas.Str.{encode_ascii}
+use Rattle.snippet_lines.proofs.Common.{◌≡◌, ◌∷◌, ◌++◌, [], List, ℕ, ap, ◌∙◌, replicate, arith, string_bytes, replicate_more}
+use Rattle.snippet_lines.proofs.Common.{encode_ascii}
 use Rattle.snippet_lines.proofs.number.spaces.Goals as goal
 
 pub loop-init : goal.loop-init

@@ -1,5 +1,5 @@
 -- So many spaces are there.
-use Rattle.std.proofs.Common.{◌≡◌, replicate, string_bytes}
+use Rattle.snippet_lines.proofs.Common.{◌≡◌, replicate, string_bytes}
 use Rattle.snippet_lines.proofs.number.spaces.Given as goal
 
 abbrev pub invariant-loop : goal.invariant-loop

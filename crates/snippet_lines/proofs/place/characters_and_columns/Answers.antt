@@ -1,5 +1,4 @@
-use Rattle.std.proofs.Common.{ap, length, sym}
-use Rattle.snippet_text.proofs.PlainLemmas.{chars-plain, width_of-plain}
+use Rattle.snippet_lines.proofs.Common.{ap, length, sym, chars-plain, width_of-plain}
 use Rattle.snippet_lines.proofs.place.characters_and_columns.Goals as goal
 
 pub returns-then-is_plain-clause-characters : goal.returns-then-is_plain-clause-characters

@@ -1,8 +1,4 @@
-use Rattle.std.proofs.Common.{◌∙◌, ap, arith, length, sym}
-use Rattle.std.proofs.lemmas.Iterator.{YieldsList-from_chars}
-use Rattle.std.proofs.lemmas.Iterator.Consumers.{YieldsList-end}
-use Rattle.std.proofs.lemmas.List.{map-id}
-use Rattle.snippet_text.specs.Width.{width_of}
+use Rattle.snippet_lines.proofs.Common.{◌∙◌, ap, arith, length, sym, YieldsList-from_chars, YieldsList-end, map-id, width_of}
 use Rattle.snippet_lines.proofs.place.walked.Goals as goal
 
 pub returns : goal.returns

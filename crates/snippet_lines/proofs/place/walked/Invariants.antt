@@ -1,6 +1,5 @@
 -- What was walked over is counted, and each byte left has room for one more character and four more columns.
-use Rattle.std.proofs.Common.{◌≡◌, ◌+◌, ◌*◌, ◌≤◌, length}
-use Rattle.snippet_text.specs.Width.{width_of}
+use Rattle.snippet_lines.proofs.Common.{◌≡◌, ◌+◌, ◌*◌, ◌≤◌, length, width_of}
 use Rattle.snippet_lines.proofs.place.walked.Given as goal
 
 abbrev pub invariant-loop-c : goal.invariant-loop-c

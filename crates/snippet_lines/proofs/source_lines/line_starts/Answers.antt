@@ -1,8 +1,5 @@
-use Rattle.std.proofs.Common.{◌≡◌, ◌<◌, ◌++◌, ◌∷◌, All, List, ℕ, ap, sym, subst, ◌∙◌, length, arith}
-use Rattle.std.proofs.lemmas.List.{append-nil}
-use Rattle.std.proofs.lemmas.List.Elements.{All-head, All-tail}
-use Rattle.memchr.proofs.lemmas.CallerLemmas.{All-places}
-use Rattle.memchr.specs.Find.{is_byte, places}
+use Rattle.snippet_lines.proofs.Common.{◌≡◌, ◌<◌, ◌++◌, ◌∷◌, All, List, ℕ, ap, sym, subst, ◌∙◌, length, arith, append-nil, All-head}
+use Rattle.snippet_lines.proofs.Common.{All-tail, All-places, is_byte, places}
 use Rattle.snippet_lines.proofs.StartLemmas.{starts_after, starts_after-some, starts_after-none, starts_from-source}
 use Rattle.snippet_lines.proofs.source_lines.line_starts.Goals as goal
 

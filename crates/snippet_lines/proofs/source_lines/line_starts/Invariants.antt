@@ -1,5 +1,4 @@
-use Rattle.std.proofs.Common.{◌≡◌, ◌<◌, ◌++◌, ◌∷◌, All, length}
-use Rattle.memchr.specs.Find.{is_byte, places}
+use Rattle.snippet_lines.proofs.Common.{◌≡◌, ◌<◌, ◌++◌, ◌∷◌, All, length, is_byte, places}
 use Rattle.snippet_lines.proofs.StartLemmas.{starts_after}
 use Rattle.snippet_lines.proofs.source_lines.line_starts.Given as goal
 

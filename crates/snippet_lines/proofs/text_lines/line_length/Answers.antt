@@ -1,6 +1,4 @@
-use Rattle.std.proofs.Common.{arith, ◌≡◌, suc, ◌+◌, drop, false, sym, ap, ◌∙◌}
-use Rattle.std.proofs.lemmas.List.{take_rest}
-use Rattle.snippet_lines.specs.TextLines.{ends_line, line_length}
+use Rattle.snippet_lines.proofs.Common.{arith, ◌≡◌, suc, ◌+◌, drop, false, sym, ap, ◌∙◌, take_rest, ends_line, line_length}
 use Rattle.snippet_lines.proofs.Walk.{line-next}
 use Rattle.snippet_lines.proofs.text_lines.line_length.Goals as goal
 

@@ -1,5 +1,4 @@
-use Rattle.std.proofs.Common.{◌≡◌, ◌+◌, drop}
-use Rattle.snippet_lines.specs.TextLines.{line_length}
+use Rattle.snippet_lines.proofs.Common.{◌≡◌, ◌+◌, drop, line_length}
 use Rattle.snippet_lines.proofs.text_lines.line_length.Given as goal
 
 -- the line goes on up to here

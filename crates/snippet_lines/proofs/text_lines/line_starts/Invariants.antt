@@ -1,5 +1,4 @@
-use Rattle.std.proofs.Common.{◌≡◌, ◌++◌, drop}
-use Rattle.snippet_lines.specs.TextLines.{start_bytes, starts_after}
+use Rattle.snippet_lines.proofs.Common.{◌≡◌, ◌++◌, drop, start_bytes, starts_after}
 use Rattle.snippet_lines.proofs.text_lines.line_starts.Given as goal
 
 -- the starts so far, and those after the bytes that are left, are all

@@ -1,6 +1,4 @@
-use Rattle.std.proofs.Common.{◌++◌, ◌∷◌, [], ap, map, sym, ◌∙◌, take}
-use Rattle.std.proofs.lemmas.List.{take_more}
-use Rattle.snippet_parts.specs.KeptEntries.{line_with}
+use Rattle.snippet_parts.proofs.Common.{◌++◌, ◌∷◌, [], ap, map, sym, ◌∙◌, take, take_more, line_with}
 use Rattle.snippet_parts.proofs.annotated_lines.add_entries.Goals as goal
 
 pub loop-entry-preserved : goal.loop-entry-preserved

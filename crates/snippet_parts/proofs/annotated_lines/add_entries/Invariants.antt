@@ -1,6 +1,4 @@
-use Rattle.std.proofs.Common.{◌≡◌, ℕ, List, [], length, map, take}
-use Rattle.snippet_parts.specs.OnLine.{seen_kept}
-use Rattle.snippet_parts.specs.KeptEntries.{line_with}
+use Rattle.snippet_parts.proofs.Common.{◌≡◌, ℕ, List, [], length, map, take, seen_kept, line_with}
 use Rattle.snippet_parts.proofs.annotated_lines.add_entries.Given as goal
 
 -- the lines have the entries so far

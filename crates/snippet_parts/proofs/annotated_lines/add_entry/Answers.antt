@@ -1,8 +1,5 @@
-use Rattle.std.proofs.Common.{◌+◌, ◌<◌, ◌++◌, ◌∷◌, [], ℕ, ap, sym, ◌∙◌, arith, get_or, length, map}
-use Rattle.std.proofs.lemmas.List.{get_or-map, map-set}
-use Rattle.snippet_parts.specs.declared.entries.LineAnnotation.{LineAnnotation}
-use Rattle.snippet_parts.specs.Annotated.{KeptLine}
-use Rattle.snippet_parts.specs.OnLine.{seen_kept}
+use Rattle.snippet_parts.proofs.Common.{◌+◌, ◌<◌, ◌++◌, ◌∷◌, [], ℕ, ap, sym, ◌∙◌, arith, get_or, length, map, get_or-map, map-set}
+use Rattle.snippet_parts.proofs.Common.{LineAnnotation, KeptLine, seen_kept}
 use Rattle.snippet_parts.proofs.KeptEntryLemmas.{entry_stands_at, stands_nowhere}
 use Rattle.snippet_parts.proofs.annotated_lines.add_entry.Goals as goal
 

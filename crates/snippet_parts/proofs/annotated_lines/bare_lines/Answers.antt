@@ -1,9 +1,5 @@
-use Rattle.std.proofs.Common.{◌≡◌, ◌+◌, ◌<◌, ◌++◌, ℕ, List, [], ◌∷◌, map, length, take, get_or, refl, ap, sym, ◌∙◌, arith}
-use Rattle.std.proofs.lemmas.List.{map_more, map_push, take_all}
-use Rattle.snippet_parts.specs.Annotated.{KeptLine}
-use Rattle.snippet_parts.specs.OnLine.{seen_kept}
-use Rattle.snippet_parts.specs.KeptEntries.{line_with}
-use Rattle.snippet_parts.specs.declared.entries.AnnotatedLineInfo.{AnnotatedLineInfo}
+use Rattle.snippet_parts.proofs.Common.{◌≡◌, ◌+◌, ◌<◌, ◌++◌, ℕ, List, [], ◌∷◌, map, length, take, get_or, refl, ap, sym, ◌∙◌}
+use Rattle.snippet_parts.proofs.Common.{arith, map_more, map_push, take_all, KeptLine, seen_kept, line_with, AnnotatedLineInfo}
 use Rattle.snippet_parts.proofs.ShownLemmas.{same-kept}
 use Rattle.snippet_parts.proofs.annotated_lines.bare_lines.Goals as goal
 

@@ -1,6 +1,4 @@
-use Rattle.std.proofs.Common.{◌≡◌, [], map, take}
-use Rattle.snippet_parts.specs.OnLine.{seen_kept}
-use Rattle.snippet_parts.specs.KeptEntries.{line_with}
+use Rattle.snippet_parts.proofs.Common.{◌≡◌, [], map, take, seen_kept, line_with}
 use Rattle.snippet_parts.proofs.annotated_lines.bare_lines.Given as goal
 
 -- the lines so far

@@ -1,7 +1,4 @@
-use Rattle.std.proofs.Common.{Bool, ap, sym, ◌∙◌}
-use Rattle.std.proofs.lemmas.Result.{IfOk-weaker}
-use Rattle.snippet_parts.specs.Annotated.{annotated_lines}
-use Rattle.snippet_parts.specs.Located.{annotations_of}
+use Rattle.snippet_parts.proofs.Common.{Bool, ap, sym, ◌∙◌, IfOk-weaker, annotated_lines, annotations_of}
 use Rattle.snippet_parts.proofs.annotated_lines.located_lines.Goals as goal
 
 pub returns-in-Some : goal.returns-in-Some

@@ -1,16 +1,6 @@
-use Rattle.std.proofs.Common.{◌≡◌, ◌+◌, ◌<◌, ◌||◌, ℕ, [], eqb, length, map, not, refl, ap, sym, subst, ◌∙◌, arith}
-use Rattle.std.specs.List.{All, AllPairs, filter, list_any}
-use Rattle.std.specs.List.Sorted.{IsNonDecreasingBy}
-use Rattle.std.proofs.lemmas.List.{length-map}
-use Rattle.snippet_lines.specs.Lines.{source_lines}
-use Rattle.snippet_parts.specs.declared.entries.LineAnnotation.{LineAnnotation}
-use Rattle.snippet_parts.specs.Annotated.{kept_line}
-use Rattle.snippet_parts.specs.OnLine.{seen_kept}
-use Rattle.snippet_parts.specs.Kept.{keeps}
-use Rattle.snippet_parts.specs.KeptEntries.{line_with}
-use Rattle.snippet_parts.specs.LineStretches.{is_seen}
-use Rattle.snippet_parts.specs.Located.{annotations_of}
-use Rattle.snippet_parts.specs.declared.located.LocatedSpan.{LocatedSpan}
+use Rattle.snippet_parts.proofs.Common.{◌≡◌, ◌+◌, ◌<◌, ◌||◌, ℕ, [], eqb, length, map, not, refl, ap, sym, subst, ◌∙◌, arith, All}
+use Rattle.snippet_parts.proofs.Common.{AllPairs, filter, list_any, IsNonDecreasingBy, length-map, source_lines, LineAnnotation, kept_line, seen_kept, keeps}
+use Rattle.snippet_parts.proofs.Common.{line_with, is_seen, annotations_of, LocatedSpan}
 use Rattle.snippet_parts.proofs.KeptEntryLemmas.{kept-rise, lines_same, whole_again}
 use Rattle.snippet_parts.proofs.KeptLemmas.{among-kept, kept-ascend}
 use Rattle.snippet_parts.proofs.PartLemmas.{list_any-map}

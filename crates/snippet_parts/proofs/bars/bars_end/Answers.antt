@@ -1,5 +1,4 @@
-use Rattle.std.proofs.Common.{◌+◌, ◌-◌, min, not, ap, sym, ◌∙◌, arith}
-use Rattle.snippet_parts.specs.Kept.{is_trivial_line}
+use Rattle.snippet_parts.proofs.Common.{◌+◌, ◌-◌, min, not, ap, sym, ◌∙◌, arith, is_trivial_line}
 use Rattle.snippet_parts.proofs.BarLemmas.{bars-found, bars_none}
 use Rattle.snippet_parts.proofs.bars.bars_end.Goals as goal
 

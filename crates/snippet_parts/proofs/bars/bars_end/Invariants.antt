@@ -1,6 +1,4 @@
-use Rattle.std.proofs.Common.{◌≡◌, ◌+◌, ◌-◌, min, false, not}
-use Rattle.std.specs.List.{list_any, range_with_len}
-use Rattle.snippet_parts.specs.Kept.{is_trivial_line}
+use Rattle.snippet_parts.proofs.Common.{◌≡◌, ◌+◌, ◌-◌, min, false, not, list_any, range_with_len, is_trivial_line}
 use Rattle.snippet_parts.proofs.bars.bars_end.Given as goal
 
 -- the lines of the beginning from here on are trivial

@@ -1,13 +1,7 @@
-use Rattle.std.proofs.Common.{◌≡◌, ◌<◌, ◌^◌, All, None, Some, List, [], ◌∷◌, ◌++◌, map, length, sym, ap, subst, ◌∙◌, append_assoc, append-nil, arith}
-use Rattle.std.specs.Vec.Iter.{into_iter_items}
-use Rattle.std.proofs.lemmas.List.{map_push, nil_from_length}
-use Rattle.std.proofs.lemmas.List.Elements.{All-tail}
-use Rattle.snippet_parts.specs.declared.entries.AnnotatedLineInfo.{AnnotatedLineInfo}
-use Rattle.snippet_parts.specs.declared.shown_line.ShownLine.{ShownLine}
-use Rattle.snippet_parts.specs.Annotated.{KeptLine}
-use Rattle.snippet_parts.specs.OnLine.{seen_kept}
-use Rattle.snippet_parts.specs.Between.{lines_between}
-use Rattle.snippet_parts.specs.ShownLines.{infos_of, kept_of}
+use Rattle.snippet_parts.proofs.Common.{◌≡◌, ◌<◌, ◌^◌, None, Some, List, [], ◌∷◌, ◌++◌, map, length, sym, ap, subst, ◌∙◌}
+use Rattle.snippet_parts.proofs.Common.{append_assoc, arith, into_iter_items, map_push, nil_from_length, All-tail, AnnotatedLineInfo, ShownLine, KeptLine}
+use Rattle.snippet_parts.proofs.Common.{seen_kept, lines_between, infos_of, kept_of}
+use Rattle.std.proofs.Common.{All, append-nil}
 use Rattle.snippet_parts.proofs.BetweenLemmas.{filled, filled-shown}
 use Rattle.snippet_parts.proofs.ShownLineLemmas.{infos_of-push, kept_of-kept}
 use Rattle.snippet_parts.proofs.between.with_lines_between.Goals as goal

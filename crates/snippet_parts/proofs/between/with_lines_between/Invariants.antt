@@ -1,7 +1,5 @@
-use Rattle.std.proofs.Common.{◌≡◌, ◌++◌, ◌<◌, ◌^◌, All, None, map, length}
-use Rattle.std.specs.Vec.Iter.{into_iter_items, into_iter_len}
-use Rattle.snippet_parts.specs.OnLine.{seen_kept}
-use Rattle.snippet_parts.specs.ShownLines.{infos_of, kept_of}
+use Rattle.snippet_parts.proofs.Common.{◌≡◌, ◌++◌, ◌<◌, ◌^◌, None, map, length, into_iter_items, into_iter_len, seen_kept, infos_of, kept_of}
+use Rattle.std.proofs.Common.{All}
 use Rattle.snippet_parts.proofs.BetweenLemmas.{filled}
 use Rattle.snippet_parts.proofs.between.with_lines_between.Given as goal
 

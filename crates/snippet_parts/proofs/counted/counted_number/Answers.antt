@@ -1,7 +1,5 @@
-use Rattle.std.proofs.Common.{◌≡◌, ◌+◌, ◌-◌, ◌∙◌, List, ℕ, ap, take, arith}
-use Rattle.snippet_lines.specs.Lines.{Source, newline_count, source_lines}
-use Rattle.snippet_lines.specs.Place.{line_of}
-use Rattle.snippet_lines.proofs.IndexLemmas.{line_of-last}
+use Rattle.snippet_parts.proofs.Common.{◌≡◌, ◌+◌, ◌-◌, ◌∙◌, List, ℕ, ap, take, arith, Source, newline_count, source_lines, line_of}
+use Rattle.snippet_parts.proofs.Common.{line_of-last}
 use Rattle.snippet_parts.proofs.counted.counted_number.Goals as goal
 
 pub returns : goal.returns

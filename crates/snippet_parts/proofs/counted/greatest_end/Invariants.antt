@@ -1,4 +1,4 @@
-use Rattle.std.proofs.Common.{◌≡◌, take}
+use Rattle.snippet_parts.proofs.Common.{◌≡◌, take}
 use Rattle.snippet_parts.proofs.CountedWords.{greatest_end}
 use Rattle.snippet_parts.proofs.counted.greatest_end.Given as goal
 

@@ -1,8 +1,5 @@
-use Rattle.std.proofs.Common.{◌≡◌, ◌+◌, ◌-◌, ◌≤◌, ◌++◌, arith, map, take, drop, length, sym, ap, subst, ◌∙◌}
-use Rattle.std.specs.List.{All}
-use Rattle.std.proofs.lemmas.List.Elements.{All-same}
-use Rattle.snippet_parts.specs.Depths.{greatest_depth, places_of, depth_among}
-use Rattle.snippet_parts.specs.Chains.{IsLongestChain, raw_depths}
+use Rattle.snippet_parts.proofs.Common.{◌≡◌, ◌+◌, ◌-◌, ◌≤◌, ◌++◌, arith, map, take, drop, length, sym, ap, subst, ◌∙◌, All}
+use Rattle.snippet_parts.proofs.Common.{All-same, greatest_depth, places_of, depth_among, IsLongestChain, raw_depths}
 use Rattle.snippet_parts.proofs.DepthLemmas.{depths-are, depths-within, depths-distinct, greatest-depth-bound, greatest-fold, longest-chain, mapped, raw-most}
 use Rattle.snippet_parts.proofs.depths.depths.Goals as goal
 

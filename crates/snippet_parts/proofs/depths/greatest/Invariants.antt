@@ -1,4 +1,4 @@
-use Rattle.std.proofs.Common.{◌≡◌, max, fold, take}
+use Rattle.snippet_parts.proofs.Common.{◌≡◌, max, fold, take}
 use Rattle.snippet_parts.proofs.depths.greatest.Given as goal
 
 -- the greatest so far

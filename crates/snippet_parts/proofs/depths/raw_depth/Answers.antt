@@ -1,4 +1,4 @@
-use Rattle.std.proofs.Common.{◌≤◌, arith, length, get_or, sym, ap, ◌∙◌}
+use Rattle.snippet_parts.proofs.Common.{◌≤◌, arith, length, get_or, sym, ap, ◌∙◌}
 use Rattle.snippet_parts.proofs.DepthSearchLemmas.{near_up_to, found_at, found_none, passed_at}
 use Rattle.snippet_parts.proofs.RawDepthLemmas.{length-raw_depths, raw_depths-bound}
 use Rattle.snippet_parts.proofs.depths.raw_depth.Goals as goal

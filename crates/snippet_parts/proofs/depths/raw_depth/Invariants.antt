@@ -1,4 +1,4 @@
-use Rattle.std.proofs.Common.{◌≡◌, ◌≤◌, take, drop, length}
+use Rattle.snippet_parts.proofs.Common.{◌≡◌, ◌≤◌, take, drop, length}
 use Rattle.snippet_parts.proofs.DepthSearchLemmas.{search_from}
 use Rattle.snippet_parts.proofs.depths.raw_depth.Given as goal
 

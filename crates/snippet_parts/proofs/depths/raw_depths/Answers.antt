@@ -1,6 +1,4 @@
-use Rattle.std.proofs.Common.{◌≡◌, ◌+◌, ◌-◌, drop, subst, ◌∙◌, arith}
-use Rattle.std.proofs.lemmas.List.{length-set}
-use Rattle.snippet_parts.specs.Chains.{raw_depths}
+use Rattle.snippet_parts.proofs.Common.{◌≡◌, ◌+◌, ◌-◌, drop, subst, ◌∙◌, arith, length-set, raw_depths}
 use Rattle.snippet_parts.proofs.DepthSearchLemmas.{after_in, filled}
 use Rattle.snippet_parts.proofs.depths.raw_depths.Goals as goal
 

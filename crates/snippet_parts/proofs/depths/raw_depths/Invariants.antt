@@ -1,5 +1,4 @@
-use Rattle.std.proofs.Common.{◌≡◌, drop, length}
-use Rattle.snippet_parts.specs.Chains.{raw_depths}
+use Rattle.snippet_parts.proofs.Common.{◌≡◌, drop, length, raw_depths}
 use Rattle.snippet_parts.proofs.depths.raw_depths.Given as goal
 
 -- the raw depths from here on

@@ -1,7 +1,4 @@
-use Rattle.std.proofs.Common.{leb, rules, get_or}
-use Rattle.std.proofs.lemmas.Bool.{leb-true, leb-false}
-use Rattle.std.proofs.lemmas.List.Sorted.{IsPartitionedBy-leb, IsPartitionPoint-from_clause}
-use Rattle.snippet_parts.specs.declared.depths.LongExtent.{LongExtent}
+use Rattle.snippet_parts.proofs.Common.{leb, rules, get_or, leb-true, leb-false, IsPartitionedBy-leb, IsPartitionPoint-from_clause, LongExtent}
 use Rattle.snippet_parts.proofs.depths.starting_by.Goals as goal
 
 pub returns : goal.returns

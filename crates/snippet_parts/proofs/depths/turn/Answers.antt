@@ -1,4 +1,4 @@
-use Rattle.std.proofs.Common.{◌+◌, ◌-◌, arith}
+use Rattle.snippet_parts.proofs.Common.{◌+◌, ◌-◌, arith}
 use Rattle.snippet_parts.proofs.DepthLemmas.{turn-read, turn-more}
 use Rattle.snippet_parts.proofs.depths.turn.Goals as goal
 

@@ -1,7 +1,4 @@
-use Rattle.std.proofs.Common.{◌<◌, ◌||◌, ℕ, true, false, not, length, refl, subst, sym}
-use Rattle.std.specs.List.{All, list_any}
-use Rattle.snippet_lines.specs.Lines.{source_lines}
-use Rattle.snippet_parts.specs.Kept.{keeps}
+use Rattle.snippet_parts.proofs.Common.{◌<◌, ◌||◌, ℕ, true, false, not, length, refl, subst, sym, All, list_any, source_lines, keeps}
 use Rattle.snippet_parts.proofs.KeptLemmas.{all-kept, kept-within}
 use Rattle.snippet_parts.proofs.kept.all_lines.Goals as goal
 

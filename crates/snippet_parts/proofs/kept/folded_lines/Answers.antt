@@ -1,11 +1,5 @@
-use Rattle.std.proofs.Common.{◌≡◌, ◌<◌, ◌||◌, ℕ, List, true, not, length, ap, subst, sym, ◌∙◌}
-use Rattle.std.specs.List.{All, filter, list_any, range_with_len}
-use Rattle.std.proofs.lemmas.Result.{IfOk-weaker}
-use Rattle.snippet_lines.specs.Lines.{source_lines}
-use Rattle.snippet_parts.specs.Kept.{keeps}
-use Rattle.snippet_parts.specs.Located.{IsLocated, annotations_of}
-use Rattle.snippet_parts.specs.declared.located.LocatedSpan.{LocatedSpan}
-use Rattle.snippet_parts.specs.LineStretches.{is_held}
+use Rattle.snippet_parts.proofs.Common.{◌≡◌, ◌<◌, ◌||◌, ℕ, List, true, not, length, ap, subst, sym, ◌∙◌, All, filter, list_any}
+use Rattle.snippet_parts.proofs.Common.{range_with_len, IfOk-weaker, source_lines, keeps, IsLocated, annotations_of, LocatedSpan, is_held}
 use Rattle.snippet_parts.proofs.PartLemmas.{list_any-map}
 use Rattle.snippet_parts.proofs.KeptLemmas.{filter-cut, held-all, held-two, kept-within, unkept}
 use Rattle.snippet_parts.proofs.kept.folded_lines.Goals as goal

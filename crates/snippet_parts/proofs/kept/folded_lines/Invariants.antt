@@ -1,8 +1,4 @@
-use Rattle.std.proofs.Common.{◌≡◌, ℕ, take}
-use Rattle.std.specs.List.{list_any}
-use Rattle.snippet_parts.specs.Kept.{keeps}
-use Rattle.snippet_parts.specs.declared.located.LocatedSpan.{LocatedSpan}
-use Rattle.snippet_parts.specs.LineStretches.{is_held}
+use Rattle.snippet_parts.proofs.Common.{◌≡◌, ℕ, take, list_any, keeps, LocatedSpan, is_held}
 use Rattle.snippet_parts.proofs.kept.folded_lines.Given as goal
 
 -- the lines that the spans so far keep

@@ -1,10 +1,5 @@
-use Rattle.std.proofs.Common.{rules, subst, sym, ap, ◌∙◌}
-use Rattle.std.specs.List.{filter, range_with_len}
-use Rattle.std.specs.List.Sorted.{IsNonDecreasingBy}
-use Rattle.std.proofs.lemmas.List.Sorted.{IsNonDecreasingBy-from_sort_by_key}
-use Rattle.std.proofs.lemmas.Result.{IfOk-weaker}
-use Rattle.snippet_parts.specs.declared.kept.Stretch.{Stretch}
-use Rattle.snippet_parts.specs.LineStretches.{is_held}
+use Rattle.snippet_parts.proofs.Common.{rules, subst, sym, ap, ◌∙◌, filter, range_with_len, IsNonDecreasingBy, IsNonDecreasingBy-from_sort_by_key}
+use Rattle.snippet_parts.proofs.Common.{IfOk-weaker, Stretch, is_held}
 use Rattle.snippet_parts.proofs.KeptLemmas.{held-permuted}
 use Rattle.snippet_parts.proofs.kept.held_lines.Goals as goal
 

@@ -1,4 +1,4 @@
-use Rattle.std.proofs.Common.{◌∙◌}
+use Rattle.snippet_parts.proofs.Common.{◌∙◌}
 use Rattle.snippet_parts.proofs.KeptLemmas.{among-found}
 use Rattle.snippet_parts.proofs.kept.is_among.Goals as goal
 

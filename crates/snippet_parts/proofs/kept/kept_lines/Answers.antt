@@ -1,7 +1,4 @@
-use Rattle.std.proofs.Common.{ap, sym, ◌∙◌}
-use Rattle.std.proofs.lemmas.Result.{IfOk-weaker}
-use Rattle.snippet_parts.specs.Kept.{kept_lines}
-use Rattle.snippet_parts.specs.Located.{annotations_of}
+use Rattle.snippet_parts.proofs.Common.{ap, sym, ◌∙◌, IfOk-weaker, kept_lines, annotations_of}
 use Rattle.snippet_parts.proofs.kept.kept_lines.Goals as goal
 
 pub returns-then-fold : goal.returns-then-fold

@@ -1,13 +1,7 @@
-use Rattle.std.proofs.Common.{List, ◌≡◌, ◌+◌, ◌-◌, ◌≤◌, ℕ, Bool, true, false, ◌||◌, ◌&&◌, eqb, leb, ltb, min, not, inl, inr, ◌⊎◌, ap, sym, subst, ◌∙◌, arith}
+use Rattle.snippet_parts.proofs.Common.{List, ◌≡◌, ◌+◌, ◌-◌, ◌≤◌, ℕ, Bool, true, false, ◌||◌, ◌&&◌, eqb, leb, ltb, min, not, inl}
+use Rattle.snippet_parts.proofs.Common.{inr, ◌⊎◌, ap, sym, subst, ◌∙◌, arith, list_any, range_with_len, Source, Annotation, LocatedSpan}
+use Rattle.snippet_parts.proofs.Common.{is_trivial_line, keeps, AreBars, IsLocated, is_long_span, is_marking, first_line}
 use mir.Val.{bool_byte}
-use Rattle.std.specs.List.{list_any, range_with_len}
-use Rattle.snippet_lines.specs.Lines.{Source}
-use Rattle.snippet_model.specs.declared.snippet.Annotation.{Annotation}
-use Rattle.snippet_parts.specs.declared.located.LocatedSpan.{LocatedSpan}
-use Rattle.snippet_parts.specs.Kept.{is_trivial_line, keeps}
-use Rattle.snippet_parts.specs.Located.{AreBars, IsLocated, is_long_span}
-use Rattle.snippet_parts.specs.Mark.{is_marking}
-use Rattle.snippet_parts.specs.Marked.{first_line}
 use Rattle.snippet_parts.proofs.LocatedLemmas.{located-ordered, long_span-by}
 use Rattle.snippet_parts.proofs.KeptLemmas.{after-least, keeps-all, keeps-ends, last_bar-is, last_bar-apart}
 use Rattle.snippet_parts.proofs.kept.kept_stretches.Goals as goal

@@ -1,4 +1,4 @@
-use Rattle.std.proofs.Common.{take}
+use Rattle.snippet_parts.proofs.Common.{take}
 use Rattle.snippet_parts.proofs.KeptLemmas.{IsMerged}
 use Rattle.snippet_parts.proofs.kept.merged_lines.Given as goal
 

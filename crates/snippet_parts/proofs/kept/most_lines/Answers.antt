@@ -1,5 +1,4 @@
-use Rattle.std.proofs.Common.{ap, length, arith}
-use Rattle.snippet_lines.proofs.LinesLemmas.{length-source_lines, newline_count-le}
+use Rattle.snippet_parts.proofs.Common.{ap, length, arith, length-source_lines, newline_count-le}
 use Rattle.snippet_parts.proofs.kept.most_lines.Goals as goal
 
 pub returns : goal.returns

@@ -1,5 +1,4 @@
-use Rattle.std.proofs.Common.{◌-◌, ◌∷◌, [], ◌++◌, append_assoc, ap, sym, ◌∙◌}
-use Rattle.std.specs.List.{range_with_len}
+use Rattle.snippet_parts.proofs.Common.{◌-◌, ◌∷◌, [], ◌++◌, append_assoc, ap, sym, ◌∙◌, range_with_len}
 use Rattle.snippet_parts.proofs.KeptLemmas.{range-pushed}
 use Rattle.snippet_parts.proofs.kept.push_lines.Goals as goal
 

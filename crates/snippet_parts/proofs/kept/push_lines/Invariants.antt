@@ -1,5 +1,4 @@
-use Rattle.std.proofs.Common.{◌≡◌, ◌-◌, ◌++◌}
-use Rattle.std.specs.List.{range_with_len}
+use Rattle.snippet_parts.proofs.Common.{◌≡◌, ◌-◌, ◌++◌, range_with_len}
 use Rattle.snippet_parts.proofs.kept.push_lines.Given as goal
 
 -- the lines so far

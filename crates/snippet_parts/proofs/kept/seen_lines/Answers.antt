@@ -1,9 +1,4 @@
-use Rattle.std.proofs.Common.{length, refl, ◌∙◌}
-use Rattle.std.specs.List.{list_any}
-use Rattle.std.proofs.lemmas.Result.{IfOk-weaker}
-use Rattle.snippet_lines.specs.Lines.{source_lines}
-use Rattle.snippet_parts.specs.declared.located.LocatedSpan.{LocatedSpan}
-use Rattle.snippet_parts.specs.LineStretches.{is_seen}
+use Rattle.snippet_parts.proofs.Common.{length, refl, ◌∙◌, list_any, IfOk-weaker, source_lines, LocatedSpan, is_seen}
 use Rattle.snippet_parts.proofs.KeptLemmas.{filter-cut, held-all, unseen}
 use Rattle.snippet_parts.proofs.kept.seen_lines.Goals as goal
 

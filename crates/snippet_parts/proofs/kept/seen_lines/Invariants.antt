@@ -1,7 +1,4 @@
-use Rattle.std.proofs.Common.{◌≡◌, ℕ, take}
-use Rattle.std.specs.List.{list_any}
-use Rattle.snippet_parts.specs.declared.located.LocatedSpan.{LocatedSpan}
-use Rattle.snippet_parts.specs.LineStretches.{is_held, is_seen}
+use Rattle.snippet_parts.proofs.Common.{◌≡◌, ℕ, take, list_any, LocatedSpan, is_held, is_seen}
 use Rattle.snippet_parts.proofs.kept.seen_lines.Given as goal
 
 -- the lines that the spans so far touch which aren't marked

@@ -1,6 +1,4 @@
-use Rattle.std.proofs.Common.{sym, ap, ◌∙◌, arith}
-use Rattle.std.proofs.lemmas.Bool.{ne_eqb}
-use Rattle.snippet_lines.specs.Place.{location_of}
+use Rattle.snippet_parts.proofs.Common.{sym, ap, ◌∙◌, arith, ne_eqb, location_of}
 use Rattle.snippet_parts.proofs.SpanPlaces.{span_below, span_empty, span_on_line}
 use Rattle.snippet_parts.proofs.TableLemmas.{located-line, located-near}
 use Rattle.snippet_parts.proofs.line_place.locations_near.Goals as goal

@@ -1,10 +1,5 @@
-use Rattle.std.proofs.Common.{IfSome, subst, ◌∙◌, ap, arith}
-use Rattle.snippet_lines.specs.IsSpan.{IsSpanBorder}
-use Rattle.std.proofs.Common.{sym}
-use Rattle.snippet_lines.specs.Place.{location_of, line_of}
-use Rattle.snippet_lines.specs.Lines.{source_lines}
-use Rattle.snippet_parts.specs.LineTable.{entry_at}
-use Rattle.snippet_parts.specs.LinePlaces.{IsLinePlace}
+use Rattle.snippet_parts.proofs.Common.{subst, ◌∙◌, ap, arith, IsSpanBorder, sym, location_of, line_of, source_lines, entry_at, IsLinePlace}
+use Rattle.std.proofs.Common.{IfSome}
 use Rattle.snippet_parts.proofs.TableLemmas.{located-near}
 use Rattle.snippet_parts.proofs.line_place.place_near.Goals as goal
 

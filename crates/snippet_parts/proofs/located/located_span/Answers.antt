@@ -1,12 +1,6 @@
-use Rattle.std.proofs.Common.{◌≡◌, ℕ, ◌+◌, ◌-◌, ◌<◌, ◌≤◌, Bool, true, ◌&&◌, not, eqb, inl, inr, refl, ap, arith, ◌∙◌}
-use Rattle.std.proofs.lemmas.Bool.{cases_lt, eqb-false, not-true, and_parts}
-use Rattle.snippet_lines.specs.declared.place.Loc.{Loc}
-use Rattle.snippet_lines.specs.Lines.{Source, source_lines}
-use Rattle.snippet_lines.specs.Place.{locations_of}
-use Rattle.snippet_model.specs.declared.snippet.Annotation.{Annotation}
-use Rattle.snippet_lines.proofs.PlaceLemmas.{line_of-mono, line_of-within}
-use Rattle.snippet_parts.specs.Mark.{is_marking}
-use Rattle.snippet_parts.specs.Marked.{first_line, last_line}
+use Rattle.snippet_parts.proofs.Common.{◌≡◌, ℕ, ◌+◌, ◌-◌, ◌<◌, ◌≤◌, Bool, true, ◌&&◌, not, eqb, inl, inr, refl, ap, arith}
+use Rattle.snippet_parts.proofs.Common.{◌∙◌, cases_lt, eqb-false, not-true, and_parts, Loc, Source, source_lines, locations_of, Annotation, line_of-mono}
+use Rattle.snippet_parts.proofs.Common.{line_of-within, is_marking, first_line, last_line}
 use Rattle.snippet_parts.proofs.MarkLemmas.{first_line-from, end-line}
 use Rattle.snippet_parts.proofs.located.located_span.Goals as goal
 

@@ -1,10 +1,6 @@
-use Rattle.std.proofs.Common.{◌∙◌, ◌+◌, ◌++◌, ◌∷◌, [], List, All, ap, sym, subst, take, arith}
-use Rattle.std.proofs.lemmas.Grind.{common_steps}
-use Rattle.std.proofs.lemmas.List.{take_more}
-use Rattle.std.proofs.lemmas.List.Elements.{All-append, All-cons, All-nil, All-push, All-same}
-use Rattle.snippet_model.specs.declared.snippet.Annotation.{Annotation}
-use Rattle.snippet_parts.specs.declared.located.LocatedSpan.{LocatedSpan}
-use Rattle.snippet_parts.specs.Located.{HasTextLabel, IsLocated}
+use Rattle.snippet_parts.proofs.Common.{◌∙◌, ◌+◌, ◌++◌, ◌∷◌, [], List, ap, sym, subst, take, arith, common_steps, take_more, All-append}
+use Rattle.snippet_parts.proofs.Common.{All-cons, All-nil, All-push, All-same, Annotation, LocatedSpan, HasTextLabel, IsLocated}
+use Rattle.std.proofs.Common.{All}
 use Rattle.snippet_parts.proofs.located.located_spans.Goals as goal
 
 pub loop-annotation-preserved : goal.loop-annotation-preserved

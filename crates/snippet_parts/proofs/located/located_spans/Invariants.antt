@@ -1,7 +1,5 @@
-use Rattle.std.proofs.Common.{◌≡◌, IfSome, take}
-use Rattle.std.specs.List.{All}
-use Rattle.snippet_parts.specs.LinePlaces.{IsLinePlace}
-use Rattle.snippet_parts.specs.Located.{HasTextLabel, IsLocated, annotations_of}
+use Rattle.snippet_parts.proofs.Common.{◌≡◌, take, All, IsLinePlace, HasTextLabel, IsLocated, annotations_of}
+use Rattle.std.proofs.Common.{IfSome}
 use Rattle.snippet_parts.proofs.located.located_spans.Given as goal
 
 -- the spans so far, and the place that is known

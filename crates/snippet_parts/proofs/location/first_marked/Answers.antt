@@ -1,6 +1,4 @@
-use Rattle.std.proofs.Common.{sym, ◌∙◌}
-use Rattle.snippet_model.specs.declared.snippet.Annotation.{Annotation}
-use Rattle.snippet_parts.specs.Mark.{is_marking}
+use Rattle.snippet_parts.proofs.Common.{sym, ◌∙◌, Annotation, is_marking}
 use Rattle.snippet_parts.proofs.LocationLemmas.{start-more, start-same}
 use Rattle.snippet_parts.proofs.location.first_marked.Goals as goal
 use Rattle.snippet_parts.proofs.location.first_marked.Goals.{then-is_marking, else-is_marking}

@@ -1,6 +1,4 @@
-use Rattle.std.proofs.Common.{◌≡◌, take}
-use Rattle.snippet_parts.specs.Least.{least}
-use Rattle.snippet_parts.specs.NamingStart.{marked_starts}
+use Rattle.snippet_parts.proofs.Common.{◌≡◌, take, least, marked_starts}
 use Rattle.snippet_parts.proofs.location.first_marked.Given as goal
 
 -- the least byte of the marked spans so far

@@ -1,10 +1,5 @@
-use Rattle.std.proofs.Common.{◌≡◌, Bool, refl, sym, ◌∙◌}
+use Rattle.snippet_parts.proofs.Common.{◌≡◌, Bool, refl, sym, ◌∙◌, the_type, Annotation, AnnotationKind, Primary, Context, Visible, is_primary}
 use denote.Enum.Bare.{sameb}
-use Rattle.snippet_model.specs.contracts.snippet.AnnotationKind.{the_type}
-use Rattle.snippet_model.specs.declared.snippet.Annotation.{Annotation}
-use Rattle.snippet_model.specs.declared.snippet.AnnotationKind.{AnnotationKind}
-use Rattle.snippet_model.specs.declared.snippet.AnnotationKind.TheVariants.{Primary, Context, Visible}
-use Rattle.snippet_model.specs.AnnotationKind.{is_primary}
 use Rattle.snippet_parts.proofs.LocationLemmas.{start-more, start-same}
 use Rattle.snippet_parts.proofs.location.first_primary.Goals as goal
 use Rattle.snippet_parts.proofs.location.first_primary.Goals.{then-eq, else-eq}

@@ -1,6 +1,4 @@
-use Rattle.std.proofs.Common.{◌≡◌, take}
-use Rattle.snippet_parts.specs.Least.{least}
-use Rattle.snippet_parts.specs.NamingStart.{primary_starts}
+use Rattle.snippet_parts.proofs.Common.{◌≡◌, take, least, primary_starts}
 use Rattle.snippet_parts.proofs.location.first_primary.Given as goal
 
 -- the least byte of the primary spans so far

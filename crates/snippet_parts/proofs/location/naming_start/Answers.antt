@@ -1,7 +1,4 @@
-use Rattle.std.proofs.Common.{ℕ, Option, sym, ap, ◌∙◌}
-use Rattle.std.specs.Option.{option_or}
-use Rattle.snippet_parts.specs.NamingStart.{marked_starts}
-use Rattle.snippet_parts.specs.Least.{least}
+use Rattle.snippet_parts.proofs.Common.{ℕ, Option, sym, ap, ◌∙◌, option_or, marked_starts, least}
 use Rattle.snippet_parts.proofs.NamingLaws.{naming-border, naming-place}
 use Rattle.snippet_parts.proofs.location.naming_start.Goals as goal
 

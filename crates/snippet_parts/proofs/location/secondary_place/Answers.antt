@@ -1,5 +1,4 @@
-use Rattle.std.proofs.Common.{map, sym}
-use Rattle.snippet_parts.specs.OnLine.{seen_kept}
+use Rattle.snippet_parts.proofs.Common.{map, sym, seen_kept}
 use Rattle.snippet_parts.proofs.LocationWords.{secondary-is}
 use Rattle.snippet_parts.proofs.location.secondary_place.Goals as goal
 

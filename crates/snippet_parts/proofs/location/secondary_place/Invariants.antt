@@ -1,7 +1,4 @@
-use Rattle.std.proofs.Common.{◌≡◌, map}
-use Rattle.std.specs.Option.{option_or}
-use Rattle.snippet_parts.specs.OnLine.{seen_kept}
-use Rattle.snippet_parts.specs.Location.{secondary_place}
+use Rattle.snippet_parts.proofs.Common.{◌≡◌, map, option_or, seen_kept, secondary_place}
 use Rattle.snippet_parts.proofs.LocationLemmas.{place_from}
 use Rattle.snippet_parts.proofs.LocationWords.{bare_place, entry_place, first_place}
 use Rattle.snippet_parts.proofs.location.secondary_place.Given as goal

@@ -1,9 +1,5 @@
-use Rattle.std.proofs.Common.{◌∷◌, [], All, sym, subst, ap, ◌∙◌, arith}
-use Rattle.std.proofs.lemmas.Grind.{common_steps}
-use Rattle.std.proofs.lemmas.List.Elements.{All-append, All-cons, All-nil}
-use Rattle.snippet_lines.specs.Lines.{Source}
-use Rattle.snippet_parts.specs.Located.{IsLocated}
-use Rattle.snippet_parts.specs.LongSpans.{HasFit}
+use Rattle.snippet_parts.proofs.Common.{◌∷◌, [], sym, subst, ap, ◌∙◌, arith, common_steps, All-append, All-cons, All-nil, Source, IsLocated, HasFit}
+use Rattle.std.proofs.Common.{All}
 use Rattle.snippet_parts.proofs.LocatedLemmas.{located-fit}
 use Rattle.snippet_parts.proofs.long_spans.given_long_spans.Goals as goal
 use Rattle.snippet_parts.proofs.long_spans.given_long_spans.Goals.{then-is_long+in_ok-push, else-is_long}

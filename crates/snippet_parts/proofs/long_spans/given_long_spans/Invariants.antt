@@ -1,8 +1,4 @@
-use Rattle.std.proofs.Common.{◌≡◌, map, take}
-use Rattle.std.specs.List.{All, filter}
-use Rattle.snippet_lines.specs.Lines.{Source}
-use Rattle.snippet_parts.specs.Located.{IsLocated, is_long_span, span_entry}
-use Rattle.snippet_parts.specs.LongSpans.{seen_long, HasFit}
+use Rattle.snippet_parts.proofs.Common.{◌≡◌, map, take, All, filter, Source, IsLocated, is_long_span, span_entry, seen_long, HasFit}
 use Rattle.snippet_parts.proofs.long_spans.given_long_spans.Given as goal
 
 -- the spans so far, which fit the source in which they are located

@@ -1,8 +1,5 @@
-use Rattle.std.proofs.Common.{rules}
-use Rattle.std.proofs.lemmas.List.Sorted.{answers_always, All-permutation}
-use Rattle.snippet_parts.specs.LongSpans.{HasFit}
+use Rattle.snippet_parts.proofs.Common.{rules, answers_always, All-permutation, HasFit, sorted-only}
 use Rattle.snippet_parts.proofs.LongLemmas.{long_before, long_before-order, before-tells, long_spans-is, long-ordered}
-use Rattle.snippet_lines.proofs.OrderLemmas.{sorted-only}
 use Rattle.snippet_parts.proofs.long_spans.long_spans.Goals as goal
 
 pub returns : goal.returns

@@ -1,6 +1,4 @@
-use Rattle.std.proofs.Common.{◌≡◌, map, take}
-use Rattle.snippet_parts.specs.Annotated.{long_place}
-use Rattle.snippet_parts.specs.LongSpans.{seen_long}
+use Rattle.snippet_parts.proofs.Common.{◌≡◌, map, take, long_place, seen_long}
 use Rattle.snippet_parts.proofs.long_spans.places.Given as goal
 
 -- the places so far

@@ -1,6 +1,4 @@
-use Rattle.std.proofs.Common.{leb, ltb, rules}
-use Rattle.std.proofs.lemmas.List.Sorted.{IsPartitionedBy-leb, IsPartitionedBy-ltb, IsPartitionPoint-from_clause}
-use Rattle.snippet_parts.specs.declared.long_spans.LongSpan.{LongSpan}
+use Rattle.snippet_parts.proofs.Common.{leb, ltb, rules, IsPartitionedBy-leb, IsPartitionedBy-ltb, IsPartitionPoint-from_clause, LongSpan}
 use Rattle.snippet_parts.proofs.ShownLemmas.{on_line-partitioned}
 use Rattle.snippet_parts.proofs.EntryLemmas.{no_span}
 use Rattle.snippet_parts.proofs.long_spans.range_on.Goals as goal

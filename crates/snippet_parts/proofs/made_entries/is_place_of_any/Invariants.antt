@@ -1,8 +1,4 @@
-use Rattle.std.proofs.Common.{◌≡◌, false, take}
-use Rattle.std.specs.List.{list_any}
-use Rattle.snippet_parts.specs.Annotated.{long_place}
-use Rattle.snippet_parts.specs.Depths.{same_place}
-use Rattle.snippet_parts.specs.LongSpans.{seen_long}
+use Rattle.snippet_parts.proofs.Common.{◌≡◌, false, take, list_any, long_place, same_place, seen_long}
 use Rattle.snippet_parts.proofs.made_entries.is_place_of_any.Given as goal
 
 -- none so far has the place

@@ -1,4 +1,4 @@
-use Rattle.std.proofs.Common.{rules}
+use Rattle.snippet_parts.proofs.Common.{rules}
 use Rattle.snippet_parts.proofs.EntryLemmas.{primary-near}
 use Rattle.snippet_parts.proofs.made_entries.is_primary.Goals as goal
 

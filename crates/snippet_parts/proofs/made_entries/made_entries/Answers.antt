@@ -1,10 +1,6 @@
-use Rattle.std.proofs.Common.{◌≡◌, ◌++◌, [], filter, map, ap, sym, ◌∙◌}
-use Rattle.snippet_parts.specs.declared.long_spans.LongSpan.{LongSpan}
-use Rattle.snippet_parts.specs.Annotated.{long_parts, long_place, long_spans, single_part}
-use Rattle.snippet_parts.specs.Located.{annotations_of}
-use Rattle.snippet_parts.specs.Depths.{greatest_depth}
-use Rattle.std.proofs.lemmas.List.Elements.{All-same}
-use Rattle.snippet_parts.specs.LongSpans.{seen_long, HasFit}
+use Rattle.snippet_parts.proofs.Common.{◌≡◌, ◌++◌, [], map, ap, sym, ◌∙◌, LongSpan, long_parts, long_place, long_spans, single_part}
+use Rattle.snippet_parts.proofs.Common.{annotations_of, greatest_depth, All-same, seen_long, HasFit}
+use Rattle.std.proofs.Common.{filter}
 use Rattle.snippet_parts.proofs.LocatedLemmas.{short-parts, long-are}
 use Rattle.snippet_parts.proofs.EntryLemmas.{places-ordered, places-lines, places-are, depths-of, no_span}
 use Rattle.snippet_parts.proofs.PartWords.{is_short}

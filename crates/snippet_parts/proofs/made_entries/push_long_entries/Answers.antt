@@ -1,10 +1,5 @@
-use Rattle.std.proofs.Common.{◌+◌, ℕ, get_or, map, ap, ◌∙◌}
-use Rattle.std.specs.List.{list_any}
-use Rattle.std.proofs.lemmas.List.{take_rest, get_or_default, get_or-map}
-use Rattle.snippet_parts.specs.declared.long_spans.LongSpan.{LongSpan}
-use Rattle.snippet_parts.specs.Annotated.{long_place}
-use Rattle.snippet_parts.specs.Depths.{depth_among, same_place}
-use Rattle.snippet_parts.specs.LongSpans.{seen_long}
+use Rattle.snippet_parts.proofs.Common.{◌+◌, ℕ, get_or, map, ap, ◌∙◌, list_any, take_rest, get_or_default, get_or-map, LongSpan, long_place}
+use Rattle.snippet_parts.proofs.Common.{depth_among, same_place, seen_long}
 use Rattle.snippet_parts.proofs.EntryLemmas.{parts-more, no_span}
 use Rattle.snippet_parts.proofs.made_entries.push_long_entries.Goals as goal
 

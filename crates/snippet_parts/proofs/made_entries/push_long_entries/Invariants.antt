@@ -1,6 +1,4 @@
-use Rattle.std.proofs.Common.{◌≡◌, ◌++◌, [], map, take, drop}
-use Rattle.snippet_parts.specs.Annotated.{long_parts, long_place}
-use Rattle.snippet_parts.specs.LongSpans.{seen_long}
+use Rattle.snippet_parts.proofs.Common.{◌≡◌, ◌++◌, [], map, take, drop, long_parts, long_place, seen_long}
 use Rattle.snippet_parts.proofs.made_entries.push_long_entries.Given as goal
 
 -- the entries so far, and those of the spans from here on

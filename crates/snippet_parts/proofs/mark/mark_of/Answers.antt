@@ -1,6 +1,4 @@
-use Rattle.std.proofs.Common.{◌≡◌, ◌≤◌, rules, Option, subst, ◌∙◌, arith, take}
-use Rattle.std.specs.Option.{option_map}
-use Rattle.snippet_parts.specs.declared.mark.Mark.{Mark}
+use Rattle.snippet_parts.proofs.Common.{◌≡◌, ◌≤◌, rules, Option, subst, ◌∙◌, arith, take, option_map, Mark}
 use Rattle.snippet_parts.proofs.BestLemmas.{BestOf, best-turn, best-kept, best-unmarked, best-first, best-narrower, answer-mark, answer-number, answer-none}
 use Rattle.snippet_parts.proofs.mark.mark_of.Goals.{in-Some+in-Some-best, in-Some+in_default-best-2, in-Some+in_default-best, in_default}
 use Rattle.snippet_parts.proofs.mark.mark_of.Goals as goal

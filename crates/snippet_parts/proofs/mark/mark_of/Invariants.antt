@@ -1,5 +1,4 @@
-use Rattle.std.proofs.Common.{◌≡◌, ℕ, ◌+◌, ◌≤◌, take}
-use Rattle.std.specs.Option.{IfSome}
+use Rattle.snippet_parts.proofs.Common.{◌≡◌, ℕ, ◌+◌, ◌≤◌, take, IfSome}
 use Rattle.snippet_parts.proofs.BestLemmas.{BestOf}
 use Rattle.snippet_parts.proofs.mark.mark_of.Given as goal
 

@@ -1,4 +1,4 @@
-use Rattle.std.proofs.Common.{◌≡◌, true, false, sym, ◌∙◌, arith}
+use Rattle.snippet_parts.proofs.Common.{◌≡◌, true, false, sym, ◌∙◌, arith}
 use Rattle.snippet_parts.proofs.MarkLemmas.{first_line-from, marked-from, unmarked-from, start_column-from, end_column-from}
 use Rattle.snippet_parts.proofs.mark.marked_columns.Goals.{then-not-is_marking-via-then-not-is_marking}
 use Rattle.snippet_parts.proofs.mark.marked_columns.Goals.{then-not-is_marking-via-else-not-is_marking+then-start-line}

@@ -1,6 +1,4 @@
-use Rattle.std.proofs.Common.{◌≡◌, false, not, take}
-use Rattle.std.specs.List.{list_any}
-use Rattle.snippet_parts.specs.Located.{is_alone_on}
+use Rattle.snippet_parts.proofs.Common.{◌≡◌, false, not, take, list_any, is_alone_on}
 use Rattle.snippet_parts.proofs.only_line.is_any_elsewhere.Given as goal
 
 -- each so far is marked on the line alone

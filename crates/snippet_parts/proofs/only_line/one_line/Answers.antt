@@ -1,6 +1,4 @@
-use Rattle.std.proofs.Common.{◌∷◌, [], ap, map, sym, ◌∙◌}
-use Rattle.snippet_parts.specs.Annotated.{KeptLine}
-use Rattle.snippet_parts.specs.OnLine.{seen_kept}
+use Rattle.snippet_parts.proofs.Common.{◌∷◌, [], ap, map, sym, ◌∙◌, KeptLine, seen_kept}
 use Rattle.snippet_parts.proofs.AloneLemmas.{alone-bound, alone-lines, alone-shallow, line_of-parts}
 use Rattle.snippet_parts.proofs.only_line.one_line.Goals as goal
 

@@ -1,5 +1,4 @@
-use Rattle.std.proofs.Common.{ℕ, ◌≤◌, leb, rules}
-use Rattle.std.proofs.lemmas.List.Sorted.{IsPartitionedBy-leb, IsPartitionPoint-from_clause}
+use Rattle.snippet_parts.proofs.Common.{ℕ, ◌≤◌, leb, rules, IsPartitionedBy-leb, IsPartitionPoint-from_clause}
 use Rattle.snippet_parts.proofs.TableLemmas.{IsParted, parted-some, parted-from, parted-to}
 use Rattle.snippet_parts.proofs.source_map.last_starting_by.Goals as goal
 

@@ -1,8 +1,5 @@
-use Rattle.std.proofs.Common.{◌≡◌, ◌+◌, ◌∙◌, List, ap, sym, arith}
-use Rattle.snippet_lines.specs.Lines.{Line, source_lines, start_of}
-use Rattle.snippet_lines.specs.Place.{line_of}
-use Rattle.snippet_lines.proofs.LinesLemmas.{start_of-zero}
-use Rattle.snippet_lines.proofs.PlaceLemmas.{line_of-start}
+use Rattle.snippet_parts.proofs.Common.{◌≡◌, ◌+◌, ◌∙◌, List, ap, sym, arith, Line, source_lines, start_of, line_of, start_of-zero}
+use Rattle.snippet_parts.proofs.Common.{line_of-start}
 use Rattle.snippet_parts.proofs.source_map.nth_line_start.Goals as goal
 
 pub loop-line-init : goal.loop-line-init

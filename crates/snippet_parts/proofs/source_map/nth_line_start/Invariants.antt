@@ -1,6 +1,5 @@
 -- The start so far is that of the line that was reached.
-use Rattle.std.proofs.Common.{◌≡◌}
-use Rattle.snippet_lines.specs.Lines.{source_lines, start_of}
+use Rattle.snippet_parts.proofs.Common.{◌≡◌, source_lines, start_of}
 use Rattle.snippet_parts.proofs.source_map.nth_line_start.Given as goal
 
 abbrev pub invariant-loop-line : goal.invariant-loop-line

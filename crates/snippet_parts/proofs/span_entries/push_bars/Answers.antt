@@ -1,6 +1,4 @@
-use Rattle.std.proofs.Common.{◌+◌, ◌-◌, ◌≡◌, ℕ, ap, ◌∙◌, arith}
-use Rattle.snippet_parts.specs.Annotated.{bar_part}
-use Rattle.snippet_parts.specs.LongSpans.{seen_long}
+use Rattle.snippet_parts.proofs.Common.{◌+◌, ◌-◌, ◌≡◌, ℕ, ap, ◌∙◌, arith, bar_part, seen_long}
 use Rattle.snippet_parts.proofs.EntryLemmas.{bars_more, bars-closed, bars-open}
 use Rattle.snippet_parts.proofs.span_entries.push_bars.Goals as goal
 

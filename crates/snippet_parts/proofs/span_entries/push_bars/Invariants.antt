@@ -1,7 +1,4 @@
-use Rattle.std.proofs.Common.{◌≡◌, ◌+◌, ◌-◌, ◌++◌, map}
-use Rattle.std.specs.List.{range_with_len}
-use Rattle.snippet_parts.specs.Annotated.{bar_part}
-use Rattle.snippet_parts.specs.LongSpans.{seen_long}
+use Rattle.snippet_parts.proofs.Common.{◌≡◌, ◌+◌, ◌-◌, ◌++◌, map, range_with_len, bar_part, seen_long}
 use Rattle.snippet_parts.proofs.span_entries.push_bars.Given as goal
 
 -- the bars so far

@@ -1,6 +1,4 @@
-use Rattle.std.proofs.Common.{◌≡◌, map, take}
-use Rattle.std.specs.List.{filter}
-use Rattle.snippet_parts.specs.Located.{is_short_span, short_part}
+use Rattle.snippet_parts.proofs.Common.{◌≡◌, map, take, filter, is_short_span, short_part}
 use Rattle.snippet_parts.proofs.span_entries.single_entries.Given as goal
 
 -- the entries so far

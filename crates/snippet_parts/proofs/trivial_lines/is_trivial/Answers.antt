@@ -1,9 +1,5 @@
-use Rattle.std.proofs.Common.{◌+◌, refl, length, sym, ◌∙◌}
-use Rattle.std.specs.Str.{chars}
-use Rattle.std.proofs.lemmas.Iterator.{YieldsList-from_chars}
-use Rattle.std.proofs.lemmas.List.{length_push}
-use Rattle.std.proofs.lemmas.Iterator.Consumers.{YieldsList-turn, YieldsList-end}
-use Rattle.snippet_parts.specs.declared.trivial_lines.Seen.TheVariants.{Comment, Telling}
+use Rattle.snippet_parts.proofs.Common.{◌+◌, refl, length, sym, ◌∙◌, chars, YieldsList-from_chars, length_push, YieldsList-turn, YieldsList-end}
+use Rattle.snippet_parts.proofs.Common.{Comment, Telling}
 use Rattle.snippet_parts.proofs.TrivialLemmas.{trivial_none, trivial_more, read-comment, read-strong, trivial_read}
 use Rattle.snippet_parts.proofs.trivial_lines.is_trivial.Goals as goal
 

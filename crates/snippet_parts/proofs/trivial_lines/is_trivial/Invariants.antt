@@ -1,5 +1,4 @@
-use Rattle.std.proofs.Common.{length}
-use Rattle.std.specs.Str.{chars}
+use Rattle.snippet_parts.proofs.Common.{length, chars}
 use Rattle.snippet_parts.proofs.TrivialLemmas.{IsReadTo}
 use Rattle.snippet_parts.proofs.trivial_lines.is_trivial.Given as goal
 

@@ -1,7 +1,4 @@
-use Rattle.std.proofs.Common.{length, subst, sym}
-use Rattle.std.proofs.lemmas.Iterator.Adapters.{YieldsList-from_vec}
-use Rattle.std.proofs.lemmas.Iterator.Consumers.{YieldsList-end, YieldsList-turn}
-use Rattle.std.proofs.lemmas.List.Elements.{All-get_or}
+use Rattle.snippet_shown.proofs.Common.{length, subst, sym, YieldsList-from_vec, YieldsList-end, YieldsList-turn, All-get_or}
 use Rattle.snippet_shown.proofs.ReportLemmas.{zip_all, zip_more}
 use Rattle.snippet_shown.proofs.remake.elements_remade.Goals as goal
 

@@ -1,4 +1,4 @@
-use Rattle.std.specs.List.{AllZip}
+use Rattle.snippet_shown.proofs.Common.{AllZip}
 use Rattle.snippet_shown.proofs.remake.elements_remade.Given as goal
 
 abbrev pub invariant-loop-element : goal.invariant-loop-element

@@ -1,5 +1,4 @@
-use Rattle.std.specs.List.{AllZip}
-use Rattle.snippet_shown.specs.Remade.{IsGroupMade}
+use Rattle.snippet_shown.proofs.Common.{AllZip, IsGroupMade}
 use Rattle.snippet_shown.proofs.remake.groups_remade.Given as goal
 
 abbrev pub invariant-loop-group : goal.invariant-loop-group

@@ -1,10 +1,6 @@
-use Rattle.std.proofs.Common.{◌≡◌, ◌≢◌, ◌<◌, ℕ, true, false, [], ◌∷◌, ◌++◌, Some, None, eqb, length, get_or, sym, ap, ◌∙◌, lit<}
-use Rattle.std.proofs.lemmas.Bool.{eq-eqb, cond-true, cond-false, false_from_ne_true, eqb-true, both_ways}
-use Rattle.std.proofs.lemmas.List.{append-nil}
-use Rattle.std.proofs.lemmas.Str.{encode_ascii}
-use Rattle.std.proofs.lemmas.Str.Pattern.{split_parts, starts_char}
-use Rattle.std.specs.String.{string_bytes}
-use Rattle.snippet_splice.specs.Copied.{with_line_feeds}
+use Rattle.snippet_splice.proofs.Common.{◌≡◌, ◌≢◌, ◌<◌, ℕ, true, false, [], ◌∷◌, ◌++◌, Some, None, eqb, length, get_or, sym, ap}
+use Rattle.snippet_splice.proofs.Common.{◌∙◌, lit<, eq-eqb, cond-true, cond-false, false_from_ne_true, eqb-true, both_ways, append-nil, encode_ascii}
+use Rattle.snippet_splice.proofs.Common.{split_parts, starts_char, string_bytes, with_line_feeds}
 use Rattle.snippet_splice.proofs.WriteLemmas.{with_line_feeds-step, with_line_feeds-none, utf8-after}
 use Rattle.snippet_splice.proofs.copy.push_converted.Goals as goal
 

@@ -1,8 +1,6 @@
-use Rattle.std.proofs.Common.{◌≡◌, ◌++◌, length}
+use Rattle.snippet_splice.proofs.Common.{◌≡◌, ◌++◌, length, string_bytes, with_line_feeds}
 use denote.Text.{Utf8}
 use denote.Shadow.{shadow}
-use Rattle.std.specs.String.{string_bytes}
-use Rattle.snippet_splice.specs.Copied.{with_line_feeds}
 use Rattle.snippet_splice.proofs.copy.push_converted.Given as goal
 
 -- what is left completes what is to be added

@@ -1,7 +1,4 @@
-use Rattle.std.proofs.Common.{◌≡◌, List, ℕ, count_by, sym, ap, ◌∙◌}
-use Rattle.std.specs.List.{slice_range}
-use Rattle.snippet_lines.specs.Lines.{is_lf}
-use Rattle.snippet_splice.specs.Copied.{in_text}
+use Rattle.snippet_splice.proofs.Common.{◌≡◌, List, ℕ, count_by, sym, ap, ◌∙◌, slice_range, is_lf, in_text}
 use Rattle.snippet_splice.proofs.WriteLemmas.{count-with_line_feeds}
 use Rattle.snippet_splice.proofs.copy.push_copied.Goals as goal
 

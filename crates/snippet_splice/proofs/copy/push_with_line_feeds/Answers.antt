@@ -1,6 +1,4 @@
-use Rattle.std.proofs.Common.{◌≢◌, ◌<◌, ℕ, ◌++◌, length, get_or, sym, ap, ◌∙◌, arith}
-use Rattle.std.proofs.lemmas.Bool.{eq-eqb}
-use Rattle.std.specs.String.{string_bytes}
+use Rattle.snippet_splice.proofs.Common.{◌≢◌, ◌<◌, ℕ, ◌++◌, length, get_or, sym, ap, ◌∙◌, arith, eq-eqb, string_bytes}
 use Rattle.snippet_splice.proofs.WriteLemmas.{with_line_feeds-none}
 use Rattle.snippet_splice.proofs.copy.push_with_line_feeds.Goals as goal
 

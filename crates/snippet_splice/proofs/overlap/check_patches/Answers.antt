@@ -1,5 +1,4 @@
-use Rattle.std.proofs.Common.{map, refl, sym}
-use Rattle.snippet_splice.specs.Edits.{edit_of}
+use Rattle.snippet_splice.proofs.Common.{map, refl, sym, edit_of}
 use Rattle.snippet_splice.proofs.OverlapLemmas.{disjoint-apart, first_overlap-none, first_overlap-only}
 use Rattle.snippet_splice.proofs.overlap.check_patches.Goals as goal
 

@@ -1,6 +1,4 @@
-use Rattle.std.proofs.Common.{◌≡◌, ◌<◌, ℕ, false, length, map}
-use Rattle.snippet_splice.specs.Edits.{edit_of}
-use Rattle.snippet_splice.specs.FirstOverlap.{overlap_at}
+use Rattle.snippet_splice.proofs.Common.{◌≡◌, ◌<◌, ℕ, false, length, map, edit_of, overlap_at}
 use Rattle.snippet_splice.proofs.overlap.first_overlap.Given as goal
 
 -- no patch so far overlaps with a later one

@@ -1,8 +1,4 @@
-use Rattle.std.proofs.Common.{◌≡◌, List, false, map, sym, subst, ◌∙◌, ⊎_elim, arith}
-use Rattle.std.proofs.lemmas.Bool.{cases_eq}
-use Rattle.snippet_model.specs.declared.snippet.Patch.{Patch}
-use Rattle.snippet_splice.specs.Edits.{edit_of}
-use Rattle.snippet_splice.specs.FirstOverlap.{overlap_at}
+use Rattle.snippet_splice.proofs.Common.{◌≡◌, List, false, map, sym, subst, ◌∙◌, ⊎_elim, arith, cases_eq, Patch, edit_of, overlap_at}
 use Rattle.snippet_splice.proofs.OverlapLemmas.{overlap-seen}
 use Rattle.snippet_splice.proofs.overlap.first_overlapping.Goals as goal
 

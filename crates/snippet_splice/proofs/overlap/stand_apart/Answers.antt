@@ -1,8 +1,5 @@
-use Rattle.std.proofs.Common.{◌≡◌, ◌+◌, ◌-◌, ◌<◌, ◌≤◌, ℕ, List, length, map, get_or, sym, ap, subst, ⊎_elim, arith}
-use Rattle.std.proofs.lemmas.Bool.{cases_eq}
-use Rattle.snippet_model.specs.declared.snippet.Patch.{Patch}
-use Rattle.snippet_splice.specs.Edits.{Edit, edit_of}
-use Rattle.snippet_splice.specs.FirstOverlap.{no_edit}
+use Rattle.snippet_splice.proofs.Common.{◌≡◌, ◌+◌, ◌-◌, ◌<◌, ◌≤◌, ℕ, List, length, map, get_or, sym, ap, subst, ⊎_elim, arith}
+use Rattle.snippet_splice.proofs.Common.{cases_eq, Patch, Edit, edit_of, no_edit}
 use Rattle.snippet_splice.proofs.OverlapLemmas.{get_or-edit_of}
 use Rattle.snippet_splice.proofs.overlap.stand_apart.Goals as goal
 

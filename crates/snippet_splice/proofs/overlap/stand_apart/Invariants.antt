@@ -1,6 +1,4 @@
-use Rattle.std.proofs.Common.{◌≤◌, ◌+◌, ◌<◌, ℕ, get_or, map}
-use Rattle.snippet_splice.specs.Edits.{edit_of}
-use Rattle.snippet_splice.specs.FirstOverlap.{no_edit}
+use Rattle.snippet_splice.proofs.Common.{◌≤◌, ◌+◌, ◌<◌, ℕ, get_or, map, edit_of, no_edit}
 use Rattle.snippet_splice.proofs.overlap.stand_apart.Given as goal
 
 -- each patch so far ends by the start of the next

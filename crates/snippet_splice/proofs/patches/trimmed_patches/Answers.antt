@@ -1,12 +1,6 @@
-use Rattle.std.proofs.Common.{◌≡◌, ◌<◌, ◌+◌, ℕ, List, length, get_or, map, take, sym, ap, subst, ◌∙◌, arith, rules}
-use Rattle.std.proofs.lemmas.List.{take_all}
-use Rattle.std.proofs.lemmas.List.Sorted.{answers_always, All-permutation}
-use Rattle.std.specs.List.Sorted.{IsSortedBy, IsStableBy}
-use Rattle.std.specs.declared.ops.Range.{Range}
-use Rattle.snippet_model.specs.declared.snippet.Patch.{Patch}
-use Rattle.snippet_lines.specs.IsSpan.{IsSpan}
-use Rattle.snippet_splice.specs.declared.patches.TrimmedPatch.{TrimmedPatch}
-use Rattle.snippet_splice.specs.Edits.{edit_of, trimmed_edit, in_order, edited_from}
+use Rattle.snippet_splice.proofs.Common.{◌≡◌, ◌<◌, ◌+◌, ℕ, List, length, get_or, map, take, sym, ap, subst, ◌∙◌, arith, rules, take_all}
+use Rattle.snippet_splice.proofs.Common.{answers_always, All-permutation, IsSortedBy, IsStableBy, Range, Patch, IsSpan, TrimmedPatch, edit_of, trimmed_edit}
+use Rattle.snippet_splice.proofs.Common.{in_order, edited_from}
 use Rattle.snippet_splice.proofs.EditLemmas.{edited_from-trimmed}
 use Rattle.snippet_splice.proofs.OrderLemmas.{pair-order, pair-tells}
 use Rattle.snippet_splice.proofs.SeenLemmas.{seen, seen_edit, AreTrimmed, AreTrimmed-more, before, sorted-seen, sorted-edits, sorted-bounds}

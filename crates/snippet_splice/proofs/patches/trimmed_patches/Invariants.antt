@@ -1,4 +1,4 @@
-use Rattle.std.proofs.Common.{take}
+use Rattle.snippet_splice.proofs.Common.{take}
 use Rattle.snippet_splice.proofs.SeenLemmas.{AreTrimmed}
 use Rattle.snippet_splice.proofs.patches.trimmed_patches.Given as goal
 

@@ -1,8 +1,6 @@
-use Rattle.std.proofs.Common.{◌<◌, ◌==◌, length, sym, ap, ◌∙◌, arith, map}
-use Rattle.snippet_lines.specs.Lines.{last_byte}
+use Rattle.snippet_splice.proofs.Common.{◌<◌, ◌==◌, length, sym, ap, ◌∙◌, arith, map, last_byte, trimmed_edit_of}
 use Rattle.snippet_splice.proofs.WriteLemmas.{last_text-at, closes-last}
 use Rattle.snippet_splice.proofs.splice.closes_line.Goals as goal
-use Rattle.snippet_splice.specs.TrimmedEdits.{trimmed_edit_of}
 
 pub returns-in-len1-up : goal.returns-in-len1-up
 returns-in-len1-up c =

@@ -1,7 +1,4 @@
-use Rattle.std.proofs.Common.{◌≤◌, List, ℕ, length, subst, ap, arith}
-use Rattle.std.proofs.lemmas.List.{length-take}
-use Rattle.std.proofs.lemmas.Str.{IsCharBoundary-from_take}
-use Rattle.std.specs.Str.{IsUtf8, IsCharBoundary}
+use Rattle.snippet_splice.proofs.Common.{◌≤◌, List, ℕ, length, subst, ap, arith, length-take, IsCharBoundary-from_take, IsUtf8, IsCharBoundary}
 use Rattle.snippet_splice.proofs.splice.shown_text.Goals as goal
 
 pub truncate-requires : goal.truncate-requires

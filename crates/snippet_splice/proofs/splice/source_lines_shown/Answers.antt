@@ -1,14 +1,6 @@
-use Rattle.std.proofs.Common.{◌≡◌, ◌<◌, ◌+◌, ℕ, List, [], ◌∷◌, count_by, drop, get_or, length, map, max, inl, inr, arith, sym, ap, ◌∙◌, subst}
-use Rattle.std.proofs.Common.{if◌then◌else◌}
-use Rattle.std.proofs.lemmas.Bool.{cases_lt}
-use Rattle.std.proofs.lemmas.List.{drop_all, drop_more}
-use Rattle.std.specs.List.{slice_range}
-use Rattle.snippet_lines.specs.Lines.{is_lf, source_lines}
-use Rattle.snippet_lines.specs.IsSpan.{IsSpanBorder}
-use Rattle.snippet_splice.specs.declared.patches.TrimmedPatch.{TrimmedPatch}
-use Rattle.snippet_splice.specs.Copied.{in_text}
-use Rattle.snippet_splice.specs.StretchLines.{last_end_of}
-use Rattle.snippet_splice.specs.TrimmedEdits.{original_bounds_of}
+use Rattle.snippet_splice.proofs.Common.{◌≡◌, ◌<◌, ◌+◌, ℕ, List, [], ◌∷◌, count_by, drop, get_or, length, map, max, inl, inr, arith, sym}
+use Rattle.snippet_splice.proofs.Common.{ap, ◌∙◌, subst, if◌then◌else◌, cases_lt, drop_all, drop_more, slice_range, is_lf, source_lines}
+use Rattle.snippet_splice.proofs.Common.{IsSpanBorder, TrimmedPatch, in_text, last_end_of, original_bounds_of}
 use Rattle.snippet_splice.proofs.splice.source_lines_shown.Goals as goal
 
 border_max : (source : List ℕ) (a b m : ℕ) → m ≡ max a b → IsSpanBorder source a → IsSpanBorder source b → IsSpanBorder source m

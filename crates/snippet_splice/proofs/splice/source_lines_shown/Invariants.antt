@@ -1,7 +1,4 @@
-use Rattle.std.proofs.Common.{◌≡◌, All, drop, map}
-use Rattle.snippet_lines.specs.IsSpan.{IsSpanBorder}
-use Rattle.snippet_splice.specs.StretchLines.{last_end_of}
-use Rattle.snippet_splice.specs.TrimmedEdits.{original_bounds_of}
+use Rattle.snippet_splice.proofs.Common.{◌≡◌, All, drop, map, IsSpanBorder, last_end_of, original_bounds_of}
 use Rattle.snippet_splice.proofs.splice.source_lines_shown.Given as goal
 
 -- those that are left complete the greatest end, which is a border

@@ -1,19 +1,9 @@
-use Rattle.std.proofs.Common.{◌≡◌, ◌≢◌, ◌++◌, ◌+◌, ◌<◌, ◌≤◌, ℕ, List, [], All, map, drop, min, length, refl, sym, ap, subst, ◌∙◌, inl, rules}
-use Rattle.std.specs.List.{slice_get}
-use Rattle.std.specs.Str.{IsCharBoundary}
-use Rattle.std.specs.String.{string_bytes}
-use Rattle.snippet_lines.specs.Lines.{lines_of, source_lines}
-use Rattle.snippet_splice.specs.Edits.{Edit, edit_of, trimmed_edits, in_order, patched}
-use Rattle.snippet_lines.specs.IsSpan.{IsSpanBorder}
-use Rattle.snippet_splice.specs.declared.patches.TrimmedPatch.{TrimmedPatch}
-use Rattle.snippet_splice.specs.Copied.{end_from, written_ranges}
-use Rattle.snippet_splice.specs.Splice.{IsPlainSplice}
-use Rattle.snippet_splice.specs.ShownText.{first_start, shown_start, shown_rest, shown_text, closes_line, without_final_line_feeds}
+use Rattle.snippet_splice.proofs.Common.{◌≡◌, ◌≢◌, ◌++◌, ◌+◌, ◌<◌, ◌≤◌, ℕ, List, [], All, map, drop, min, length, refl, sym, ap}
+use Rattle.snippet_splice.proofs.Common.{subst, ◌∙◌, inl, rules, slice_get, IsCharBoundary, string_bytes, lines_of, source_lines, Edit, edit_of}
+use Rattle.snippet_splice.proofs.Common.{trimmed_edits, in_order, patched, IsSpanBorder, TrimmedPatch, end_from, written_ranges, IsPlainSplice, first_start}
+use Rattle.snippet_splice.proofs.Common.{shown_start, shown_rest, shown_text, closes_line, without_final_line_feeds, capped, extents_from, extent_of}
+use Rattle.snippet_splice.proofs.Common.{feeds_made, ranges_from, texts_of, AreFrom, shown_line, original_bounds_of, trimmed_edit_of, AreApart}
 use Rattle.snippet_splice.proofs.OverlapLemmas.{apart-in_order, ordered-spans}
-use Rattle.snippet_splice.specs.EditStretches.{capped, extents_from}
-use Rattle.snippet_splice.specs.StretchLines.{extent_of, feeds_made}
-use Rattle.snippet_splice.specs.Patched.{ranges_from, texts_of, AreFrom, shown_line}
-use Rattle.snippet_splice.specs.TrimmedEdits.{original_bounds_of, trimmed_edit_of, AreApart}
 use Rattle.snippet_splice.proofs.PlaceLemmas.{replaced_are, stretches_are}
 use Rattle.snippet_splice.proofs.ShownLineLemmas.{num_replaced, num_shown}
 use Rattle.snippet_splice.proofs.ShownLemmas.{none_given, first_start-trimmed, shown_start-border, shown-apart, shown-value, some-trimmed}

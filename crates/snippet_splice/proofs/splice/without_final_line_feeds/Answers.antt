@@ -1,6 +1,5 @@
-use Rattle.std.proofs.Common.{◌≡◌, ◌≢◌, ℕ, List, [], ◌∷◌, ◌++◌, Some, None, sym, ap, ◌∙◌, lit<}
-use Rattle.std.proofs.lemmas.Str.Pattern.{strip_suffix_char}
-use Rattle.snippet_splice.specs.ShownText.{without_final_line_feeds}
+use Rattle.snippet_splice.proofs.Common.{◌≡◌, ◌≢◌, ℕ, List, [], ◌∷◌, ◌++◌, Some, None, sym, ap, ◌∙◌, lit<, strip_suffix_char}
+use Rattle.snippet_splice.proofs.Common.{without_final_line_feeds}
 use Rattle.snippet_splice.proofs.WriteLemmas.{utf8-front, without_final-push, without_final-stays, front-shorter}
 use Rattle.snippet_splice.proofs.splice.without_final_line_feeds.Goals as goal
 

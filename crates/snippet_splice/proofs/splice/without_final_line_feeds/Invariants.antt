@@ -1,7 +1,6 @@
-use Rattle.std.proofs.Common.{◌≡◌, take, length}
+use Rattle.snippet_splice.proofs.Common.{◌≡◌, take, length, without_final_line_feeds}
 use denote.Text.{Utf8}
 use denote.Shadow.{shadow}
-use Rattle.snippet_splice.specs.ShownText.{without_final_line_feeds}
 use Rattle.snippet_splice.proofs.splice.without_final_line_feeds.Given as goal
 
 -- what is left is the text's front, and only LF were taken from its end

@@ -1,10 +1,5 @@
-use Rattle.std.proofs.Common.{◌≡◌, ◌<◌, ◌+◌, ℕ, List, [], ◌∷◌, ◌++◌, map, drop, get_or, length, count_by, sym, ap, subst}
-use Rattle.std.proofs.lemmas.List.{drop_more}
-use Rattle.std.specs.String.{string_bytes}
-use Rattle.snippet_splice.specs.declared.patches.TrimmedPatch.{TrimmedPatch}
-use Rattle.snippet_splice.specs.TrimmedEdits.{trimmed_edit_of}
-use Rattle.snippet_lines.specs.Lines.{is_lf}
-use Rattle.snippet_splice.specs.Copied.{copied}
+use Rattle.snippet_splice.proofs.Common.{◌≡◌, ◌<◌, ◌+◌, ℕ, List, [], ◌∷◌, ◌++◌, map, drop, get_or, length, count_by, sym, ap, subst}
+use Rattle.snippet_splice.proofs.Common.{drop_more, string_bytes, TrimmedPatch, trimmed_edit_of, is_lf, copied}
 use Rattle.snippet_splice.proofs.WriteLemmas.{Writes, Writes-more}
 use Rattle.snippet_splice.proofs.splice.write_patches.Goals as goal
 

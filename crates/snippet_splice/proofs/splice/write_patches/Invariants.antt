@@ -1,6 +1,4 @@
-use Rattle.std.proofs.Common.{drop, map}
-use Rattle.std.specs.String.{string_bytes}
-use Rattle.snippet_splice.specs.TrimmedEdits.{trimmed_edit_of}
+use Rattle.snippet_splice.proofs.Common.{drop, map, string_bytes, trimmed_edit_of}
 use Rattle.snippet_splice.proofs.WriteLemmas.{Writes}
 use Rattle.snippet_splice.proofs.splice.write_patches.Given as goal
 

@@ -1,6 +1,5 @@
-use Rattle.std.proofs.Common.{◌≡◌, ◌∙◌, ◌++◌, List, ℕ, ap, arith, chars, eq-eqb, get_or, length, sym}
-use Rattle.std.proofs.lemmas.Bool.{eqb-true}
-use Rattle.std.proofs.lemmas.Str.{IsCharBoundary-after_ascii}
+use Rattle.snippet_splice.proofs.Common.{◌≡◌, ◌∙◌, ◌++◌, List, ℕ, ap, arith, get_or, length, sym, eqb-true, IsCharBoundary-after_ascii}
+use Rattle.std.proofs.Common.{chars, eq-eqb}
 use Rattle.snippet_splice.proofs.StretchLemmas.{HasNoLfAfter, HoldsNoLf, after_few, chars_anew, chars_more}
 use Rattle.snippet_splice.proofs.stretches.chars_after.Goals as goal
 

@@ -1,9 +1,6 @@
-use Rattle.std.proofs.Common.{◌≡◌, ◌≢◌, ◌∙◌, ◌+◌, ℕ, ap, arith, cond, false, count_by, eqb, if◌then◌else◌, nat_lt, sym}
-use Rattle.std.proofs.lemmas.Bool.{cond-false, cond-true, eq-eqb, eqb-true, false_from_ne_true}
-use Rattle.snippet_lines.specs.Lines.{is_lf}
-use Rattle.snippet_splice.specs.Copied.{in_text}
-use Rattle.snippet_splice.specs.TrimmedEdits.{trimmed_edit_of}
-use Rattle.snippet_splice.specs.EditStretches.{characters_before, start_character}
+use Rattle.snippet_splice.proofs.Common.{◌≡◌, ◌≢◌, ◌∙◌, ◌+◌, ℕ, ap, arith, cond, false, count_by, eqb, if◌then◌else◌, nat_lt, sym}
+use Rattle.snippet_splice.proofs.Common.{cond-false, cond-true, eq-eqb, eqb-true, false_from_ne_true, is_lf, in_text, trimmed_edit_of, characters_before}
+use Rattle.snippet_splice.proofs.Common.{start_character}
 use Rattle.snippet_splice.proofs.PlaceLemmas.{between, start_few}
 use Rattle.snippet_splice.proofs.stretches.end_char.Goals as goal
 

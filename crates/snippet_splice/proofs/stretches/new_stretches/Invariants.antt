@@ -1,6 +1,5 @@
-use Rattle.std.proofs.Common.{◌≡◌, ◌≤◌, ◌+◌, ◌++◌, ℕ, drop, length, map}
-use Rattle.snippet_splice.specs.EditStretches.{capped, stretches_on}
-use Rattle.snippet_splice.specs.StretchLines.{extent_of, feeds_made, line_stretches}
+use Rattle.snippet_splice.proofs.Common.{◌≡◌, ◌≤◌, ◌+◌, ◌++◌, ℕ, drop, length, map, capped, stretches_on, extent_of, feeds_made}
+use Rattle.snippet_splice.proofs.Common.{line_stretches}
 use Rattle.snippet_splice.proofs.stretches.new_stretches.Given as goal
 
 -- those that are left complete what is to be added, and the lines

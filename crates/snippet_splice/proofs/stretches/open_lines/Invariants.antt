@@ -1,5 +1,4 @@
-use Rattle.std.proofs.Common.{◌≡◌, ◌≤◌, ℕ, length, max}
-use Rattle.snippet_splice.specs.StretchLines.{line_stretches}
+use Rattle.snippet_splice.proofs.Common.{◌≡◌, ◌≤◌, ℕ, length, max, line_stretches}
 use Rattle.snippet_splice.proofs.stretches.open_lines.Given as goal
 
 -- each line has the stretches that it had, and as many are there as were counted

@@ -1,11 +1,6 @@
-use Rattle.std.proofs.Common.{◌≡◌, ◌∙◌, ◌+◌, ◌<◌, ◌≤◌, ℕ, List, [], ◌∷◌, ◌++◌, ap, arith, count_by, drop, get_or, length, map, subst}
-use Rattle.std.proofs.lemmas.List.{drop_more}
-use Rattle.snippet_lines.specs.Lines.{is_lf}
-use Rattle.snippet_splice.specs.declared.patches.TrimmedPatch.{TrimmedPatch}
-use Rattle.snippet_splice.specs.Edits.{Edit}
-use Rattle.snippet_splice.specs.EditStretches.{Extent, characters_before, end_character, extents_from, start_character}
-use Rattle.snippet_splice.specs.StretchLines.{extent_of}
-use Rattle.snippet_splice.specs.TrimmedEdits.{AreApart, trimmed_edit_of}
+use Rattle.snippet_splice.proofs.Common.{◌≡◌, ◌∙◌, ◌+◌, ◌<◌, ◌≤◌, ℕ, List, [], ◌∷◌, ◌++◌, ap, arith, count_by, drop}
+use Rattle.snippet_splice.proofs.Common.{get_or, length, map, subst, drop_more, is_lf, TrimmedPatch, Edit, Extent, characters_before, end_character}
+use Rattle.snippet_splice.proofs.Common.{extents_from, start_character, extent_of, AreApart, trimmed_edit_of}
 use Rattle.snippet_splice.proofs.PlaceLemmas.{between, empty_part_utf8, counted_more, extent_is, none_before, places_more, start_few, utf8_more}
 use Rattle.snippet_splice.proofs.stretches.patch_places.Goals as goal
 

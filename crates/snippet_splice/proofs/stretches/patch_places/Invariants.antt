@@ -1,11 +1,5 @@
-use Rattle.std.proofs.Common.{◌≡◌, ◌≤◌, ◌++◌, drop, map}
-use Rattle.std.specs.List.{slice_range}
-use Rattle.std.specs.Str.{IsUtf8}
-use Rattle.snippet_lines.specs.IsSpan.{IsSpanBorder}
-use Rattle.snippet_splice.specs.Copied.{in_text}
-use Rattle.snippet_splice.specs.EditStretches.{characters_before, extents_from}
-use Rattle.snippet_splice.specs.StretchLines.{extent_of}
-use Rattle.snippet_splice.specs.TrimmedEdits.{AreApart, trimmed_edit_of}
+use Rattle.snippet_splice.proofs.Common.{◌≡◌, ◌≤◌, ◌++◌, drop, map, slice_range, IsUtf8, IsSpanBorder, in_text, characters_before, extents_from}
+use Rattle.snippet_splice.proofs.Common.{extent_of, AreApart, trimmed_edit_of}
 use Rattle.snippet_splice.proofs.stretches.patch_places.Given as goal
 
 -- the places of the patches that are left complete those of all

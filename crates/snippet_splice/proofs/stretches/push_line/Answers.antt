@@ -1,7 +1,6 @@
-use Rattle.std.proofs.Common.{◌∙◌, ◌++◌, ◌∷◌, ◌≡◌, [], ap, arith, if◌then◌else◌, ◌==◌, length}
-use Rattle.std.proofs.lemmas.List.{length-append}
+use Rattle.snippet_splice.proofs.Common.{◌∙◌, ◌++◌, ◌∷◌, ◌≡◌, [], ap, arith, if◌then◌else◌, ◌==◌, length, length-append}
+use Rattle.snippet_splice.proofs.Common.{line_stretches}
 use Rattle.snippet_splice.proofs.StretchLemmas.{line_added}
-use Rattle.snippet_splice.specs.StretchLines.{line_stretches}
 use Rattle.snippet_splice.proofs.stretches.push_line.Goals as goal
 
 pub returns : goal.returns

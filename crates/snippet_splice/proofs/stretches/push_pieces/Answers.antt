@@ -1,14 +1,9 @@
-use Rattle.std.proofs.Common.{◌≡◌, ◌∙◌, ◌+◌, ℕ, List, [], ◌∷◌, ◌++◌, Some, None, ap, arith, if◌then◌else◌, ◌==◌, count_by, lit<, sym, append_assoc}
-use Rattle.snippet_lines.specs.Lines.{is_lf}
-use Rattle.std.proofs.lemmas.List.{append-nil}
-use Rattle.std.proofs.lemmas.Str.Pattern.{split_parts}
-use Rattle.snippet_splice.specs.declared.stretches.SubstitutionHighlight.{SubstitutionHighlight}
-use Rattle.snippet_splice.specs.EditStretches.{capped, pieces_on, stretch_width}
-use Rattle.snippet_splice.specs.StretchLines.{line_stretches}
+use Rattle.snippet_splice.proofs.Common.{◌≡◌, ◌∙◌, ◌+◌, ℕ, List, [], ◌∷◌, ◌++◌, Some, None, ap, arith, if◌then◌else◌}
+use Rattle.snippet_splice.proofs.Common.{◌==◌, count_by, lit<, sym, append_assoc, is_lf, append-nil, split_parts, SubstitutionHighlight, capped, pieces_on}
+use Rattle.snippet_splice.proofs.Common.{stretch_width, line_stretches, slice_split}
 use Rattle.snippet_splice.proofs.StretchLemmas.{feeds_cut, feeds_whole, pieces_cut, pieces_whole}
 use Rattle.snippet_splice.proofs.WriteLemmas.{utf8-after}
 use Rattle.snippet_splice.proofs.stretches.push_pieces.Goals as goal
-use Rattle.std.specs.List.{slice_split}
 
 -- what a piece adds to line k
 abbrev added : ℕ → ℕ → ℕ → ℕ → List SubstitutionHighlight

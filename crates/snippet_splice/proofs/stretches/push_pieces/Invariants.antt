@@ -1,11 +1,7 @@
-use Rattle.std.proofs.Common.{◌≡◌, ◌+◌, ◌++◌, ℕ, count_by, length, max}
+use Rattle.snippet_splice.proofs.Common.{◌≡◌, ◌+◌, ◌++◌, ℕ, count_by, length, max, is_lf, capped, pieces_on, line_stretches, slice_split}
 use denote.Text.{Utf8}
 use denote.Shadow.{shadow}
-use Rattle.snippet_lines.specs.Lines.{is_lf}
-use Rattle.snippet_splice.specs.EditStretches.{capped, pieces_on}
-use Rattle.snippet_splice.specs.StretchLines.{line_stretches}
 use Rattle.snippet_splice.proofs.stretches.push_pieces.Given as goal
-use Rattle.std.specs.List.{slice_split}
 
 -- the pieces that are left complete those that are to be added
 abbrev pub invariant-loop-piece : goal.invariant-loop-piece

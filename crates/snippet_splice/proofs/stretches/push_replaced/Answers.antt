@@ -1,14 +1,10 @@
-use Rattle.std.proofs.Common.{◌≡◌, ◌∙◌, ◌+◌, ℕ, List, [], ◌∷◌, ◌++◌, Some, None, ap, arith, if◌then◌else◌, ◌==◌, chars, length, lit<, sym, append_assoc}
-use Rattle.std.proofs.lemmas.Result.{on_ok_weaker}
-use Rattle.std.proofs.lemmas.Str.Pattern.{split_parts}
-use Rattle.snippet_splice.specs.declared.stretches.SubstitutionHighlight.{SubstitutionHighlight}
-use Rattle.snippet_splice.specs.EditStretches.{capped, taken_on, without_cr}
-use Rattle.snippet_splice.specs.StretchLines.{line_stretches}
+use Rattle.snippet_splice.proofs.Common.{◌≡◌, ◌∙◌, ◌+◌, ℕ, List, [], ◌∷◌, ◌++◌, Some, None, ap, arith, if◌then◌else◌}
+use Rattle.snippet_splice.proofs.Common.{◌==◌, length, lit<, sym, append_assoc, on_ok_weaker, split_parts, SubstitutionHighlight, capped, taken_on}
+use Rattle.snippet_splice.proofs.Common.{without_cr, line_stretches, slice_split, is_lf}
+use Rattle.std.proofs.Common.{chars}
 use Rattle.snippet_splice.proofs.StretchLemmas.{feeds_cut, feeds_whole, pieces_cut, pieces_whole, taken_cut}
 use Rattle.snippet_splice.proofs.WriteLemmas.{utf8-after}
 use Rattle.snippet_splice.proofs.stretches.push_replaced.Goals as goal
-use Rattle.std.specs.List.{slice_split}
-use Rattle.snippet_lines.specs.Lines.{is_lf}
 
 -- what a piece takes of line k
 abbrev added : ℕ → ℕ → ℕ → ℕ → List SubstitutionHighlight

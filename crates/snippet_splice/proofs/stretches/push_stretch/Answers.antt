@@ -1,5 +1,4 @@
-use Rattle.std.proofs.Common.{arith}
-use Rattle.std.proofs.lemmas.List.{length-set}
+use Rattle.snippet_splice.proofs.Common.{arith, length-set}
 use Rattle.snippet_splice.proofs.StretchLemmas.{line_set}
 use Rattle.snippet_splice.proofs.stretches.push_stretch.Goals as goal
 

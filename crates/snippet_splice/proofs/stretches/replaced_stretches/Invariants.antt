@@ -1,6 +1,4 @@
-use Rattle.std.proofs.Common.{◌≡◌, ◌++◌, ℕ, drop, length, map, max}
-use Rattle.snippet_splice.specs.EditStretches.{replaced_on}
-use Rattle.snippet_splice.specs.StretchLines.{extent_of, line_stretches, lines_over}
+use Rattle.snippet_splice.proofs.Common.{◌≡◌, ◌++◌, ℕ, drop, length, map, max, replaced_on, extent_of, line_stretches, lines_over}
 use Rattle.snippet_splice.proofs.stretches.replaced_stretches.Given as goal
 
 -- those that are left complete what is to be taken, and the lines

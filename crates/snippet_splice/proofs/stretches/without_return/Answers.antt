@@ -1,5 +1,4 @@
-use Rattle.std.proofs.Common.{Some, None, sym, lit<}
-use Rattle.std.proofs.lemmas.Str.Pattern.{strip_suffix_char}
+use Rattle.snippet_splice.proofs.Common.{Some, None, sym, lit<, strip_suffix_char}
 use Rattle.snippet_splice.proofs.StretchLemmas.{without_cr-push, without_cr-stays}
 use Rattle.snippet_splice.proofs.stretches.without_return.Goals as goal
 

@@ -1,5 +1,4 @@
-use Rattle.std.proofs.Common.{◌≡◌, ℕ, List, ◌++◌, length, sym, ap, ◌∙◌}
-use Rattle.snippet_splice.specs.Sandwich.{IsSandwiched, IsSandwich}
+use Rattle.snippet_splice.proofs.Common.{◌≡◌, ℕ, List, ◌++◌, length, sym, ap, ◌∙◌, IsSandwiched, IsSandwich}
 use Rattle.snippet_splice.proofs.TrimLemmas.{IsSandwich-begins, IsSandwich-ends, IsSandwich-parts, sandwiched-longer}
 use Rattle.snippet_splice.proofs.TrimLemmas.{sandwiched-parts, sandwich-is, sandwich-none}
 use Rattle.snippet_splice.proofs.trim.as_substr.Goals as goal

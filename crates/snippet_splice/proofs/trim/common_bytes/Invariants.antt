@@ -1,4 +1,4 @@
-use Rattle.std.proofs.Common.{◌≡◌, take}
+use Rattle.snippet_splice.proofs.Common.{◌≡◌, take}
 use Rattle.snippet_splice.proofs.trim.common_bytes.Given as goal
 
 -- so far the bytes are the same

@@ -1,7 +1,5 @@
-use Rattle.std.proofs.Common.{◌≡◌, ◌≤◌, ℕ, List, length, take, sym, ap, subst, ◌∙◌, arith}
-use Rattle.std.proofs.lemmas.List.{take-take}
-use Rattle.std.proofs.lemmas.Str.{IsUtf8-take, IsCharBoundary-from_take}
-use Rattle.std.specs.Str.{IsUtf8}
+use Rattle.snippet_splice.proofs.Common.{◌≡◌, ◌≤◌, ℕ, List, length, take, sym, ap, subst, ◌∙◌, arith, take-take, IsUtf8-take}
+use Rattle.snippet_splice.proofs.Common.{IsCharBoundary-from_take, IsUtf8}
 use Rattle.snippet_splice.proofs.trim.common_prefix.Goals as goal
 
 pub returns-clause-same : goal.returns-clause-same

@@ -1,5 +1,4 @@
-use Rattle.std.proofs.Common.{◌≡◌, ◌++◌, take}
-use Rattle.snippet_strokes.specs.Bars.{bars_apart}
+use Rattle.snippet_strokes.proofs.Common.{◌≡◌, ◌++◌, take, bars_apart}
 use Rattle.snippet_strokes.proofs.bars.add_bars_apart.Given as goal
 
 -- those of the bars so far that stand apart were added

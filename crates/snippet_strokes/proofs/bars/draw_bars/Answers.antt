@@ -1,7 +1,4 @@
-use Rattle.std.proofs.Common.{◌≡◌, ◌==◌, ◌∙◌, [], ap, arith, length, refl, sym, true, ℕ}
-use Rattle.std.proofs.lemmas.Bool.Decides.{nat_tests}
-use Rattle.std.proofs.lemmas.List.{nil_from_length}
-use Rattle.snippet_strokes.specs.DrawnBars.{barred}
+use Rattle.snippet_strokes.proofs.Common.{◌≡◌, ◌==◌, ◌∙◌, [], ap, arith, length, refl, sym, true, ℕ, nat_tests, nil_from_length, barred}
 use Rattle.snippet_strokes.proofs.BarParts.{with_parts}
 use Rattle.snippet_strokes.proofs.BarRows.{changed_same}
 use Rattle.snippet_strokes.proofs.bars.draw_bars.Goals as goal

@@ -1,13 +1,8 @@
-use Rattle.std.proofs.Common.{◌≡◌, ◌∙◌, ◌+◌, ◌<◌, ℕ, ap, arith, length, replicate}
-use Rattle.std.proofs.lemmas.List.{length-replicate}
+use Rattle.snippet_strokes.proofs.Common.{◌≡◌, ◌∙◌, ◌+◌, ◌<◌, ℕ, ap, arith, length, replicate, length-replicate, Layout, cells_written}
+use Rattle.snippet_strokes.proofs.Common.{bar_glyph, bar_cell_part, text_cells, unlinked_cell, Strokes}
 use Rattle.std.specs.Str.{chars}
-use Rattle.snippet_grid.specs.Layout.{Layout}
-use Rattle.snippet_grid.specs.Grid.{cells_written}
-use Rattle.snippet_strokes.specs.DrawnBars.{bar_glyph, bar_cell_part}
 use Rattle.snippet_strokes.proofs.BarRows.{ChangesRows-next, ChangesRows-none, changed-is}
-use Rattle.snippet_style.specs.Cell.{text_cells, unlinked_cell}
 use Rattle.snippet_strokes.proofs.LineLemmas.{text_cells-replicate, some_bytes}
-use Rattle.snippet_style.specs.declared.glyphs.Strokes.{Strokes}
 use Rattle.snippet_strokes.proofs.bars.draw_parts.Goals as goal
 
 pub puts-requires-clause-end : goal.puts-requires-clause-end

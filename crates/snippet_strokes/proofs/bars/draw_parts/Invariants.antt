@@ -1,6 +1,4 @@
-use Rattle.std.proofs.Common.{◌+◌, replicate}
-use Rattle.snippet_style.specs.Cell.{SPACE, written}
-use Rattle.snippet_strokes.specs.DrawnBars.{bar_cell_part}
+use Rattle.snippet_strokes.proofs.Common.{◌+◌, replicate, SPACE, written, bar_cell_part}
 use Rattle.snippet_strokes.proofs.BarRows.{ChangesRows}
 use Rattle.snippet_strokes.proofs.bars.draw_parts.Given as goal
 

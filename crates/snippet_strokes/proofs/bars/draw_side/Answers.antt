@@ -1,6 +1,5 @@
-use Rattle.std.proofs.Common.{◌∙◌, ap, chars, replicate}
-use Rattle.snippet_grid.specs.Layout.{Layout}
-use Rattle.snippet_strokes.specs.DrawnBars.{bar_glyph}
+use Rattle.snippet_strokes.proofs.Common.{◌∙◌, ap, replicate, Layout, bar_glyph}
+use Rattle.std.proofs.Common.{chars}
 use Rattle.snippet_strokes.proofs.bars.draw_side.Goals as goal
 
 pub draw_parts-requires-clause-part : goal.draw_parts-requires-clause-part

@@ -1,8 +1,5 @@
-use Rattle.std.proofs.Common.{◌≡◌, ◌∙◌, ◌-◌, ◌+◌, ◌<◌, ℕ, List, [], ap, sym, get_or, replicate, take, refl, subst, arith}
-use Rattle.std.proofs.lemmas.List.{get_or_default, take_all}
-use Rattle.snippet_strokes.specs.declared.bars.OpenBar.{OpenBar}
-use Rattle.snippet_style.specs.Cell.{Cell, SPACE, written}
-use Rattle.snippet_strokes.specs.DrawnBars.{StandsBeside, bar_cell_part, barred, changed_from}
+use Rattle.snippet_strokes.proofs.Common.{◌≡◌, ◌∙◌, ◌-◌, ◌+◌, ◌<◌, ℕ, List, [], ap, sym, get_or, replicate, take, refl, subst, arith}
+use Rattle.snippet_strokes.proofs.Common.{get_or_default, take_all, OpenBar, Cell, SPACE, written, StandsBeside, bar_cell_part, barred, changed_from}
 use Rattle.snippet_strokes.proofs.BarParts.{with_parts}
 use Rattle.snippet_strokes.proofs.BarRows.{changed-more, changed_same, side_drawn}
 use Rattle.snippet_strokes.proofs.BarLemmas.{no_bar}

@@ -1,5 +1,4 @@
-use Rattle.std.proofs.Common.{◌≡◌, ◌-◌, ◌≤◌, length, take}
-use Rattle.snippet_strokes.specs.DrawnBars.{barred}
+use Rattle.snippet_strokes.proofs.Common.{◌≡◌, ◌-◌, ◌≤◌, length, take, barred}
 use Rattle.snippet_strokes.proofs.bars.draw_sides.Given as goal
 
 -- the bars before this one are drawn

@@ -1,8 +1,4 @@
-use Rattle.std.proofs.Common.{◌≡◌, ◌∙◌, ◌++◌, List, Option, ap, sym}
-use Rattle.std.proofs.lemmas.List.{append-nil}
-use Rattle.std.specs.Option.{option_to_list}
-use Rattle.snippet_strokes.specs.declared.bars.OpenBar.{OpenBar}
-use Rattle.snippet_strokes.specs.DrawnBars.{bar_of}
+use Rattle.snippet_strokes.proofs.Common.{◌≡◌, ◌∙◌, ◌++◌, List, Option, ap, sym, append-nil, option_to_list, OpenBar, bar_of}
 use Rattle.snippet_strokes.proofs.OpenLemmas.{ends_more}
 use Rattle.snippet_strokes.proofs.bars.ends_on.Goals as goal
 use Rattle.snippet_strokes.proofs.bars.ends_on.Goals.{in-Some+in_ok-push, in_default}

@@ -1,5 +1,4 @@
-use Rattle.std.proofs.Common.{◌≡◌, take}
-use Rattle.snippet_strokes.specs.Bars.{ends_of_bars}
+use Rattle.snippet_strokes.proofs.Common.{◌≡◌, take, ends_of_bars}
 use Rattle.snippet_strokes.proofs.bars.ends_on.Given as goal
 
 -- the bars of the entries so far are listed

@@ -1,5 +1,4 @@
-use Rattle.std.proofs.Common.{◌-◌, arith, inl, inr}
-use Rattle.std.proofs.lemmas.Bool.{cases_lt}
+use Rattle.snippet_strokes.proofs.Common.{◌-◌, arith, inl, inr, cases_lt}
 use Rattle.snippet_strokes.proofs.BarLemmas.{beside_itself, beside_next}
 use Rattle.snippet_strokes.proofs.bars.side_end.Goals as goal
 

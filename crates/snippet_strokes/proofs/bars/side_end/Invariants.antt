@@ -1,7 +1,4 @@
-use Rattle.std.proofs.Common.{ℕ, ◌-◌, ◌<◌, ◌≤◌, length}
-use Rattle.std.specs.List.{slice_index_or}
-use Rattle.snippet_strokes.specs.declared.bars.OpenBar.{OpenBar}
-use Rattle.snippet_strokes.specs.DrawnBars.{StandsBeside}
+use Rattle.snippet_strokes.proofs.Common.{ℕ, ◌-◌, ◌<◌, ◌≤◌, length, slice_index_or, OpenBar, StandsBeside}
 use Rattle.snippet_strokes.proofs.bars.side_end.Given as goal
 
 -- the bars before this one stand side by side

@@ -1,8 +1,5 @@
-use Rattle.std.proofs.Common.{◌≡◌, ◌∙◌, ◌-◌, ◌++◌, ap, arith, length, map, replicate, sym}
-use Rattle.std.proofs.lemmas.List.{append-nil, length-append, length-map, length-replicate}
-use Rattle.std.proofs.lemmas.Result.{on_ok_weaker}
-use Rattle.snippet_grid.specs.StyledChars.{cell_of}
-use Rattle.snippet_style.specs.Cell.{Cell, SPACE}
+use Rattle.snippet_strokes.proofs.Common.{◌≡◌, ◌∙◌, ◌-◌, ◌++◌, ap, arith, length, map, replicate, sym, append-nil, length-append}
+use Rattle.snippet_strokes.proofs.Common.{length-map, length-replicate, on_ok_weaker, cell_of, Cell, SPACE}
 use Rattle.snippet_strokes.proofs.CellRowLemmas.{are_blanks, more_blanks, written_none}
 use Rattle.snippet_strokes.proofs.cell_rows.add_blanks.Goals as goal
 

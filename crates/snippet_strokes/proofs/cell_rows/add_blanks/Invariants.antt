@@ -1,7 +1,5 @@
 -- The blanks so far are added.
-use Rattle.std.proofs.Common.{◌≡◌, ◌≤◌, ◌-◌, ◌++◌, length, map, replicate}
-use Rattle.snippet_grid.specs.StyledChars.{cell_of}
-use Rattle.snippet_style.specs.Cell.{SPACE}
+use Rattle.snippet_strokes.proofs.Common.{◌≡◌, ◌≤◌, ◌-◌, ◌++◌, length, map, replicate, cell_of, SPACE}
 use Rattle.snippet_strokes.proofs.cell_rows.add_blanks.Given as goal
 
 abbrev pub invariant-loop-left : goal.invariant-loop-left

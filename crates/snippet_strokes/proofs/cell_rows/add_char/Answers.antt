@@ -1,5 +1,4 @@
-use Rattle.std.proofs.Common.{◌∙◌, ap, arith, map}
-use Rattle.snippet_grid.specs.StyledChars.{cell_of}
+use Rattle.snippet_strokes.proofs.Common.{◌∙◌, ap, arith, map, cell_of}
 use Rattle.snippet_strokes.proofs.CellRowLemmas.{add_cell}
 use Rattle.snippet_strokes.proofs.cell_rows.add_char.Goals as goal
 

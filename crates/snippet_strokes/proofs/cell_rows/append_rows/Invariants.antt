@@ -1,6 +1,5 @@
 -- The rows so far are added.
-use Rattle.std.proofs.Common.{◌≡◌, ◌++◌, ◌<◌, ◌≤◌, ◌^◌, length, map, take}
-use Rattle.snippet_strokes.specs.CellRows.{cells_of}
+use Rattle.snippet_strokes.proofs.Common.{◌≡◌, ◌++◌, ◌<◌, ◌≤◌, ◌^◌, length, map, take, cells_of}
 use Rattle.snippet_strokes.proofs.cell_rows.append_rows.Given as goal
 
 abbrev pub invariant-loop-row : goal.invariant-loop-row

@@ -1,7 +1,5 @@
-use Rattle.std.proofs.Common.{◌≡◌, ◌∙◌, ◌-◌, ◌++◌, ap, arith, length, map, replicate, sym}
-use Rattle.std.proofs.lemmas.List.{append-nil, length-map}
-use Rattle.snippet_grid.specs.StyledChars.{cell_of}
-use Rattle.snippet_style.specs.Cell.{SPACE}
+use Rattle.snippet_strokes.proofs.Common.{◌≡◌, ◌∙◌, ◌-◌, ◌++◌, ap, arith, length, map, replicate, sym, append-nil, length-map, cell_of}
+use Rattle.snippet_strokes.proofs.Common.{SPACE}
 use Rattle.snippet_strokes.proofs.CellRowLemmas.{written_none}
 use Rattle.snippet_strokes.proofs.cell_rows.fill_up.Goals as goal
 

@@ -1,8 +1,4 @@
-use Rattle.std.proofs.Common.{◌∙◌, ◌++◌, ap, map, take}
-use Rattle.std.proofs.lemmas.List.{map-append}
-use Rattle.std.proofs.lemmas.Result.{on_ok_weaker}
-use Rattle.snippet_grid.proofs.OutcomeLemmas.{on_ok_value}
-use Rattle.snippet_grid.specs.StyledChars.{cell_of}
+use Rattle.snippet_strokes.proofs.Common.{◌∙◌, ◌++◌, ap, map, take, map-append, on_ok_weaker, on_ok_value, cell_of}
 use Rattle.snippet_strokes.proofs.CellRowLemmas.{blank_part}
 use Rattle.snippet_strokes.proofs.cell_rows.push_part.Goals as goal
 

@@ -1,4 +1,4 @@
-use Rattle.std.proofs.Common.{arith}
+use Rattle.snippet_strokes.proofs.Common.{arith}
 use Rattle.snippet_strokes.proofs.CellRowLemmas.{set_cell}
 use Rattle.snippet_strokes.proofs.cell_rows.write_char.Goals as goal
 

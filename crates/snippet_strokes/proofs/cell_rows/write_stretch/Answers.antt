@@ -1,7 +1,5 @@
-use Rattle.std.proofs.Common.{◌≡◌, ◌∙◌, ◌-◌, ◌++◌, ◌≤◌, ap, arith, drop, inl, inr, length, map, replicate, sym, take}
-use Rattle.std.proofs.lemmas.List.{append-nil, take_all}
-use Rattle.std.specs.Vec.{vec_len}
-use Rattle.snippet_grid.specs.StyledChars.{cell_of}
+use Rattle.snippet_strokes.proofs.Common.{◌≡◌, ◌∙◌, ◌-◌, ◌++◌, ◌≤◌, ap, arith, drop, inl, inr, length, map, replicate, sym, take}
+use Rattle.snippet_strokes.proofs.Common.{append-nil, take_all, vec_len, cell_of}
 use Rattle.snippet_strokes.proofs.CellRowLemmas.{painted_over, stretch_over}
 use Rattle.snippet_strokes.proofs.cell_rows.write_stretch.Goals as goal
 

@@ -1,10 +1,5 @@
-use Rattle.std.proofs.Common.{◌∙◌, ◌+◌, ◌∷◌, [], ap, arith, map, sym}
-use Rattle.std.proofs.lemmas.Iterator.{YieldsList-from_chars}
-use Rattle.std.proofs.lemmas.Iterator.Consumers.{YieldsList-end, YieldsList-turn}
-use Rattle.std.proofs.lemmas.List.{length_push, map-id}
-use Rattle.snippet_style.proofs.CellLemmas.{length-text_cells, text_cells-append}
-use Rattle.snippet_style.specs.Cell.{SPACE, text_cells, unlinked_cell, written}
-use Rattle.snippet_grid.specs.StyledChars.{cell_of}
+use Rattle.snippet_strokes.proofs.Common.{◌∙◌, ◌+◌, ◌∷◌, [], ap, arith, map, sym, YieldsList-from_chars, YieldsList-end, YieldsList-turn}
+use Rattle.snippet_strokes.proofs.Common.{length_push, map-id, length-text_cells, text_cells-append, SPACE, text_cells, unlinked_cell, written, cell_of}
 use Rattle.snippet_strokes.proofs.CellRowLemmas.{more_cells}
 use Rattle.snippet_strokes.proofs.cell_rows.write_text.Goals as goal
 

@@ -1,7 +1,5 @@
 -- The characters so far are written.
-use Rattle.std.proofs.Common.{◌≡◌, ◌+◌, length, map}
-use Rattle.snippet_grid.specs.StyledChars.{cell_of}
-use Rattle.snippet_style.specs.Cell.{SPACE, text_cells, written}
+use Rattle.snippet_strokes.proofs.Common.{◌≡◌, ◌+◌, length, map, cell_of, SPACE, text_cells, written}
 use Rattle.snippet_strokes.proofs.cell_rows.write_text.Given as goal
 
 abbrev pub invariant-loop-ch : goal.invariant-loop-ch

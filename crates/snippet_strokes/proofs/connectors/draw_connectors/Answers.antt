@@ -1,13 +1,5 @@
-use Rattle.std.proofs.Common.{◌≡◌, ◌∙◌, List, ℕ, ap, sym, subst, arith, length, take, All}
-use Rattle.std.proofs.lemmas.List.{take_all}
-use Rattle.std.proofs.lemmas.List.Elements.{All-take}
-use Rattle.snippet_style.specs.Cell.{Cell}
-use Rattle.snippet_grid.specs.Layout.{Layout}
-use Rattle.snippet_labels.specs.declared.positions.PlacedEntry.{PlacedEntry}
-use Rattle.snippet_strokes.specs.Places.{HasPlaceAmong, HasRows}
-use Rattle.snippet_strokes.specs.Strokes.{connector_of}
-use Rattle.snippet_strokes.specs.PaintedStrokes.{connectors_of}
-use Rattle.snippet_strokes.specs.Writes.{painted}
+use Rattle.snippet_strokes.proofs.Common.{◌≡◌, ◌∙◌, List, ℕ, ap, sym, subst, arith, length, take, All, take_all, All-take, Cell, Layout}
+use Rattle.snippet_strokes.proofs.Common.{PlacedEntry, HasPlaceAmong, HasRows, connector_of, connectors_of, painted}
 use Rattle.snippet_strokes.proofs.BarWrites.{DrawsFrom-connectors}
 use Rattle.snippet_strokes.proofs.WriteLemmas.{painted_more}
 use Rattle.snippet_strokes.proofs.connectors.draw_connectors.Goals as goal

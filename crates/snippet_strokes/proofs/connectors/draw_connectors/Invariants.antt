@@ -1,6 +1,4 @@
-use Rattle.std.proofs.Common.{◌≡◌, take}
-use Rattle.snippet_strokes.specs.PaintedStrokes.{connectors_of}
-use Rattle.snippet_strokes.specs.Writes.{painted}
+use Rattle.snippet_strokes.proofs.Common.{◌≡◌, take, connectors_of, painted}
 use Rattle.snippet_strokes.proofs.connectors.draw_connectors.Given as goal
 
 -- the lines so far are drawn

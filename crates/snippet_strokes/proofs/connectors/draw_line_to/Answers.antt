@@ -1,9 +1,5 @@
-use Rattle.std.proofs.Common.{◌≡◌, ◌∙◌, ◌+◌, ap, arith, sym}
-use Rattle.std.proofs.lemmas.Result.{on_ok_weaker}
-use Rattle.snippet_grid.specs.Layout.{Layout, code_cell, inner_cell}
-use Rattle.snippet_grid.specs.LayoutOf.{layout_of}
-use Rattle.snippet_style.specs.Glyphs.{strokes_of, underline_role}
-use Rattle.snippet_style.specs.declared.glyphs.Strokes.{Strokes}
+use Rattle.snippet_strokes.proofs.Common.{◌≡◌, ◌∙◌, ◌+◌, ap, arith, sym, on_ok_weaker, Layout, code_cell, inner_cell, layout_of, strokes_of}
+use Rattle.snippet_strokes.proofs.Common.{underline_role, Strokes}
 use Rattle.snippet_strokes.proofs.BarWrites.{line_painted}
 use Rattle.snippet_strokes.proofs.connectors.draw_line_to.Goals as goal
 

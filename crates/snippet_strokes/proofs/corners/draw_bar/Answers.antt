@@ -1,6 +1,4 @@
-use Rattle.std.proofs.Common.{◌≡◌, ◌∙◌, ap, sym, arith}
-use Rattle.snippet_strokes.specs.Strokes.{column_of}
-use Rattle.snippet_strokes.specs.Writes.{painted}
+use Rattle.snippet_strokes.proofs.Common.{◌≡◌, ◌∙◌, ap, sym, arith, column_of, painted}
 use Rattle.snippet_strokes.proofs.StrokeWrites.{column_of-none, column_painted}
 use Rattle.snippet_strokes.proofs.corners.draw_bar.Goals as goal
 

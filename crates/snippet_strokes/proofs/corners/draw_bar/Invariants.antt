@@ -1,6 +1,4 @@
-use Rattle.std.proofs.Common.{◌≡◌}
-use Rattle.snippet_strokes.specs.Strokes.{column_of}
-use Rattle.snippet_strokes.specs.Writes.{painted}
+use Rattle.snippet_strokes.proofs.Common.{◌≡◌, column_of, painted}
 use Rattle.snippet_strokes.proofs.corners.draw_bar.Given as goal
 
 -- the bar is drawn down to this row

@@ -1,7 +1,4 @@
-use Rattle.std.proofs.Common.{◌∙◌, ◌∷◌, [], ap, sym}
-use Rattle.std.proofs.lemmas.Result.{on_ok_weaker}
-use Rattle.snippet_strokes.specs.Strokes.{column_of}
-use Rattle.snippet_strokes.specs.Writes.{glyph_at}
+use Rattle.snippet_strokes.proofs.Common.{◌∙◌, ◌∷◌, [], ap, sym, on_ok_weaker, column_of, glyph_at}
 use Rattle.snippet_strokes.proofs.OneStep.{written_by}
 use Rattle.snippet_strokes.proofs.WriteLemmas.{painted-append}
 use Rattle.snippet_strokes.proofs.corners.draw_bottom.Goals as goal

@@ -1,11 +1,6 @@
-use Rattle.std.proofs.Common.{◌∙◌, ◌+◌, ◌++◌, ◌∷◌, [], List, ℕ, ap, length, sym}
-use Rattle.std.proofs.lemmas.Result.{on_ok_weaker}
-use Rattle.snippet_parts.specs.declared.entries.LineAnnotationType.{LineAnnotationType}
-use Rattle.snippet_style.specs.Cell.{Cell}
-use Rattle.snippet_style.specs.declared.glyphs.Strokes.{Strokes}
-use Rattle.snippet_strokes.specs.Strokes.{column_of}
+use Rattle.snippet_strokes.proofs.Common.{◌∙◌, ◌+◌, ◌++◌, ◌∷◌, [], List, ℕ, ap, length, sym, on_ok_weaker, LineAnnotationType, Cell}
+use Rattle.snippet_strokes.proofs.Common.{Strokes, column_of, glyph_at, painted}
 use Rattle.snippet_strokes.proofs.StrokeWords.{corner_by}
-use Rattle.snippet_strokes.specs.Writes.{glyph_at, painted}
 use Rattle.snippet_strokes.proofs.corners.draw_corner.Goals as goal
 
 pub returns-in-MultilineStart : goal.returns-in-MultilineStart

@@ -1,14 +1,5 @@
-use Rattle.std.proofs.Common.{◌≡◌, ◌∙◌, ◌+◌, List, ℕ, ap, sym, subst, arith, length, take, All}
-use Rattle.std.proofs.lemmas.List.{take_all}
-use Rattle.std.proofs.lemmas.List.Elements.{All-take}
-use Rattle.snippet_style.specs.Cell.{Cell}
-use Rattle.snippet_grid.specs.Layout.{Layout}
-use Rattle.snippet_labels.specs.declared.positions.PlacedEntry.{PlacedEntry}
-use Rattle.snippet_strokes.specs.Places.{HasRows}
-use Rattle.snippet_strokes.specs.Strokes.{corner_of}
-use Rattle.snippet_strokes.specs.PaintedStrokes.{corners_of}
-use Rattle.snippet_strokes.specs.Drawable.{HasBarCell}
-use Rattle.snippet_strokes.specs.Writes.{painted}
+use Rattle.snippet_strokes.proofs.Common.{◌≡◌, ◌∙◌, ◌+◌, List, ℕ, ap, sym, subst, arith, length, take, All, take_all, All-take, Cell, Layout}
+use Rattle.snippet_strokes.proofs.Common.{PlacedEntry, HasRows, corner_of, corners_of, HasBarCell, painted}
 use Rattle.snippet_strokes.proofs.BarWrites.{DrawsBarCells-corners}
 use Rattle.snippet_strokes.proofs.WriteLemmas.{painted_more}
 use Rattle.snippet_strokes.proofs.corners.draw_corners.Goals as goal

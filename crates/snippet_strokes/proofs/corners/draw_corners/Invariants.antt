@@ -1,6 +1,4 @@
-use Rattle.std.proofs.Common.{◌≡◌, length, take}
-use Rattle.snippet_strokes.specs.PaintedStrokes.{corners_of}
-use Rattle.snippet_strokes.specs.Writes.{painted}
+use Rattle.snippet_strokes.proofs.Common.{◌≡◌, length, take, corners_of, painted}
 use Rattle.snippet_strokes.proofs.corners.draw_corners.Given as goal
 
 -- the bars so far are drawn

@@ -1,8 +1,4 @@
-use Rattle.std.proofs.Common.{◌≡◌, ◌∙◌, ◌+◌, ap, arith, length, ℕ}
-use Rattle.std.proofs.lemmas.Result.{on_ok_weaker}
-use Rattle.snippet_grid.proofs.GridLemmas.{WritesCells-from_equal}
-use Rattle.snippet_strokes.specs.Strokes.{column_of}
-use Rattle.snippet_strokes.specs.Writes.{painted}
+use Rattle.snippet_strokes.proofs.Common.{◌≡◌, ◌∙◌, ◌+◌, ap, arith, length, ℕ, on_ok_weaker, WritesCells-from_equal, column_of, painted}
 use Rattle.snippet_strokes.proofs.corners.draw_top.Goals as goal
 
 pub draw_bar-requires-clause-ordered : goal.draw_bar-requires-clause-ordered

@@ -1,7 +1,4 @@
-use Rattle.std.proofs.Common.{◌∙◌, ◌-◌, ap, arith}
-use Rattle.std.proofs.lemmas.List.{take_all}
-use Rattle.snippet_strokes.specs.PaintedStrokes.{top_of, tops_of}
-use Rattle.snippet_strokes.specs.Writes.{painted}
+use Rattle.snippet_strokes.proofs.Common.{◌∙◌, ◌-◌, ap, arith, take_all, top_of, tops_of, painted}
 use Rattle.snippet_strokes.proofs.WriteLemmas.{painted_more}
 use Rattle.snippet_strokes.proofs.corners.draw_tops.Goals as goal
 

@@ -1,10 +1,7 @@
-use Rattle.std.proofs.Common.{◌≡◌, ◌∙◌, ◌+◌, ◌-◌, ◌/◌, ◌∷◌, [], Bool, ℕ, List, ap, false, true, length, max, refl, sym}
+use Rattle.snippet_strokes.proofs.Common.{◌≡◌, ◌∙◌, ◌+◌, ◌-◌, ◌∷◌, [], Bool, ℕ, List, ap, false, true, length, max, refl, sym}
+use Rattle.snippet_strokes.proofs.Common.{on_ok_weaker, is_wide_entry, Layout, code_cell, Cell, placeholder_of}
+use Rattle.std.proofs.Common.{◌/◌}
 use Rattle.std.specs.Prelude.{◌&&◌, not}
-use Rattle.std.proofs.lemmas.Result.{on_ok_weaker}
-use Rattle.snippet_parts.specs.Entries.{is_wide_entry}
-use Rattle.snippet_grid.specs.Layout.{Layout, code_cell}
-use Rattle.snippet_style.specs.Cell.{Cell}
-use Rattle.snippet_style.specs.Glyphs.{placeholder_of}
 use Rattle.snippet_strokes.proofs.CutPairs.{middle_cut, nothing_cut}
 use Rattle.snippet_strokes.proofs.CutWords.{cut_rows}
 use Rattle.snippet_strokes.proofs.cuts.cut_entry.Goals.{then-overlapped-via-then-overlapped, then-overlapped-via-else-overlapped+then-not-is_wide}

@@ -1,5 +1,4 @@
-use Rattle.std.proofs.Common.{◌∙◌, ◌+◌, ◌<◌, List, false, sym, ap, arith, length, drop, get_or}
-use Rattle.snippet_labels.specs.declared.positions.PlacedEntry.{PlacedEntry}
+use Rattle.snippet_strokes.proofs.Common.{◌∙◌, ◌+◌, ◌<◌, List, false, sym, ap, arith, length, drop, get_or, PlacedEntry}
 use Rattle.snippet_strokes.proofs.CutWords.{Stretch, cut_of, cut_rows, cuts_of}
 use Rattle.snippet_strokes.proofs.CutLemmas.{cut_rows-append, cuts_of-more, cuts_of-none}
 use Rattle.snippet_strokes.proofs.CutPairs.{entries_cut, entry_cut}

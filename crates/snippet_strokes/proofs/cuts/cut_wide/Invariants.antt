@@ -1,8 +1,5 @@
-use Rattle.std.proofs.Common.{◌≡◌, ℕ, Bool, List, drop}
-use Rattle.snippet_style.specs.Cell.{Cell}
+use Rattle.snippet_strokes.proofs.Common.{◌≡◌, ℕ, Bool, List, drop, Cell, Layout, PlacedEntry}
 use Rattle.snippet_strokes.proofs.CutWords.{cut_rows, cuts_of}
-use Rattle.snippet_grid.specs.Layout.{Layout}
-use Rattle.snippet_labels.specs.declared.positions.PlacedEntry.{PlacedEntry}
 use Rattle.snippet_strokes.proofs.cuts.cut_wide.Given as goal
 
 -- the rows of a buffer, cut at some entries

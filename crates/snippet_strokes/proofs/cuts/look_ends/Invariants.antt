@@ -1,5 +1,4 @@
-use Rattle.std.proofs.Common.{◌≡◌, ◌++◌, drop, length}
-use Rattle.snippet_strokes.specs.LookedCuts.{look_ends}
+use Rattle.snippet_strokes.proofs.Common.{◌≡◌, ◌++◌, drop, length, look_ends}
 use Rattle.snippet_strokes.proofs.cuts.look_ends.Given as goal
 
 -- the ends so far are there, and the others follow

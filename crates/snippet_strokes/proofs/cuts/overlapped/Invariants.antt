@@ -1,5 +1,4 @@
-use Rattle.std.proofs.Common.{◌≡◌, ◌++◌, drop, length}
-use Rattle.snippet_strokes.specs.LookedCuts.{overlapped_by}
+use Rattle.snippet_strokes.proofs.Common.{◌≡◌, ◌++◌, drop, length, overlapped_by}
 use Rattle.snippet_strokes.proofs.cuts.overlapped.Given as goal
 
 -- the flags so far are there, and the others follow

@@ -1,12 +1,6 @@
-use Rattle.std.proofs.Common.{◌≡◌, ◌∙◌, ◌++◌, ◌∷◌, [], ap, sym, replicate}
-use Rattle.std.proofs.lemmas.Result.{on_ok_weaker}
-use Rattle.snippet_style.specs.declared.glyphs.DecorStyle.{DecorStyle}
-use Rattle.snippet_style.specs.declared.role.ElementStyle.TheVariants.{LineNumber}
-use Rattle.snippet_style.specs.Glyphs.{elision_of}
-use Rattle.snippet_style.specs.Cell.{SPACE, text_cells}
-use Rattle.snippet_grid.specs.Layout.{Layout, separator_cell}
+use Rattle.snippet_strokes.proofs.Common.{◌≡◌, ◌∙◌, ◌++◌, ◌∷◌, [], ap, sym, replicate, on_ok_weaker, DecorStyle, LineNumber, elision_of}
+use Rattle.snippet_strokes.proofs.Common.{SPACE, text_cells, Layout, separator_cell, begun_by_text}
 use Rattle.snippet_strokes.proofs.ElisionLemmas.{bare_elision_is, elision_cell, elision_some}
-use Rattle.snippet_grid.proofs.RowLemmas.{begun_by_text}
 use Rattle.snippet_strokes.proofs.elision.begin_elision_row.Goals as goal
 use Rattle.snippet_strokes.proofs.elision.begin_elision_row.Goals.{in-Ascii, in-Unicode}
 

@@ -1,4 +1,4 @@
-use Rattle.std.proofs.lemmas.Result.{on_ok_weaker}
+use Rattle.snippet_strokes.proofs.Common.{on_ok_weaker}
 use Rattle.snippet_strokes.proofs.ElisionLemmas.{gap_added}
 use Rattle.snippet_strokes.proofs.elision.draw_elision.Goals as goal
 

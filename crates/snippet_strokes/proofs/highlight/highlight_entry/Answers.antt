@@ -1,9 +1,5 @@
-use Rattle.std.proofs.Common.{◌≡◌, ℕ, ◌+◌, ◌-◌, ◌<◌, ◌≤◌, max, length, ap, ◌∙◌, arith}
-use Rattle.snippet_grid.specs.Grid.{restyled, row_at}
-use Rattle.snippet_grid.specs.Calls.{cells_restyled}
-use Rattle.snippet_model.specs.AnnotationKind.{is_primary}
-use Rattle.snippet_style.specs.declared.glyphs.Strokes.{Strokes}
-use Rattle.snippet_style.specs.Glyphs.{underline_role}
+use Rattle.snippet_strokes.proofs.Common.{◌≡◌, ℕ, ◌+◌, ◌-◌, ◌<◌, ◌≤◌, max, length, ap, ◌∙◌, arith, restyled, row_at}
+use Rattle.snippet_strokes.proofs.Common.{cells_restyled, is_primary, Strokes, underline_role}
 use Rattle.snippet_strokes.proofs.HighlightLaws.{stretch_alike}
 use Rattle.snippet_strokes.proofs.highlight.highlight_entry.Goals as goal
 

@@ -1,7 +1,4 @@
-use Rattle.std.proofs.Common.{◌≡◌, ◌∙◌, ◌+◌, ap, arith, length, sym, take}
-use Rattle.std.proofs.lemmas.List.{take_all}
-use Rattle.snippet_grid.specs.Grid.{changed_within, row_at}
-use Rattle.snippet_strokes.specs.StrokeRows.{highlighted_row}
+use Rattle.snippet_strokes.proofs.Common.{◌≡◌, ◌∙◌, ◌+◌, ap, arith, length, sym, take, take_all, changed_within, row_at, highlighted_row}
 use Rattle.snippet_strokes.proofs.HighlightLaws.{asking, lit_by-asked, lit_by-end, lit_by-none, lit_by-unasked, lit_by-width}
 use Rattle.snippet_strokes.proofs.highlight.highlight_source.Goals as goal
 use Rattle.snippet_strokes.proofs.highlight.highlight_source.Goals.{then-entry+then-not-is_end_part+in_ok-highlight_entry, else-entry}

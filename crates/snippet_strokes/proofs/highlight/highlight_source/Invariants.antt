@@ -1,4 +1,4 @@
-use Rattle.std.proofs.Common.{◌≡◌}
+use Rattle.snippet_strokes.proofs.Common.{◌≡◌}
 use Rattle.snippet_strokes.proofs.HighlightLaws.{lit_by}
 use Rattle.snippet_strokes.proofs.highlight.highlight_source.Given as goal
 

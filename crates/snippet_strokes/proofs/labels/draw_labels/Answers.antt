@@ -1,14 +1,5 @@
-use Rattle.std.proofs.Common.{◌≡◌, ◌∙◌, ap, sym, subst, arith, length, take, All, ℕ, List}
-use Rattle.std.proofs.lemmas.List.{take_all}
-use Rattle.std.proofs.lemmas.List.Elements.{All-take}
-use Rattle.snippet_style.specs.Cell.{Cell}
-use Rattle.snippet_grid.specs.Layout.{Layout}
-use Rattle.snippet_labels.specs.declared.positions.PlacedEntry.{PlacedEntry}
-use Rattle.snippet_strokes.specs.Places.{HasPlaceAmong, HasRows}
-use Rattle.snippet_strokes.specs.Writes.{painted}
-use Rattle.snippet_strokes.specs.Strokes.{label_of}
-use Rattle.snippet_strokes.specs.PaintedStrokes.{labels_of}
-use Rattle.snippet_labels.specs.Placing.{HasPlace}
+use Rattle.snippet_strokes.proofs.Common.{◌≡◌, ◌∙◌, ap, sym, subst, arith, length, take, All, ℕ, List, take_all, All-take, Cell, Layout}
+use Rattle.snippet_strokes.proofs.Common.{PlacedEntry, HasPlaceAmong, HasRows, painted, label_of, labels_of, HasPlace}
 use Rattle.snippet_strokes.proofs.LabelWrites.{DrawsFrom-labels}
 use Rattle.snippet_strokes.proofs.WriteLemmas.{painted_more}
 use Rattle.snippet_strokes.proofs.labels.draw_labels.Goals as goal

@@ -1,6 +1,4 @@
-use Rattle.std.proofs.Common.{◌≡◌, take}
-use Rattle.snippet_strokes.specs.PaintedStrokes.{labels_of}
-use Rattle.snippet_strokes.specs.Writes.{painted}
+use Rattle.snippet_strokes.proofs.Common.{◌≡◌, take, labels_of, painted}
 use Rattle.snippet_strokes.proofs.labels.draw_labels.Given as goal
 
 -- the labels so far are written

@@ -1,8 +1,5 @@
-use Rattle.std.proofs.Common.{◌≡◌, ◌∙◌, ◌-◌, ◌<◌, ap, sym, arith, length, replicate}
-use Rattle.std.proofs.lemmas.List.{length-replicate}
-use Rattle.std.proofs.lemmas.Result.{on_ok_weaker}
+use Rattle.snippet_strokes.proofs.Common.{◌≡◌, ◌∙◌, ◌-◌, ◌<◌, ap, sym, arith, length, replicate, length-replicate, on_ok_weaker, painted}
 use Rattle.std.specs.Str.{chars}
-use Rattle.snippet_strokes.specs.Writes.{painted}
 use Rattle.snippet_strokes.proofs.LineLemmas.{some_bytes}
 use Rattle.snippet_strokes.proofs.WriteLemmas.{stretch_of-none, stretch_painted}
 use Rattle.snippet_strokes.proofs.lines.draw_stretch.Goals as goal

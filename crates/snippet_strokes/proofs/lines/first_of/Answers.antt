@@ -1,8 +1,6 @@
-use Rattle.std.proofs.Common.{◌≡◌, ◌∙◌, ◌-◌, ap, sym, subst, arith, ℕ, List, length, take, replicate}
-use Rattle.std.proofs.lemmas.List.{take-replicate, length-replicate}
-use Rattle.std.proofs.lemmas.Str.{IsCharBoundary-from_ascii, chars-IsAscii}
-use Rattle.std.specs.List.{slice_range}
-use Rattle.std.specs.Str.{IsCharBoundary, chars}
+use Rattle.snippet_strokes.proofs.Common.{◌≡◌, ◌∙◌, ◌-◌, ap, sym, subst, arith, ℕ, List, length, take, replicate, take-replicate}
+use Rattle.snippet_strokes.proofs.Common.{length-replicate, IsCharBoundary-from_ascii, chars-IsAscii, slice_range, IsCharBoundary}
+use Rattle.std.specs.Str.{chars}
 use Rattle.snippet_strokes.proofs.LineLemmas.{IsAscii-replicate}
 use Rattle.snippet_strokes.proofs.lines.first_of.Goals as goal
 

@@ -1,5 +1,5 @@
-use Rattle.std.proofs.Common.{◌∙◌, ◌-◌, ap, arith, chars, replicate, string_bytes}
-use Rattle.std.proofs.lemmas.Str.{chars-IsAscii}
+use Rattle.snippet_strokes.proofs.Common.{◌∙◌, ◌-◌, ap, arith, replicate, string_bytes, chars-IsAscii}
+use Rattle.std.proofs.Common.{chars}
 use Rattle.snippet_strokes.proofs.LineLemmas.{IsAscii-replicate, glyphs_more}
 use Rattle.snippet_strokes.proofs.lines.joined_strips.Goals as goal
 

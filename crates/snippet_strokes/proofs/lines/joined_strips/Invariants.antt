@@ -1,4 +1,4 @@
-use Rattle.std.proofs.Common.{◌≡◌, ◌-◌, ◌≤◌, replicate, string_bytes}
+use Rattle.snippet_strokes.proofs.Common.{◌≡◌, ◌-◌, ◌≤◌, replicate, string_bytes}
 use Rattle.snippet_strokes.proofs.lines.joined_strips.Given as goal
 
 -- so many glyphs are there that these are left

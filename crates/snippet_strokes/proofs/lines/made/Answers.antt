@@ -1,7 +1,4 @@
-use Rattle.std.proofs.Common.{◌≡◌, ◌∙◌, List, ℕ, ap, replicate, string_bytes}
-use Rattle.std.proofs.lemmas.Result.{IfOk-weaker}
-use Rattle.std.proofs.lemmas.Str.{IsUtf8-string_bytes}
-use Rattle.std.specs.List.{repeat}
+use Rattle.snippet_strokes.proofs.Common.{◌≡◌, ◌∙◌, List, ℕ, ap, replicate, string_bytes, IfOk-weaker, IsUtf8-string_bytes, repeat}
 use Rattle.std.specs.Str.{chars}
 use Rattle.snippet_strokes.proofs.LineLemmas.{chars-repeat}
 use Rattle.snippet_strokes.proofs.lines.made.Goals as goal

@@ -1,10 +1,5 @@
-use Rattle.std.proofs.Common.{◌∙◌, ◌<◌, ◌^◌, All, ap, sym, subst}
-use Rattle.std.specs.List.{flat_map}
-use Rattle.std.proofs.lemmas.List.Sorted.{All-permutation}
-use Rattle.std.proofs.lemmas.Result.{on_ok_weaker}
-use Rattle.snippet_labels.specs.declared.positions.PlacedEntry.{PlacedEntry}
-use Rattle.snippet_strokes.specs.Painting.{mark_of, painting_order}
-use Rattle.snippet_strokes.specs.Writes.{painted}
+use Rattle.snippet_strokes.proofs.Common.{◌∙◌, ◌<◌, ◌^◌, All, ap, sym, subst, flat_map, All-permutation, on_ok_weaker, PlacedEntry, mark_of}
+use Rattle.snippet_strokes.proofs.Common.{painting_order, painted}
 use Rattle.snippet_strokes.proofs.PaintOrder.{IsPermutation-painting_order}
 use Rattle.snippet_strokes.proofs.marks.draw_marks.Goals as goal
 

@@ -1,5 +1,4 @@
-use Rattle.std.proofs.Common.{◌+◌, ◌∷◌, ◌∙◌, ap, sym, subst, drop, arith}
-use Rattle.std.proofs.lemmas.List.{drop_all, drop_more}
+use Rattle.snippet_strokes.proofs.Common.{◌+◌, ◌∷◌, ◌∙◌, ap, sym, subst, drop, arith, drop_all, drop_more}
 use Rattle.snippet_strokes.proofs.PaintOrder.{Widens, reversed_order}
 use Rattle.snippet_strokes.proofs.marks.is_order_reversed.Goals as goal
 

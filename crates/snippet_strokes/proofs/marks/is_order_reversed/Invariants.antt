@@ -1,4 +1,4 @@
-use Rattle.std.proofs.Common.{drop}
+use Rattle.snippet_strokes.proofs.Common.{drop}
 use Rattle.snippet_strokes.proofs.PaintOrder.{Widens}
 use Rattle.snippet_strokes.proofs.marks.is_order_reversed.Given as goal
 

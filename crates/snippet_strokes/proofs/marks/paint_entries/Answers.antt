@@ -1,8 +1,4 @@
-use Rattle.std.proofs.Common.{◌∙◌, ap, arith}
-use Rattle.std.specs.List.{flat_map}
-use Rattle.std.proofs.lemmas.List.{take_all}
-use Rattle.snippet_strokes.specs.Painting.{mark_of}
-use Rattle.snippet_strokes.specs.Writes.{painted}
+use Rattle.snippet_strokes.proofs.Common.{◌∙◌, ap, arith, flat_map, take_all, mark_of, painted}
 use Rattle.snippet_strokes.proofs.WriteLemmas.{painted_more}
 use Rattle.snippet_strokes.proofs.marks.paint_entries.Goals as goal
 

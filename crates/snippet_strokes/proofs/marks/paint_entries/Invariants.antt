@@ -1,7 +1,4 @@
-use Rattle.std.proofs.Common.{◌≡◌, take}
-use Rattle.std.specs.List.{flat_map}
-use Rattle.snippet_strokes.specs.Painting.{mark_of}
-use Rattle.snippet_strokes.specs.Writes.{painted}
+use Rattle.snippet_strokes.proofs.Common.{◌≡◌, take, flat_map, mark_of, painted}
 use Rattle.snippet_strokes.proofs.marks.paint_entries.Given as goal
 
 -- the entries before this one are painted

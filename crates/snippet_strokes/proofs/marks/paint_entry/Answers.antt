@@ -1,11 +1,5 @@
-use Rattle.std.proofs.Common.{◌≡◌, ◌∙◌, ◌<◌, ap, sym, arith}
-use Rattle.std.proofs.lemmas.Result.{on_ok_weaker}
-use Rattle.snippet_style.specs.Glyphs.{strokes_of, underline_role}
-use Rattle.snippet_grid.specs.Layout.{Layout, code_cell}
-use Rattle.snippet_grid.specs.LayoutOf.{layout_of}
-use Rattle.snippet_strokes.specs.PaintedStrokes.{mark_end}
-use Rattle.snippet_strokes.specs.Writes.{painted}
-use Rattle.snippet_style.specs.declared.glyphs.Strokes.{Strokes}
+use Rattle.snippet_strokes.proofs.Common.{◌≡◌, ◌∙◌, ◌<◌, ap, sym, arith, on_ok_weaker, strokes_of, underline_role, Layout, code_cell, layout_of}
+use Rattle.snippet_strokes.proofs.Common.{mark_end, painted, Strokes}
 use Rattle.snippet_strokes.proofs.EveryMark.{mark_same}
 use Rattle.snippet_strokes.proofs.WholeMarks.{mark_whole}
 use Rattle.snippet_strokes.proofs.WriteLemmas.{drawn_mark-none, mark_painted}

@@ -1,8 +1,4 @@
-use Rattle.std.proofs.Common.{◌≡◌, ◌∙◌, List, reverse, rules, subst}
-use Rattle.std.proofs.lemmas.List.Sorted.{answers_always}
-use Rattle.std.proofs.lemmas.Result.{on_ok_weaker}
-use Rattle.snippet_labels.specs.declared.positions.PlacedEntry.{PlacedEntry}
-use Rattle.snippet_strokes.specs.Painting.{painting_order}
+use Rattle.snippet_strokes.proofs.Common.{◌≡◌, ◌∙◌, List, reverse, rules, subst, answers_always, on_ok_weaker, PlacedEntry, painting_order}
 use Rattle.snippet_strokes.proofs.PaintOrder.{paint_key, painting_order_of_sort}
 use Rattle.snippet_strokes.proofs.marks.sort_for_painting.Goals as goal
 

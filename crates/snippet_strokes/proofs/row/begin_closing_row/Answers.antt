@@ -1,9 +1,4 @@
-use Rattle.std.proofs.Common.{◌∙◌, ◌+◌, ap, sym}
-use Rattle.snippet_grid.specs.Layout.{separator_cell}
-use Rattle.std.proofs.lemmas.Result.{on_ok_weaker}
-use Rattle.snippet_style.specs.Glyphs.{closing_of}
-use Rattle.snippet_grid.proofs.RowLemmas.{begun_by_text}
-use Rattle.snippet_style.proofs.RowLemmas.{closing_some}
+use Rattle.snippet_strokes.proofs.Common.{◌∙◌, ◌+◌, ap, sym, separator_cell, on_ok_weaker, closing_of, begun_by_text, closing_some}
 use Rattle.snippet_strokes.proofs.row.begin_closing_row.Goals as goal
 
 pub returns-clause-added : goal.returns-clause-added

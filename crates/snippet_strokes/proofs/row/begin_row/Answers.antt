@@ -1,6 +1,4 @@
-use Rattle.std.proofs.Common.{◌∙◌, ap, sym}
-use Rattle.std.proofs.lemmas.Result.{on_ok_weaker}
-use Rattle.snippet_grid.specs.Layout.{separator_cell}
+use Rattle.snippet_strokes.proofs.Common.{◌∙◌, ap, sym, on_ok_weaker, separator_cell}
 use Rattle.snippet_grid.proofs.RowLemmas.{separator_row-begun as begun}
 use Rattle.snippet_strokes.proofs.row.begin_row.Goals as goal
 

@@ -1,5 +1,4 @@
-use Rattle.std.proofs.Common.{◌≡◌, ◌-◌, ◌++◌, replicate}
-use Rattle.snippet_style.specs.Separators.{separator_row}
+use Rattle.snippet_strokes.proofs.Common.{◌≡◌, ◌-◌, ◌++◌, replicate, separator_row}
 use Rattle.snippet_strokes.proofs.row.begin_rows.Given as goal
 
 -- so many rows are begun

@@ -1,10 +1,5 @@
-use Rattle.std.proofs.Common.{◌≡◌, ◌∙◌, [], All, List, ap, arith, false, length, subst, sym}
-use Rattle.std.proofs.lemmas.Bool.Decides.{nat_tests}
-use Rattle.std.proofs.lemmas.List.{same_lists}
-use Rattle.std.proofs.lemmas.List.Elements.{All-same}
-use Rattle.snippet_strokes.specs.declared.bars.OpenBar.{OpenBar}
-use Rattle.snippet_strokes.specs.Bars.{bars_apart, ends_of_bars}
-use Rattle.snippet_strokes.specs.DrawnBars.{HasBarRoom, has_depth}
+use Rattle.snippet_strokes.proofs.Common.{◌≡◌, ◌∙◌, [], All, List, ap, arith, false, length, subst, sym, nat_tests, same_lists, All-same, OpenBar}
+use Rattle.snippet_strokes.proofs.Common.{bars_apart, ends_of_bars, HasBarRoom, has_depth}
 use Rattle.snippet_strokes.proofs.BesideLemmas.{apart_depths}
 use Rattle.snippet_strokes.proofs.OpenLemmas.{room_apart, room_ends}
 use Rattle.snippet_strokes.proofs.snippet.draw_line.Goals as goal

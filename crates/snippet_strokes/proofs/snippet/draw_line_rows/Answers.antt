@@ -1,6 +1,5 @@
-use Rattle.std.proofs.Common.{◌∙◌, ap, chars, sym}
-use Rattle.snippet_text.specs.Normalized.{norm}
-use Rattle.snippet_strokes.specs.DrawnBars.{is_whole_line}
+use Rattle.snippet_strokes.proofs.Common.{◌∙◌, ap, sym, norm, is_whole_line}
+use Rattle.std.proofs.Common.{chars}
 use Rattle.snippet_strokes.proofs.snippet.draw_line_rows.Goals as goal
 
 pub draw_whole_line-requires-clause-whole : goal.draw_whole_line-requires-clause-whole

@@ -1,16 +1,7 @@
-use Rattle.std.proofs.Common.{◌≡◌, ◌∙◌, ◌+◌, ◌++◌, ◌∷◌, [], List, ap, arith, chars, length}
-use Rattle.std.proofs.lemmas.List.{length_push}
-use Rattle.std.proofs.lemmas.Result.{on_ok_weaker}
-use Rattle.snippet_grid.specs.Grid.{changed_within}
-use Rattle.snippet_grid.proofs.ChangeLemmas.{length-changed_within}
-use Rattle.snippet_parts.specs.declared.entries.LineAnnotation.{LineAnnotation}
-use Rattle.snippet_style.specs.Cell.{Cell}
-use Rattle.snippet_text.specs.Normalized.{norm}
-use Rattle.snippet_strokes.specs.DrawnBars.{is_whole_line}
-use Rattle.snippet_strokes.specs.LineRows.{own_rows}
-use Rattle.snippet_lines.specs.Number.{shown_number}
-use Rattle.snippet_strokes.specs.SourceRows.{source_row, window_cells}
-use Rattle.snippet_strokes.specs.StrokeRows.{highlighted_row}
+use Rattle.snippet_strokes.proofs.Common.{◌≡◌, ◌∙◌, ◌+◌, ◌++◌, ◌∷◌, [], List, ap, arith, length, length_push, on_ok_weaker}
+use Rattle.snippet_strokes.proofs.Common.{changed_within, length-changed_within, LineAnnotation, Cell, norm, is_whole_line, own_rows, shown_number, source_row}
+use Rattle.snippet_strokes.proofs.Common.{window_cells, highlighted_row}
+use Rattle.std.proofs.Common.{chars}
 use Rattle.snippet_strokes.proofs.HighlightLaws.{asking}
 use Rattle.snippet_strokes.proofs.LineAdded.{marked_added, row_added}
 use Rattle.snippet_strokes.proofs.SourceRowLemmas.{source_row_short}

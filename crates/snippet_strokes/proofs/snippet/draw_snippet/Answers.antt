@@ -1,12 +1,6 @@
-use Rattle.std.proofs.Common.{◌≡◌, ◌∙◌, ◌+◌, ◌-◌, ◌++◌, take, ◌==◌, ◌&&◌, [], All, sym, ap, subst, arith, length, drop}
-use Rattle.std.proofs.lemmas.List.{append-nil, drop_all, take_rest}
-use Rattle.std.proofs.lemmas.List.Elements.{All-nil, All-same}
-use Rattle.snippet_parts.specs.declared.shown_line.ShownLine.{ShownLine}
-use Rattle.snippet_parts.specs.ShownLines.{infos_of}
-use Rattle.snippet_parts.proofs.ShownLineLemmas.{infos_of-at, infos_of-drop, infos_of-length}
-use Rattle.snippet_strokes.specs.InfoRows.{gap_rows, infos_rows}
-use Rattle.snippet_strokes.specs.DrawnBars.{HasBarRoom}
-use Rattle.snippet_strokes.specs.Drawable.{HasBarCell}
+use Rattle.snippet_strokes.proofs.Common.{◌≡◌, ◌∙◌, ◌+◌, ◌-◌, ◌++◌, take, ◌==◌, ◌&&◌, [], All, sym, ap, subst, arith, length}
+use Rattle.snippet_strokes.proofs.Common.{drop, append-nil, drop_all, take_rest, All-nil, All-same, ShownLine, infos_of, infos_of-at, infos_of-drop}
+use Rattle.snippet_strokes.proofs.Common.{infos_of-length, gap_rows, infos_rows, HasBarRoom, HasBarCell}
 use Rattle.snippet_strokes.proofs.LineAdded.{next_added}
 use Rattle.snippet_strokes.proofs.OpenLemmas.{room_below}
 use Rattle.snippet_strokes.proofs.snippet.draw_snippet.Goals as goal

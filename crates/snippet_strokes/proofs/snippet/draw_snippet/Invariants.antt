@@ -1,7 +1,4 @@
-use Rattle.std.proofs.Common.{◌≡◌, ◌++◌, [], All, drop}
-use Rattle.snippet_parts.specs.ShownLines.{infos_of}
-use Rattle.snippet_strokes.specs.InfoRows.{infos_rows}
-use Rattle.snippet_strokes.specs.DrawnBars.{HasBarRoom}
+use Rattle.snippet_strokes.proofs.Common.{◌≡◌, ◌++◌, [], All, drop, infos_of, infos_rows, HasBarRoom}
 use Rattle.snippet_strokes.proofs.snippet.draw_snippet.Given as goal
 
 -- with the rows of the lines that are left all lines are drawn, and each bar that is open above these has its place

@@ -1,13 +1,7 @@
-use Rattle.std.proofs.Common.{◌+◌, ◌∙◌, List, ap, arith, chars, length}
-use Rattle.std.proofs.lemmas.Result.{on_ok_weaker}
-use Rattle.snippet_lines.specs.Number.{shown_number}
-use Rattle.snippet_style.specs.Cell.{Cell}
-use Rattle.snippet_text.specs.Normalized.{norm}
-use Rattle.snippet_grid.specs.Grid.{changed_within}
-use Rattle.snippet_strokes.specs.declared.bars.BarStroke.TheVariants.{Solid, Top}
+use Rattle.snippet_strokes.proofs.Common.{◌+◌, ◌∙◌, List, ap, arith, length, on_ok_weaker, shown_number, Cell, norm, changed_within, Solid, Top}
+use Rattle.snippet_strokes.proofs.Common.{source_row, window_cells, highlighted_row}
+use Rattle.std.proofs.Common.{chars}
 use Rattle.snippet_strokes.proofs.BarParts.{with_parts}
-use Rattle.snippet_strokes.specs.SourceRows.{source_row, window_cells}
-use Rattle.snippet_strokes.specs.StrokeRows.{highlighted_row}
 use Rattle.snippet_strokes.proofs.BarLemmas.{BarsDrawn-with_parts}
 use Rattle.snippet_strokes.proofs.HighlightLaws.{asking}
 use Rattle.snippet_strokes.proofs.LineAdded.{row_added, whole_added}

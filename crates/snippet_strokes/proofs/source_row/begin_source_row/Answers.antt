@@ -1,6 +1,5 @@
-use Rattle.std.proofs.Common.{◌≤◌, ◌+◌, ◌∙◌, ap, chars, length, subst, sym}
-use Rattle.snippet_grid.specs.Layout.{Layout, separator_cell}
-use Rattle.snippet_grid.specs.LayoutOf.{layout_of}
+use Rattle.snippet_strokes.proofs.Common.{◌≤◌, ◌+◌, ◌∙◌, ap, length, subst, sym, Layout, separator_cell, layout_of}
+use Rattle.std.proofs.Common.{chars}
 use Rattle.snippet_strokes.proofs.BesideLemmas.{number_first}
 use Rattle.snippet_strokes.proofs.source_row.begin_source_row.Goals as goal
 

@@ -1,5 +1,4 @@
-use Rattle.std.proofs.Common.{◌≡◌, ◌∙◌, ◌-◌, ◌++◌, ℕ, ap, arith, sym, length, replicate}
-use Rattle.std.specs.Fmt.{decimal}
+use Rattle.snippet_strokes.proofs.Common.{◌≡◌, ◌∙◌, ◌-◌, ◌++◌, ℕ, ap, arith, sym, length, replicate, decimal}
 use Rattle.snippet_strokes.proofs.source_row.digits_beside.Goals as goal
 
 pub returns-then-gutter-text : goal.returns-then-gutter-text

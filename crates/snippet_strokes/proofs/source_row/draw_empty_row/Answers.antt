@@ -1,13 +1,7 @@
-use Rattle.std.proofs.Common.{◌≡◌, ◌∙◌, ◌≤◌, ◌+◌, ◌++◌, ◌∷◌, [], ℕ, List, None, ap, arith, chars, length, subst, sym}
-use Rattle.std.proofs.lemmas.Str.{chars-nil}
-use Rattle.std.specs.Cow.{cow_str_bytes}
-use Rattle.snippet_grid.specs.Layout.{Layout}
-use Rattle.snippet_grid.specs.LayoutOf.{layout_of}
-use Rattle.snippet_style.specs.Cell.{Cell}
-use Rattle.snippet_strokes.specs.SourceRows.{source_row}
-use Rattle.snippet_strokes.specs.BegunRow.{begun_cells, ended_cells}
+use Rattle.snippet_strokes.proofs.Common.{◌≡◌, ◌∙◌, ◌≤◌, ◌+◌, ◌++◌, ◌∷◌, [], ℕ, List, None, ap, arith, length, subst, sym}
+use Rattle.snippet_strokes.proofs.Common.{chars-nil, cow_str_bytes, Layout, layout_of, Cell, source_row, begun_cells, ended_cells, Solid, Top}
+use Rattle.std.proofs.Common.{chars}
 use Rattle.snippet_strokes.proofs.BarParts.{with_parts}
-use Rattle.snippet_strokes.specs.declared.bars.BarStroke.TheVariants.{Solid, Top}
 use Rattle.snippet_strokes.proofs.source_row.draw_empty_row.Goals as goal
 
 pub write_source_row-requires-clause-number : goal.write_source_row-requires-clause-number

@@ -1,25 +1,10 @@
-use Rattle.std.proofs.Common.{◌≡◌, ◌++◌, ◌∷◌, [], ℕ, List, refl, ap, sym, subst, ◌∙◌, ◌+◌, ◌≤◌, ◌<◌, ◌^◌, arith, length, chars}
-use Rattle.snippet_grid.specs.Layout.{Layout}
-use Rattle.snippet_grid.specs.LayoutOf.{layout_of}
-use Rattle.snippet_strokes.specs.SourceRows.{source_row, window_cells}
-use Rattle.snippet_strokes.specs.BegunRow.{begun_cells, ended_cells}
-use Rattle.snippet_style.specs.Cell.{Cell}
-use Rattle.snippet_style.specs.declared.glyphs.DecorStyle.{DecorStyle}
+use Rattle.snippet_strokes.proofs.Common.{◌≡◌, ◌++◌, ◌∷◌, [], ℕ, List, refl, ap, sym, subst, ◌∙◌, ◌+◌, ◌≤◌, ◌<◌, ◌^◌}
+use Rattle.snippet_strokes.proofs.Common.{arith, length, Layout, layout_of, source_row, window_cells, begun_cells, ended_cells, Cell, DecorStyle, Solid, Top}
+use Rattle.snippet_strokes.proofs.Common.{part_of_norm, norm, width_of-chars, shown_number, chars-shown_number, norm_short, nat_tests, on_ok_weaker}
+use Rattle.snippet_strokes.proofs.Common.{cow_str_bytes, if_ok_weaker, width_of, dropped_part}
+use Rattle.std.proofs.Common.{chars}
 use Rattle.snippet_strokes.proofs.BarParts.{with_parts}
-use Rattle.snippet_strokes.specs.declared.bars.BarStroke.TheVariants.{Solid, Top}
-use Rattle.snippet_window.proofs.NearLemmas.{part_of_norm}
-use Rattle.snippet_text.specs.Normalized.{norm}
-use Rattle.snippet_text.proofs.WidthBounds.{width_of-chars}
-use Rattle.snippet_lines.specs.Number.{shown_number}
 use Rattle.snippet_strokes.proofs.CellLemmas.{cells_are, no_window, nothing_shown, part_few}
-use Rattle.snippet_lines.proofs.NumberLemmas.{chars-shown_number}
-use Rattle.snippet_labels.proofs.CharLemmas.{norm_short}
-use Rattle.std.proofs.lemmas.Bool.Decides.{nat_tests}
-use Rattle.std.proofs.lemmas.Result.{on_ok_weaker}
-use Rattle.std.specs.Cow.{cow_str_bytes}
-use Rattle.snippet_grid.proofs.OutcomeLemmas.{if_ok_weaker}
-use Rattle.snippet_text.specs.Width.{width_of}
-use Rattle.snippet_window.specs.Window.{dropped_part}
 use Rattle.snippet_strokes.proofs.source_row.draw_source_row.Goals as goal
 
 pub near_part-near-requires-clause-narrow : goal.near_part-near-requires-clause-narrow

@@ -1,7 +1,4 @@
-use Rattle.std.proofs.Common.{◌∙◌, ap, sym}
-use Rattle.std.proofs.lemmas.Result.{on_ok_weaker}
-use Rattle.snippet_style.specs.Glyphs.{placeholder_of}
-use Rattle.snippet_grid.specs.Layout.{Layout, code_cell}
+use Rattle.snippet_strokes.proofs.Common.{◌∙◌, ap, sym, on_ok_weaker, placeholder_of, Layout, code_cell}
 use Rattle.snippet_strokes.proofs.CellLemmas.{begun_plain, begun_cut}
 use Rattle.snippet_strokes.proofs.source_row.write_beginning.Goals as goal
 

@@ -1,4 +1,4 @@
-use Rattle.std.proofs.lemmas.Result.{on_ok_weaker}
+use Rattle.snippet_strokes.proofs.Common.{on_ok_weaker}
 use Rattle.snippet_strokes.proofs.CellLemmas.{ended_cut}
 use Rattle.snippet_strokes.proofs.source_row.write_end.Goals as goal
 

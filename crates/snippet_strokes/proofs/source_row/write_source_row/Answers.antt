@@ -1,10 +1,6 @@
-use Rattle.std.proofs.Common.{◌≡◌, ◌∙◌, ◌++◌, ◌∷◌, [], List, ap}
+use Rattle.snippet_strokes.proofs.Common.{◌≡◌, ◌∙◌, ◌++◌, ◌∷◌, [], List, ap, Cell, Top, Solid, barred, begun_cells, ended_cells}
 use Rattle.std.specs.Str.{chars}
-use Rattle.snippet_style.specs.Cell.{Cell}
-use Rattle.snippet_strokes.specs.declared.bars.BarStroke.TheVariants.{Top, Solid}
-use Rattle.snippet_strokes.specs.DrawnBars.{barred}
 use Rattle.snippet_strokes.proofs.BarParts.{with_parts}
-use Rattle.snippet_strokes.specs.BegunRow.{begun_cells, ended_cells}
 use Rattle.snippet_strokes.proofs.BesideLemmas.{barred_last, bars_first, bars_left}
 use Rattle.snippet_strokes.proofs.CellLemmas.{shown_short}
 use Rattle.snippet_strokes.proofs.SourceRowLemmas.{front, front_short}

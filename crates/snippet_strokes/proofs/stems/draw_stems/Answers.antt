@@ -1,8 +1,5 @@
-use Rattle.std.proofs.Common.{◌≡◌, ◌∙◌, ◌+◌, ◌-◌, ◌∷◌, false, true, ap, sym, subst, arith, drop, length, take}
-use Rattle.std.proofs.lemmas.List.{drop_more, drop_all, length-drop, take_all}
-use Rattle.snippet_strokes.specs.Places.{HasPlaceAmong, HasRows}
-use Rattle.snippet_strokes.specs.DrawnStems.{is_stem_covered, stems_of}
-use Rattle.snippet_strokes.specs.Writes.{painted}
+use Rattle.snippet_strokes.proofs.Common.{◌≡◌, ◌∙◌, ◌+◌, ◌-◌, ◌∷◌, false, true, ap, sym, subst, arith, drop, length, take, drop_more}
+use Rattle.snippet_strokes.proofs.Common.{drop_all, length-drop, take_all, HasPlaceAmong, HasRows, is_stem_covered, stems_of, painted}
 use Rattle.snippet_strokes.proofs.EveryStem.{stems_painted}
 use Rattle.snippet_strokes.proofs.StemWrites.{stem_count, stems_next, stems_skip}
 use Rattle.snippet_strokes.proofs.stems.draw_stems.Goals.{then-not-is_stem_covered+in_ok-draw_stem, else-not-is_stem_covered}

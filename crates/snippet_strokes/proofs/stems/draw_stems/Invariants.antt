@@ -1,6 +1,4 @@
-use Rattle.std.proofs.Common.{◌≡◌, drop, length}
-use Rattle.snippet_strokes.specs.DrawnStems.{stems_of}
-use Rattle.snippet_strokes.specs.Writes.{painted}
+use Rattle.snippet_strokes.proofs.Common.{◌≡◌, drop, length, stems_of, painted}
 use Rattle.snippet_strokes.proofs.stems.draw_stems.Given as goal
 
 -- with the stems from this entry on all are written; and no row is added

@@ -1,14 +1,5 @@
-use Rattle.std.proofs.Common.{◌≡◌, ◌+◌, ◌^◌, ◌≤◌, ◌∙◌, ap, arith, length, subst, sym}
-use Rattle.std.proofs.lemmas.Result.{on_ok_weaker}
-use Rattle.snippet_grid.proofs.OutcomeLemmas.{on_ok_two}
-use Rattle.std.specs.List.{flat_map}
-use Rattle.snippet_style.specs.Separators.{separator_row}
-use Rattle.snippet_strokes.specs.Places.{AreEnough}
-use Rattle.snippet_strokes.specs.Painting.{mark_of, painting_order}
-use Rattle.snippet_strokes.specs.SourceRows.{bare_row}
-use Rattle.snippet_strokes.specs.Strokes.{line_strokes}
-use Rattle.snippet_strokes.specs.PaintedStrokes.{strokes_under_marks}
-use Rattle.snippet_strokes.specs.Writes.{painted}
+use Rattle.snippet_strokes.proofs.Common.{◌≡◌, ◌+◌, ◌^◌, ◌≤◌, ◌∙◌, ap, arith, length, subst, sym, on_ok_weaker, on_ok_two, flat_map}
+use Rattle.snippet_strokes.proofs.Common.{separator_row, AreEnough, mark_of, painting_order, bare_row, line_strokes, strokes_under_marks, painted}
 use Rattle.snippet_strokes.proofs.Drawn.{marks_of}
 use Rattle.snippet_strokes.proofs.EveryMark.{every_mark}
 use Rattle.snippet_strokes.proofs.EveryStroke.{strokes_painted, under_marks_painted}

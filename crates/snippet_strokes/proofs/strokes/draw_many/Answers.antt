@@ -1,19 +1,7 @@
-use Rattle.std.proofs.Common.{ℕ, Bool, ◌≡◌, ◌+◌, ◌-◌, ◌<◌, ◌≤◌, ◌^◌, ◌∙◌, ◌++◌, ◌∷◌, [], List, All, ap, arith, drop, length, replicate, subst, sym}
-use Rattle.std.proofs.lemmas.Result.{on_ok_weaker}
-use Rattle.snippet_grid.proofs.OutcomeLemmas.{on_ok_two}
-use Rattle.std.proofs.lemmas.List.{append_assoc, length-append, length-drop}
-use Rattle.std.specs.List.{flat_map}
-use Rattle.snippet_grid.specs.Layout.{Layout}
-use Rattle.snippet_strokes.specs.Drawable.{IsReady, HasBarCell}
-use Rattle.snippet_strokes.specs.Places.{AreEnough, HasRows}
-use Rattle.snippet_labels.specs.declared.positions.PlacedEntry.{PlacedEntry}
-use Rattle.snippet_style.specs.Cell.{Cell}
-use Rattle.snippet_style.specs.Separators.{separator_row}
-use Rattle.snippet_strokes.specs.Painting.{mark_of, painting_order}
-use Rattle.snippet_strokes.specs.SourceRows.{bare_row}
-use Rattle.snippet_strokes.specs.Strokes.{line_strokes}
-use Rattle.snippet_strokes.specs.PaintedStrokes.{strokes_under_marks, tops_of}
-use Rattle.snippet_strokes.specs.Writes.{painted}
+use Rattle.snippet_strokes.proofs.Common.{ℕ, Bool, ◌≡◌, ◌+◌, ◌-◌, ◌<◌, ◌≤◌, ◌^◌, ◌∙◌, ◌++◌, ◌∷◌, [], List, All}
+use Rattle.snippet_strokes.proofs.Common.{ap, arith, drop, length, replicate, subst, sym, on_ok_weaker, on_ok_two, append_assoc, length-append, length-drop}
+use Rattle.snippet_strokes.proofs.Common.{flat_map, Layout, IsReady, HasBarCell, AreEnough, HasRows, PlacedEntry, Cell, separator_row, mark_of, painting_order}
+use Rattle.snippet_strokes.proofs.Common.{bare_row, line_strokes, strokes_under_marks, tops_of, painted}
 use Rattle.snippet_strokes.proofs.Drawn.{drawn_strokes, marks_of}
 use Rattle.snippet_strokes.proofs.EveryMark.{every_mark}
 use Rattle.snippet_strokes.proofs.EveryStroke.{strokes_painted, under_marks_painted}

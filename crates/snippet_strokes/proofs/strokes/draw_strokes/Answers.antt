@@ -1,24 +1,9 @@
-use Rattle.std.proofs.Common.{◌≡◌, ◌∙◌, ◌+◌, ◌-◌, ◌<◌, ◌≤◌, ◌^◌, List, ◌++◌, ◌∷◌, [], Bool, true, ℕ, All, map, replicate, ap, sym, subst, refl, arith, length}
-use Rattle.std.proofs.lemmas.Result.{on_ok_weaker}
-use Rattle.snippet_grid.specs.Layout.{Layout}
-use Rattle.std.proofs.lemmas.List.{append_assoc, length_push}
-use Rattle.std.proofs.lemmas.List.Sorted.{All-permutation, length_permutation}
-use Rattle.snippet_parts.specs.declared.entries.LineAnnotation.{LineAnnotation}
-use Rattle.snippet_labels.specs.declared.positions.PlacedEntry.{PlacedEntry}
-use Rattle.snippet_strokes.specs.Painting.{painting_order}
-use Rattle.snippet_strokes.specs.Drawing.{row_count}
-use Rattle.snippet_strokes.specs.Places.{AreEnough, HasRows}
-use Rattle.snippet_strokes.specs.Drawable.{AreDrawable}
-use Rattle.snippet_style.specs.Cell.{Cell}
-use Rattle.snippet_labels.specs.PlacedEntries.{shifted}
-use Rattle.snippet_labels.specs.Placing.{ArePlaced, HasPlace}
-use Rattle.std.specs.Prelude.{if◌then◌else◌}
-use Rattle.std.specs.List.{list_any}
-use Rattle.snippet_strokes.specs.Cuts.{overlapped}
-use Rattle.snippet_strokes.specs.LookedCuts.{is_wide_at}
+use Rattle.snippet_strokes.proofs.Common.{◌≡◌, ◌∙◌, ◌+◌, ◌-◌, ◌<◌, ◌≤◌, ◌^◌, List, ◌++◌, ◌∷◌, [], Bool, true, ℕ}
+use Rattle.snippet_strokes.proofs.Common.{All, map, replicate, ap, sym, subst, refl, arith, length, on_ok_weaker, Layout, append_assoc, length_push}
+use Rattle.snippet_strokes.proofs.Common.{All-permutation, length_permutation, LineAnnotation, PlacedEntry, painting_order, row_count, AreEnough, HasRows}
+use Rattle.snippet_strokes.proofs.Common.{AreDrawable, Cell, shifted, ArePlaced, HasPlace, if◌then◌else◌, list_any, overlapped, is_wide_at, bare_row}
+use Rattle.snippet_strokes.proofs.Common.{closing_row, separator_row, painted}
 use Rattle.snippet_strokes.proofs.CutWords.{cut_rows, cuts_of}
-use Rattle.snippet_strokes.specs.SourceRows.{bare_row}
-use Rattle.snippet_style.specs.Separators.{closing_row, separator_row}
 use Rattle.snippet_strokes.proofs.CutPairs.{entries_cut}
 use Rattle.snippet_strokes.proofs.PaintOrder.{IsPermutation-painting_order}
 use Rattle.snippet_strokes.proofs.PositionLemmas.{looked_of_placed, row_count_some, positions_of_placed}
@@ -26,7 +11,6 @@ use Rattle.snippet_strokes.proofs.BegunLemmas.{rows_begun, rows_ready}
 use Rattle.snippet_strokes.proofs.ReadyLemmas.{all_ready, ready_places}
 use Rattle.snippet_strokes.proofs.ReadyRows.{enough_begun}
 use Rattle.snippet_strokes.proofs.Drawn.{drawn_strokes}
-use Rattle.snippet_strokes.specs.Writes.{painted}
 use Rattle.snippet_strokes.proofs.EveryStroke.{strokes_painted}
 use Rattle.snippet_strokes.proofs.LineRowLemmas.{own_none, own_strokes, painted_added}
 use Rattle.snippet_strokes.proofs.strokes.draw_strokes.Goals as goal

@@ -1,5 +1,4 @@
-use Rattle.std.proofs.Common.{◌∙◌, ◌+◌, length, sym}
-use Rattle.std.proofs.lemmas.Result.{on_ok_weaker}
+use Rattle.snippet_strokes.proofs.Common.{◌∙◌, ◌+◌, length, sym, on_ok_weaker}
 use Rattle.snippet_strokes.proofs.EveryStem.{stems_painted}
 use Rattle.snippet_strokes.proofs.EveryStroke.{under_marks_painted}
 use Rattle.snippet_strokes.proofs.ReadyLemmas.{ready_bar_cells, ready_labels, ready_texts}

@@ -1,4 +1,4 @@
-use Rattle.std.proofs.Common.{◌≡◌, max, fold, take}
+use Rattle.snippet_strokes.proofs.Common.{◌≡◌, max, fold, take}
 use Rattle.snippet_strokes.proofs.strokes.lowest_position.Given as goal
 
 -- the greatest so far

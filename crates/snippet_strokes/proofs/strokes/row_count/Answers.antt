@@ -1,4 +1,4 @@
-use Rattle.std.proofs.Common.{arith, ◌^◌}
+use Rattle.snippet_strokes.proofs.Common.{arith, ◌^◌}
 use Rattle.snippet_strokes.proofs.PositionLemmas.{lowest_position_le}
 use Rattle.snippet_strokes.proofs.strokes.row_count.Goals as goal
 

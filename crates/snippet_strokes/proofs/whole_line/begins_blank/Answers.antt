@@ -1,10 +1,6 @@
-use Rattle.std.proofs.Common.{◌≡◌, ◌∙◌, ◌<◌, ◌+◌, ◌-◌, ◌++◌, ◌∷◌, [], true, chars, length, ap, sym, arith}
-use Rattle.std.specs.Char.{is_whitespace}
-use Rattle.std.specs.List.{list_all}
-use Rattle.std.proofs.lemmas.Iterator.{YieldsList-from_chars}
-use Rattle.std.proofs.lemmas.Iterator.Consumers.{YieldsList-turn, YieldsList-end}
-use Rattle.std.proofs.lemmas.List.{length_push}
-use Rattle.snippet_text.specs.Normalized.{shown}
+use Rattle.snippet_strokes.proofs.Common.{◌≡◌, ◌∙◌, ◌<◌, ◌+◌, ◌-◌, ◌++◌, ◌∷◌, [], true, length, ap, sym, arith, is_whitespace}
+use Rattle.snippet_strokes.proofs.Common.{list_all, YieldsList-from_chars, YieldsList-turn, YieldsList-end, length_push, shown}
+use Rattle.std.proofs.Common.{chars}
 use Rattle.snippet_strokes.proofs.BlankLemmas.{blank_ends, blank_more, blank_whole}
 use Rattle.snippet_strokes.proofs.whole_line.begins_blank.Goals as goal
 

@@ -1,9 +1,6 @@
 -- The characters so far are shown as whitespace: what is asked of the line is asked of so much of the rest.
-use Rattle.std.proofs.Common.{◌≡◌, length, drop, take}
-use Rattle.std.specs.Char.{is_whitespace}
-use Rattle.std.specs.List.{list_all}
+use Rattle.snippet_strokes.proofs.Common.{◌≡◌, length, drop, take, is_whitespace, list_all, norm}
 use Rattle.std.specs.Str.{chars}
-use Rattle.snippet_text.specs.Normalized.{norm}
 use Rattle.snippet_strokes.proofs.whole_line.begins_blank.Given as goal
 
 abbrev pub invariant-loop-c : goal.invariant-loop-c

@@ -1,7 +1,5 @@
-use Rattle.std.proofs.Common.{◌∙◌, ap, chars, nat_cmp, sym}
-use Rattle.std.specs.Ordering.{ord_max}
-use Rattle.snippet_text.specs.Normalized.{norm}
-use Rattle.snippet_parts.specs.declared.entries.LineAnnotation.{LineAnnotation}
+use Rattle.snippet_strokes.proofs.Common.{◌∙◌, ap, nat_cmp, sym, ord_max, norm, LineAnnotation}
+use Rattle.std.proofs.Common.{chars}
 use Rattle.snippet_strokes.proofs.BlankLemmas.{bar_passed, start_passed}
 use Rattle.snippet_strokes.proofs.whole_line.is_whole_line.Goals as goal
 use Rattle.snippet_strokes.proofs.whole_line.is_whole_line.Goals.{in-MultilineLine, in-MultilineStart}

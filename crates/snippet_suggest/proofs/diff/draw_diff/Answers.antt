@@ -1,16 +1,8 @@
 use mir.Val.{bool_byte}
-use Rattle.std.proofs.Common.{◌≡◌, ℕ, ◌-◌, ◌<◌, List, ap, append_assoc, arith, chars, length, Bool, [], ◌∷◌, ◌++◌, false, true, inl, inr}
-use Rattle.std.proofs.Common.{sym, ◌∙◌}
-use Rattle.std.proofs.lemmas.Bool.{cases_Bool}
-use Rattle.std.proofs.lemmas.Result.{on_ok_weaker}
-use Rattle.std.specs.Str.{bytes_eq}
-use Rattle.snippet_style.specs.Cell.{Cell}
-use Rattle.snippet_style.specs.declared.role.ElementStyle.TheVariants.{Removal}
-use Rattle.snippet_splice.specs.StretchLines.{line_stretches}
-use Rattle.snippet_suggest.specs.Cells.{left_out_cells, offered_cells, with_stretches}
-use Rattle.snippet_suggest.specs.RemovedRows.{last_removed, unless_stays, diff_cells, gone_of, taken_cells}
-use Rattle.snippet_suggest.specs.declared.kind.DisplaySuggestion.TheVariants.{Diff}
-use Rattle.snippet_suggest.specs.Given.{is_left_out}
+use Rattle.snippet_suggest.proofs.Common.{◌≡◌, ℕ, ◌-◌, ◌<◌, List, ap, append_assoc, arith, length, Bool, [], ◌∷◌, ◌++◌, false, true}
+use Rattle.snippet_suggest.proofs.Common.{inl, inr, sym, ◌∙◌, cases_Bool, on_ok_weaker, bytes_eq, Cell, Removal, line_stretches, left_out_cells}
+use Rattle.snippet_suggest.proofs.Common.{offered_cells, with_stretches, last_removed, unless_stays, diff_cells, gone_of, taken_cells, Diff, is_left_out}
+use Rattle.std.proofs.Common.{chars}
 use Rattle.snippet_suggest.proofs.RowsDrawn.{diff_left, diff_shown, last_of, left_infos, none_gone, some_gone, stays_left}
 use Rattle.snippet_suggest.proofs.diff.draw_diff.Goals as goal
 use Rattle.snippet_suggest.proofs.diff.draw_diff.Goals.{then-stays+in_ok-paint_last, else-stays}

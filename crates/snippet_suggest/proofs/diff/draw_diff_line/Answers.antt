@@ -1,7 +1,5 @@
-use Rattle.std.proofs.Common.{◌∙◌, ◌++◌, ◌∷◌, [], List, ap}
-use Rattle.snippet_style.specs.Cell.{Cell}
+use Rattle.snippet_suggest.proofs.Common.{◌∙◌, ◌++◌, ◌∷◌, [], List, ap, Cell, on_ok_weaker}
 use Rattle.snippet_suggest.proofs.PutLemmas.{diff_offered}
-use Rattle.std.proofs.lemmas.Result.{on_ok_weaker}
 use Rattle.snippet_suggest.proofs.diff.draw_diff_line.Goals as goal
 use Rattle.snippet_suggest.proofs.diff.draw_diff_line.Goals.{then-not-left_out+in_ok-draw_line, else-not-left_out}
 

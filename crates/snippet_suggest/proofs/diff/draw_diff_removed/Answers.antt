@@ -1,8 +1,4 @@
-use Rattle.std.proofs.Common.{◌∙◌, ◌++◌, ℕ, [], List, ap, arith, sym}
-use Rattle.std.proofs.lemmas.List.{append-nil, take_all}
-use Rattle.snippet_parts.specs.declared.source_map.LineInfo.{LineInfo}
-use Rattle.snippet_splice.specs.StretchLines.{line_stretches}
-use Rattle.snippet_suggest.specs.RemovedRows.{taken_cells}
+use Rattle.snippet_suggest.proofs.Common.{◌∙◌, ◌++◌, ℕ, [], List, ap, arith, sym, append-nil, take_all, LineInfo, line_stretches, taken_cells}
 use Rattle.snippet_suggest.proofs.RowsDrawn.{taken_next, taken_none}
 use Rattle.snippet_suggest.proofs.diff.draw_diff_removed.Goals as goal
 

@@ -1,6 +1,4 @@
-use Rattle.std.proofs.Common.{◌≡◌, ◌++◌, take}
-use Rattle.snippet_splice.specs.StretchLines.{line_stretches}
-use Rattle.snippet_suggest.specs.RemovedRows.{taken_cells}
+use Rattle.snippet_suggest.proofs.Common.{◌≡◌, ◌++◌, take, line_stretches, taken_cells}
 use Rattle.snippet_suggest.proofs.diff.draw_diff_removed.Given as goal
 
 -- the rows so far are added

@@ -1,7 +1,4 @@
-use Rattle.std.proofs.Common.{ℕ, ◌+◌, ◌∙◌, ◌++◌, ◌∷◌, [], List, ap, arith, replicate}
-use Rattle.snippet_style.specs.Cell.{Cell}
-use Rattle.snippet_style.specs.declared.role.ElementStyle.TheVariants.{LineNumber}
-use Rattle.snippet_suggest.specs.Cells.{put}
+use Rattle.snippet_suggest.proofs.Common.{ℕ, ◌+◌, ◌∙◌, ◌++◌, ◌∷◌, [], List, ap, arith, replicate, Cell, LineNumber, put}
 use Rattle.snippet_suggest.proofs.PutLemmas.{end_is}
 use Rattle.snippet_suggest.proofs.ends.draw_end.Goals as goal
 

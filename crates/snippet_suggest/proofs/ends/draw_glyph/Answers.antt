@@ -1,9 +1,5 @@
-use Rattle.std.proofs.Common.{◌∙◌, ◌+◌, arith, ap, chars, length}
-use Rattle.snippet_style.specs.Cell.{text_cells}
-use Rattle.snippet_grid.specs.Grid.{cells_written}
-use Rattle.snippet_grid.specs.Layout.{Layout}
-use Rattle.snippet_style.specs.declared.role.ElementStyle.TheVariants.{LineNumber}
-use Rattle.snippet_style.specs.Glyphs.{suggestion_glyph_of}
+use Rattle.snippet_suggest.proofs.Common.{◌∙◌, ◌+◌, arith, ap, length, text_cells, cells_written, Layout, LineNumber, suggestion_glyph_of}
+use Rattle.std.proofs.Common.{chars}
 use Rattle.snippet_suggest.proofs.PutLemmas.{glyph_below, glyph_over}
 use Rattle.snippet_suggest.proofs.GlyphLemmas.{glyph_short}
 use Rattle.snippet_suggest.proofs.ends.draw_glyph.Goals as goal

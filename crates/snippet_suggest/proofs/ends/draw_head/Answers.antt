@@ -1,11 +1,6 @@
-use Rattle.std.proofs.Common.{◌≡◌, ◌∙◌, ◌∷◌, ◌++◌, [], List, arith, ap, length, sym}
-use Rattle.std.proofs.lemmas.List.{length-append}
-use Rattle.std.proofs.lemmas.Result.{on_ok_weaker}
-use Rattle.snippet_grid.specs.Grid.{row_at}
-use Rattle.snippet_suggest.specs.Cells.{begin_cells}
+use Rattle.snippet_suggest.proofs.Common.{◌≡◌, ◌∙◌, ◌∷◌, ◌++◌, [], List, arith, ap, length, sym, length-append, on_ok_weaker, row_at}
+use Rattle.snippet_suggest.proofs.Common.{begin_cells, Cell, rows_shared}
 use Rattle.snippet_suggest.proofs.PutLemmas.{begin_next, begin_opening, begin_path}
-use Rattle.snippet_style.specs.Cell.{Cell}
-use Rattle.snippet_suggest.specs.ShownRows.{rows_shared}
 use Rattle.snippet_suggest.proofs.ends.draw_head.Goals as goal
 
 pub returns-in-Opening : goal.returns-in-Opening

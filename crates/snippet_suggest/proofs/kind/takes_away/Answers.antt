@@ -1,10 +1,5 @@
-use Rattle.std.proofs.Common.{◌<◌, ℕ, List, [], length, map, sym, ap, ◌∙◌, arith}
-use Rattle.std.proofs.lemmas.List.{get_or-map, length-map}
-use Rattle.std.proofs.lemmas.List.Folds.{list_any_at}
-use Rattle.snippet_splice.specs.declared.patches.TrimmedPatch.{TrimmedPatch}
-use Rattle.snippet_splice.specs.Edits.{Edit}
-use Rattle.snippet_splice.specs.TrimmedEdits.{trimmed_edit_of}
-use Rattle.snippet_suggest.specs.Kind.{takes_away}
+use Rattle.snippet_suggest.proofs.Common.{◌<◌, ℕ, List, [], length, map, sym, ap, ◌∙◌, arith, get_or-map, length-map, list_any_at, TrimmedPatch}
+use Rattle.snippet_suggest.proofs.Common.{Edit, trimmed_edit_of, takes_away}
 use Rattle.snippet_suggest.proofs.kind.takes_away.Goals as goal
 
 pub returns-then-deletes_or_destroys : goal.returns-then-deletes_or_destroys

@@ -1,7 +1,4 @@
-use Rattle.std.proofs.Common.{◌≡◌, false, map, take}
-use Rattle.std.specs.List.{list_any}
-use Rattle.snippet_splice.specs.TrimmedEdits.{trimmed_edit_of}
-use Rattle.snippet_suggest.specs.Kind.{takes_away}
+use Rattle.snippet_suggest.proofs.Common.{◌≡◌, false, map, take, list_any, trimmed_edit_of, takes_away}
 use Rattle.snippet_suggest.proofs.kind.takes_away.Given as goal
 
 -- none of the patches so far takes something away

@@ -1,6 +1,4 @@
-use Rattle.std.proofs.Common.{◌∙◌, ◌++◌, ap, map, List}
-use Rattle.snippet_suggest.specs.declared.shown_lines.SuggestionLine.{SuggestionLine}
-use Rattle.snippet_suggest.specs.OfferedRows.{row_shown}
+use Rattle.snippet_suggest.proofs.Common.{◌∙◌, ◌++◌, ap, map, List, SuggestionLine, row_shown}
 use Rattle.snippet_suggest.proofs.lines.draw_lines.Goals as goal
 
 pub returns : goal.returns

@@ -1,6 +1,4 @@
-use Rattle.std.proofs.Common.{sym}
-use Rattle.std.proofs.lemmas.List.{append-nil}
-use Rattle.snippet_suggest.specs.OfferedRows.{row_shown}
+use Rattle.snippet_suggest.proofs.Common.{sym, append-nil, row_shown}
 use Rattle.snippet_suggest.proofs.RowsDrawn.{drawn_next}
 use Rattle.snippet_suggest.proofs.lines.draw_shown.Goals as goal
 

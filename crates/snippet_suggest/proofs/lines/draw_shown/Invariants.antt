@@ -1,5 +1,4 @@
-use Rattle.std.proofs.Common.{◌≡◌, ◌++◌, map, take}
-use Rattle.snippet_suggest.specs.OfferedRows.{row_shown}
+use Rattle.snippet_suggest.proofs.Common.{◌≡◌, ◌++◌, map, take, row_shown}
 use Rattle.snippet_suggest.proofs.lines.draw_shown.Given as goal
 
 -- the lines before this one are drawn

@@ -1,9 +1,5 @@
-use Rattle.std.proofs.Common.{◌∙◌, ◌++◌, ◌∷◌, [], List, ap, chars}
-use Rattle.snippet_style.specs.Cell.{Cell}
-use Rattle.snippet_suggest.specs.Cells.{with_stretches}
-use Rattle.snippet_suggest.specs.OfferedRows.{opened_cells}
-use Rattle.std.proofs.lemmas.Result.{on_ok_weaker}
-use Rattle.snippet_style.specs.declared.role.ElementStyle.TheVariants.{Addition}
+use Rattle.snippet_suggest.proofs.Common.{◌∙◌, ◌++◌, ◌∷◌, [], List, ap, Cell, with_stretches, opened_cells, on_ok_weaker, Addition}
+use Rattle.std.proofs.Common.{chars}
 use Rattle.snippet_suggest.proofs.PutLemmas.{line_is, shown_is}
 use Rattle.snippet_suggest.proofs.lines.draw_text_line.Goals as goal
 

@@ -1,6 +1,4 @@
-use Rattle.std.proofs.Common.{◌≡◌, ◌++◌, map}
-use Rattle.snippet_lines.specs.Lines.{lines_of}
-use Rattle.snippet_splice.specs.Patched.{texts_of}
+use Rattle.snippet_suggest.proofs.Common.{◌≡◌, ◌++◌, map, lines_of, texts_of}
 use Rattle.snippet_suggest.proofs.lines.text_lines.Given as goal
 
 -- the lines so far, and those that are left, are all

@@ -1,7 +1,4 @@
-use Rattle.std.proofs.Common.{◌∙◌, ◌-◌, ◌+◌, ◌∷◌, [], ap, arith}
-use Rattle.snippet_style.specs.Cell.{unlinked_cell}
-use Rattle.snippet_grid.specs.Grid.{cells_written}
-use Rattle.snippet_style.specs.declared.role.ElementStyle.TheVariants.{Addition}
+use Rattle.snippet_suggest.proofs.Common.{◌∙◌, ◌-◌, ◌+◌, ◌∷◌, [], ap, arith, unlinked_cell, cells_written, Addition}
 use Rattle.snippet_suggest.proofs.MarksDrawn.{marks_begun, marks_done, marks_next}
 use Rattle.snippet_suggest.proofs.marks.draw_mark.Goals as goal
 

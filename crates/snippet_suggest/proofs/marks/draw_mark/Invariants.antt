@@ -1,7 +1,4 @@
-use Rattle.std.proofs.Common.{◌≡◌, ◌+◌, ◌-◌, ◌≤◌, ◌++◌, ◌∷◌, [], List, length, max, replicate}
-use Rattle.snippet_style.specs.declared.role.ElementStyle.TheVariants.{Addition}
-use Rattle.snippet_style.specs.Cell.{Cell}
-use Rattle.snippet_suggest.specs.Cells.{put}
+use Rattle.snippet_suggest.proofs.Common.{◌≡◌, ◌+◌, ◌-◌, ◌≤◌, ◌++◌, ◌∷◌, [], List, length, max, replicate, Addition, Cell, put}
 use Rattle.snippet_suggest.proofs.marks.draw_mark.Given as goal
 
 -- the row shows no line so far, and holds the marks before this column

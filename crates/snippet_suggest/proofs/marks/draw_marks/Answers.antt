@@ -1,11 +1,6 @@
-use Rattle.std.proofs.Common.{◌≡◌, ◌∙◌, ◌+◌, ◌<◌, ℕ, [], ◌∷◌, ◌++◌, List, ap, drop, get_or, length, map, refl, subst, sym, take}
-use Rattle.snippet_splice.specs.declared.patches.TrimmedPatch.{TrimmedPatch}
-use Rattle.snippet_splice.specs.Edits.{Edit}
-use Rattle.snippet_splice.specs.TrimmedEdits.{trimmed_edit_of}
-use Rattle.snippet_suggest.specs.declared.marks.PatchColumns.{PatchColumns}
-use Rattle.snippet_suggest.specs.Marks.{edit_columns, patch_mark_end, mark_start, with_marks}
-use Rattle.snippet_suggest.specs.Moves.{AreMoves}
-use Rattle.std.proofs.lemmas.List.{drop_all, drop_more, map-append, take_more}
+use Rattle.snippet_suggest.proofs.Common.{◌≡◌, ◌∙◌, ◌+◌, ◌<◌, ℕ, [], ◌∷◌, ◌++◌, List, ap, drop, get_or, length, map, refl}
+use Rattle.snippet_suggest.proofs.Common.{subst, sym, take, TrimmedPatch, Edit, trimmed_edit_of, PatchColumns, edit_columns, patch_mark_end, mark_start}
+use Rattle.snippet_suggest.proofs.Common.{with_marks, AreMoves, drop_all, drop_more, map-append, take_more}
 use Rattle.snippet_suggest.proofs.MarksDrawn.{marked_done, marked_next}
 use Rattle.snippet_suggest.proofs.marks.draw_marks.Goals as goal
 

@@ -1,8 +1,5 @@
-use Rattle.std.proofs.Common.{◌≡◌, ◌++◌, ◌∷◌, [], List, drop, length, map, take}
-use Rattle.snippet_style.specs.Cell.{Cell}
-use Rattle.snippet_splice.specs.TrimmedEdits.{trimmed_edit_of}
-use Rattle.snippet_suggest.specs.Marks.{edit_columns, with_marks}
-use Rattle.snippet_suggest.specs.Moves.{AreMoves}
+use Rattle.snippet_suggest.proofs.Common.{◌≡◌, ◌++◌, ◌∷◌, [], List, drop, length, map, take, Cell, trimmed_edit_of, edit_columns, with_marks}
+use Rattle.snippet_suggest.proofs.Common.{AreMoves}
 use Rattle.snippet_suggest.proofs.MarksDrawn.{Marked}
 use Rattle.snippet_suggest.proofs.marks.draw_marks.Given as goal
 

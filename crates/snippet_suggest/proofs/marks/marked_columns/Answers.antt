@@ -1,11 +1,6 @@
-use Rattle.std.proofs.Common.{◌≡◌, ◌∙◌, ◌+◌, ◌-◌, ℕ, List, ap, false, length, sym, true}
-use Rattle.std.proofs.lemmas.Bool.{cond-false, cond-true}
-use Rattle.std.specs.Str.{trim, trim_start}
-use Rattle.snippet_splice.specs.EditStretches.{capped}
-use Rattle.snippet_suggest.specs.Kind.{is_blank_text}
-use Rattle.snippet_suggest.specs.Marks.{inner_width, lead_of, left_of, patch_mark_end, mark_start, text_width}
-use Rattle.snippet_suggest.specs.Moves.{shift_of}
-use Rattle.snippet_suggest.specs.declared.marks.Shift.{Shift}
+use Rattle.snippet_suggest.proofs.Common.{◌≡◌, ◌∙◌, ◌+◌, ◌-◌, ℕ, List, ap, false, length, sym, true, cond-false, cond-true, trim, capped}
+use Rattle.snippet_suggest.proofs.Common.{is_blank_text, inner_width, lead_of, left_of, patch_mark_end, mark_start, text_width, shift_of, Shift}
+use Rattle.std.specs.Str.{trim_start}
 use Rattle.snippet_suggest.proofs.marks.marked_columns.Goals as goal
 use Rattle.snippet_suggest.proofs.marks.marked_columns.Goals.{then-is_blank, else-is_blank}
 

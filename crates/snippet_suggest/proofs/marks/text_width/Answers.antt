@@ -1,9 +1,4 @@
-use Rattle.std.proofs.Common.{◌∙◌, ap, sym}
-use Rattle.std.proofs.lemmas.Iterator.{YieldsList-from_chars}
-use Rattle.std.proofs.lemmas.Iterator.Consumers.{YieldsList-end}
-use Rattle.std.proofs.lemmas.List.{map-id}
-use Rattle.snippet_text.specs.Width.{width_of}
-use Rattle.snippet_splice.specs.EditStretches.{capped}
+use Rattle.snippet_suggest.proofs.Common.{◌∙◌, ap, sym, YieldsList-from_chars, YieldsList-end, map-id, width_of, capped}
 use Rattle.snippet_suggest.proofs.marks.text_width.Goals as goal
 
 pub returns : goal.returns

@@ -1,6 +1,4 @@
-use Rattle.std.proofs.Common.{◌≡◌}
-use Rattle.snippet_text.specs.Width.{width_of}
-use Rattle.snippet_splice.specs.EditStretches.{capped}
+use Rattle.snippet_suggest.proofs.Common.{◌≡◌, width_of, capped}
 use Rattle.snippet_suggest.proofs.marks.text_width.Given as goal
 
 -- the columns of the characters so far

@@ -1,9 +1,4 @@
-use Rattle.std.proofs.Common.{◌≡◌, ◌+◌, ◌∙◌, ℕ, map, ap, sym}
-use Rattle.snippet_lines.specs.Lines.{Source, source_lines}
-use Rattle.snippet_lines.specs.Place.{line_of}
-use Rattle.snippet_parts.proofs.MarkLemmas.{end-line}
-use Rattle.snippet_splice.specs.TrimmedEdits.{trimmed_edit_of}
-use Rattle.snippet_suggest.specs.Given.{first_end}
+use Rattle.snippet_suggest.proofs.Common.{◌≡◌, ◌+◌, ◌∙◌, ℕ, map, ap, sym, Source, source_lines, line_of, end-line, trimmed_edit_of, first_end}
 use Rattle.snippet_suggest.proofs.PreparedLemmas.{first_end-of}
 use Rattle.snippet_suggest.proofs.prepared.first_end_number.Goals as goal
 

@@ -1,8 +1,5 @@
-use Rattle.std.proofs.Common.{◌≡◌, ◌+◌, ◌∙◌, ℕ, Bool, ap, sym, if◌then◌else◌}
-use Rattle.snippet_lines.specs.Lines.{Source, source_lines}
-use Rattle.snippet_lines.specs.Place.{line_of}
-use Rattle.snippet_parts.proofs.MarkLemmas.{start-line}
-use Rattle.snippet_suggest.specs.PreparedSuggestion.{first_original}
+use Rattle.snippet_suggest.proofs.Common.{◌≡◌, ◌+◌, ◌∙◌, ℕ, Bool, ap, sym, if◌then◌else◌, Source, source_lines, line_of, start-line}
+use Rattle.snippet_suggest.proofs.Common.{first_original}
 use Rattle.snippet_suggest.proofs.PreparedLemmas.{first_original-of}
 use Rattle.snippet_suggest.proofs.prepared.first_number.Goals as goal
 

@@ -1,21 +1,7 @@
-use Rattle.std.proofs.Common.{◌≡◌, ◌≢◌, ◌∙◌, ℕ, List, [], map, ap, arith, subst}
-use Rattle.std.specs.Cow.{cow_str_bytes}
-use Rattle.std.specs.Str.{IsUtf8}
-use Rattle.std.specs.String.{string_bytes}
-use Rattle.snippet_model.specs.declared.snippet.Patch.{Patch}
-use Rattle.snippet_model.specs.declared.snippet.Snippet.{Snippet}
-use Rattle.snippet_lines.specs.Lines.{Source}
-use Rattle.snippet_lines.proofs.LinesLemmas.{length-source_lines}
-use Rattle.snippet_splice.specs.declared.patches.TrimmedPatch.{TrimmedPatch}
-use Rattle.snippet_splice.specs.Copied.{written_ranges}
-use Rattle.snippet_splice.specs.Edits.{Edit, edit_of, in_order, trimmed_edits}
-use Rattle.snippet_splice.specs.TrimmedEdits.{edit_bounds, original_bounds_of, trimmed_edit_of}
-use Rattle.snippet_splice.specs.Splice.{IsSplice}
-use Rattle.snippet_splice.specs.ShownText.{first_start, shown_start, shown_text}
-use Rattle.snippet_splice.specs.EditStretches.{new_stretches, replaced_stretches}
-use Rattle.snippet_suggest.specs.Given.{edits_of, given_ranges, given_text, shown_kind, trimmed_of}
-use Rattle.snippet_parts.specs.Numbered.{numbered_source}
-use Rattle.snippet_suggest.specs.Kind.{kind_of}
+use Rattle.snippet_suggest.proofs.Common.{◌≡◌, ◌≢◌, ◌∙◌, ℕ, List, [], map, ap, arith, subst, cow_str_bytes, IsUtf8, string_bytes, Patch}
+use Rattle.snippet_suggest.proofs.Common.{Snippet, Source, length-source_lines, TrimmedPatch, written_ranges, Edit, edit_of, in_order, trimmed_edits}
+use Rattle.snippet_suggest.proofs.Common.{edit_bounds, original_bounds_of, trimmed_edit_of, IsSplice, first_start, shown_start, shown_text, new_stretches}
+use Rattle.snippet_suggest.proofs.Common.{replaced_stretches, edits_of, given_ranges, given_text, shown_kind, trimmed_of, numbered_source, kind_of}
 use Rattle.snippet_suggest.proofs.PreparedLemmas.{counted-is, some_left}
 use Rattle.snippet_suggest.proofs.prepared.prepare_suggestion.Goals as goal
 

@@ -1,6 +1,4 @@
-use Rattle.std.proofs.Common.{◌++◌, arith}
-use Rattle.snippet_grid.specs.Grid.{row_at}
-use Rattle.snippet_suggest.specs.RemovedRows.{numbered_at}
+use Rattle.snippet_suggest.proofs.Common.{◌++◌, arith, row_at, numbered_at}
 use Rattle.snippet_suggest.proofs.RowsDrawn.{emptied_begun, emptied_done, emptied_next, numbered_all}
 use Rattle.snippet_suggest.proofs.removed.draw_removed_lines.Goals as goal
 

@@ -1,7 +1,4 @@
-use Rattle.std.proofs.Common.{◌≡◌, ◌<◌, ◌^◌, ◌≤◌, ◌++◌, List, length}
-use Rattle.snippet_style.specs.Cell.{Cell}
-use Rattle.snippet_grid.specs.Grid.{row_at}
-use Rattle.snippet_suggest.specs.RemovedRows.{numbered_at}
+use Rattle.snippet_suggest.proofs.Common.{◌≡◌, ◌<◌, ◌^◌, ◌≤◌, ◌++◌, List, length, Cell, row_at, numbered_at}
 use Rattle.snippet_suggest.proofs.RowsDrawn.{Emptied}
 use Rattle.snippet_suggest.proofs.removed.draw_removed_lines.Given as goal
 

@@ -1,5 +1,4 @@
-use Rattle.std.proofs.Common.{drop, length}
-use Rattle.snippet_suggest.specs.InOrder.{AreInOrder}
+use Rattle.snippet_suggest.proofs.Common.{drop, length, AreInOrder}
 use Rattle.snippet_suggest.proofs.roles.are_in_order.Given as goal
 
 -- if those that are left are in order from here on, all are

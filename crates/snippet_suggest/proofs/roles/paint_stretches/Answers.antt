@@ -1,10 +1,6 @@
-use Rattle.std.proofs.Common.{◌≡◌, ◌∙◌, ◌==◌, ◌++◌, ◌∷◌, ℕ, [], List, ap, chars, count_by, get_or, subst, sym, take}
-use Rattle.std.proofs.lemmas.List.{take_all}
-use Rattle.snippet_splice.specs.declared.stretches.SubstitutionHighlight.{SubstitutionHighlight}
-use Rattle.snippet_splice.specs.EditStretches.{capped}
-use Rattle.snippet_suggest.specs.declared.roles.TabCursor.{TabCursor}
-use Rattle.snippet_suggest.specs.Cells.{stretch_cell, with_stretches}
-use Rattle.snippet_suggest.specs.Cursor.{IsCursor}
+use Rattle.snippet_suggest.proofs.Common.{◌≡◌, ◌∙◌, ◌==◌, ◌++◌, ◌∷◌, ℕ, [], List, ap, count_by, get_or, subst, sym, take, take_all}
+use Rattle.snippet_suggest.proofs.Common.{SubstitutionHighlight, capped, TabCursor, stretch_cell, with_stretches, IsCursor}
+use Rattle.std.proofs.Common.{chars}
 use Rattle.snippet_suggest.proofs.StretchRows.{painted_begun, painted_next, passed_next}
 use Rattle.snippet_suggest.proofs.roles.paint_stretches.Goals as goal
 use Rattle.snippet_suggest.proofs.roles.paint_stretches.Goals.{then-stretch+in_ok-set_style_range, else-stretch}

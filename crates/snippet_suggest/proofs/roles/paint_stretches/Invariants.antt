@@ -1,7 +1,5 @@
-use Rattle.std.proofs.Common.{◌≡◌, ◌++◌, ◌∷◌, [], List, chars, length, take}
-use Rattle.snippet_style.specs.Cell.{Cell}
-use Rattle.snippet_suggest.specs.Cells.{with_stretches}
-use Rattle.snippet_suggest.specs.Cursor.{IsCursor}
+use Rattle.snippet_suggest.proofs.Common.{◌≡◌, ◌++◌, ◌∷◌, [], List, length, take, Cell, with_stretches, IsCursor}
+use Rattle.std.proofs.Common.{chars}
 use Rattle.snippet_suggest.proofs.roles.paint_stretches.Given as goal
 
 -- the row is painted so far, with the stretches before this one, and the walk goes on in the line

@@ -1,10 +1,6 @@
-use Rattle.std.proofs.Common.{◌≡◌, ◌∙◌, ◌+◌, ◌-◌, ◌++◌, ◌∷◌, ℕ, [], List, ap, arith, chars, drop, get_or, length, take}
-use Rattle.snippet_grid.specs.Grid.{cells_written}
-use Rattle.snippet_style.specs.Cell.{text_cells}
-use Rattle.snippet_style.specs.declared.role.ElementStyle.TheVariants.{NoStyle}
-use Rattle.snippet_style.proofs.CellLemmas.{length-chars_le}
-use Rattle.snippet_splice.specs.declared.stretches.SubstitutionHighlight.{SubstitutionHighlight}
-use Rattle.snippet_suggest.specs.Cells.{put}
+use Rattle.snippet_suggest.proofs.Common.{◌≡◌, ◌∙◌, ◌+◌, ◌-◌, ◌++◌, ◌∷◌, ℕ, [], List, ap, arith, drop, get_or, length, take}
+use Rattle.snippet_suggest.proofs.Common.{cells_written, text_cells, NoStyle, length-chars_le, SubstitutionHighlight, put}
+use Rattle.std.proofs.Common.{chars}
 use Rattle.snippet_suggest.proofs.PartRows.{next_in_order, plain_border, plain_part, plain_rest, put_all, put_none_yet, put_one_more}
 use Rattle.snippet_suggest.proofs.PutLemmas.{put_more}
 use Rattle.snippet_suggest.proofs.roles.put_stretches.Goals as goal

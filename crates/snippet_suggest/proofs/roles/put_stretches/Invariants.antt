@@ -1,6 +1,4 @@
-use Rattle.std.proofs.Common.{◌≡◌, ◌≤◌, ◌++◌, ◌∷◌, [], List, drop, length, take}
-use Rattle.snippet_style.specs.Cell.{Cell}
-use Rattle.snippet_suggest.specs.InOrder.{AreInOrder}
+use Rattle.snippet_suggest.proofs.Common.{◌≡◌, ◌≤◌, ◌++◌, ◌∷◌, [], List, drop, length, take, Cell, AreInOrder}
 use Rattle.snippet_suggest.proofs.PartRows.{ArePut}
 use Rattle.snippet_suggest.proofs.roles.put_stretches.Given as goal
 

@@ -1,11 +1,6 @@
-use Rattle.std.proofs.Common.{◌≡◌, ◌∙◌, ◌+◌, ◌≤◌, arith, ap, length, chars}
-use Rattle.snippet_grid.specs.Grid.{cells_written}
-use Rattle.snippet_grid.specs.Layout.{Layout}
-use Rattle.snippet_style.specs.Cell.{text_cells}
-use Rattle.snippet_lines.specs.Number.{shown_number}
-use Rattle.snippet_lines.proofs.NumberLemmas.{chars-shown_number}
-use Rattle.snippet_style.specs.Glyphs.{suggestion_glyph_of}
-use Rattle.snippet_style.proofs.CellLemmas.{length-chars_le}
+use Rattle.snippet_suggest.proofs.Common.{◌≡◌, ◌∙◌, ◌+◌, ◌≤◌, arith, ap, length, cells_written, Layout, text_cells, shown_number}
+use Rattle.snippet_suggest.proofs.Common.{chars-shown_number, suggestion_glyph_of, length-chars_le}
+use Rattle.std.proofs.Common.{chars}
 use Rattle.snippet_suggest.proofs.PutLemmas.{begun_in_order, begun_over}
 use Rattle.snippet_suggest.proofs.row.begin_line.Goals as goal
 

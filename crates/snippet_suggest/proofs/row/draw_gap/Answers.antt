@@ -1,7 +1,4 @@
-use Rattle.std.proofs.Common.{ℕ, ◌-◌, ◌∙◌, ap}
-use Rattle.snippet_grid.specs.Layout.{Layout}
-use Rattle.snippet_style.specs.Glyphs.{placeholder_of}
-use Rattle.snippet_text.specs.Width.{width_of}
+use Rattle.snippet_suggest.proofs.Common.{ℕ, ◌-◌, ◌∙◌, ap, Layout, placeholder_of, width_of}
 use Rattle.snippet_suggest.proofs.PutLemmas.{gap_drawn}
 use Rattle.snippet_suggest.proofs.row.draw_gap.Goals as goal
 

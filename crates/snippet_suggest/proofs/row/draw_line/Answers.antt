@@ -1,9 +1,5 @@
-use Rattle.std.proofs.Common.{◌≡◌, ◌<◌, ◌∙◌, arith, ap, length, chars}
-use Rattle.snippet_grid.specs.Grid.{cells_written}
-use Rattle.snippet_style.specs.Cell.{text_cells}
-use Rattle.snippet_style.specs.declared.role.ElementStyle.TheVariants.{NoStyle}
-use Rattle.snippet_text.specs.Normalized.{norm}
-use Rattle.snippet_style.proofs.CellLemmas.{length-chars_le}
+use Rattle.snippet_suggest.proofs.Common.{◌≡◌, ◌<◌, ◌∙◌, arith, ap, length, cells_written, text_cells, NoStyle, norm, length-chars_le}
+use Rattle.std.proofs.Common.{chars}
 use Rattle.snippet_suggest.proofs.PutLemmas.{line_drawn}
 use Rattle.snippet_suggest.proofs.row.draw_line.Goals as goal
 

@@ -1,14 +1,7 @@
-use Rattle.std.proofs.Common.{◌≡◌, ◌<◌, ◌∙◌, arith, ap, chars, length}
-use Rattle.snippet_grid.specs.Grid.{cells_written}
-use Rattle.snippet_grid.specs.Layout.{Layout}
-use Rattle.snippet_style.specs.Cell.{text_cells}
-use Rattle.snippet_style.specs.declared.role.ElementStyle.TheVariants.{Removal}
-use Rattle.snippet_text.specs.Normalized.{norm}
-use Rattle.snippet_lines.specs.Number.{shown_number}
+use Rattle.snippet_suggest.proofs.Common.{◌≡◌, ◌<◌, ◌∙◌, arith, ap, length, cells_written, Layout, text_cells, Removal, norm, shown_number}
+use Rattle.snippet_suggest.proofs.Common.{chars-shown_number, removed_sign_of, length-chars_le}
+use Rattle.std.proofs.Common.{chars}
 use Rattle.snippet_suggest.proofs.GlyphLemmas.{removed_sign_short}
-use Rattle.snippet_lines.proofs.NumberLemmas.{chars-shown_number}
-use Rattle.snippet_style.specs.Glyphs.{removed_sign_of}
-use Rattle.snippet_style.proofs.CellLemmas.{length-chars_le}
 use Rattle.snippet_suggest.proofs.PutLemmas.{removed_drawn}
 use Rattle.snippet_suggest.proofs.row.draw_removed_line.Goals as goal
 

@@ -1,4 +1,4 @@
-use Rattle.std.proofs.Common.{◌≡◌, ◌++◌}
+use Rattle.snippet_suggest.proofs.Common.{◌≡◌, ◌++◌}
 use Rattle.snippet_suggest.proofs.shown_lines.push_run.Given as goal
 use Rattle.snippet_suggest.proofs.ShownLemmas.{run_of}
 

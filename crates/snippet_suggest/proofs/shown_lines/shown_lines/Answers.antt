@@ -1,7 +1,6 @@
-use Rattle.std.proofs.Common.{◌≡◌, ◌+◌, ◌<◌, ◌∙◌, false, length, get_or, sym, subst, arith, ℕ, Vec, Global}
-use Rattle.std.proofs.lemmas.List.{get_or_default}
-use Rattle.snippet_suggest.specs.declared.shown_lines.SuggestionLine.{SuggestionLine}
-use Rattle.snippet_suggest.specs.SuggestedLines.{is_touched, shown_from}
+use Rattle.snippet_suggest.proofs.Common.{◌≡◌, ◌+◌, ◌<◌, ◌∙◌, false, length, get_or, sym, subst, arith, ℕ, Vec, get_or_default}
+use Rattle.snippet_suggest.proofs.Common.{SuggestionLine, is_touched, shown_from}
+use Rattle.std.proofs.Common.{Global}
 use Rattle.snippet_suggest.proofs.RisingLemmas.{shown_all}
 use Rattle.snippet_suggest.proofs.ShownLemmas.{touched_step, untouched_step}
 use Rattle.snippet_suggest.proofs.shown_lines.shown_lines.Invariants.{Shows}

@@ -1,6 +1,4 @@
-use Rattle.std.proofs.Common.{◌≡◌, ◌++◌, ◌-◌, ◌≤◌, ℕ, Bool, List}
-use Rattle.snippet_suggest.specs.declared.shown_lines.SuggestionLine.{SuggestionLine}
-use Rattle.snippet_suggest.specs.SuggestedLines.{is_touched, shown_from}
+use Rattle.snippet_suggest.proofs.Common.{◌≡◌, ◌++◌, ◌-◌, ◌≤◌, ℕ, Bool, List, SuggestionLine, is_touched, shown_from}
 use Rattle.snippet_suggest.proofs.shown_lines.shown_lines.Given as goal
 
 -- what is shown so far, and what is still to come, is all

@@ -1,5 +1,4 @@
-use Rattle.std.proofs.Common.{◌≡◌, ◌<◌, ◌≤◌, ◌∙◌, ℕ, ltb, leb, ◌&&◌, ◌||◌, false, get_or, ap, arith}
-use Rattle.std.proofs.lemmas.Bool.Decides.{nat_tests}
+use Rattle.snippet_suggest.proofs.Common.{◌≡◌, ◌<◌, ◌≤◌, ◌∙◌, ℕ, ltb, leb, ◌&&◌, ◌||◌, false, get_or, ap, arith, nat_tests}
 use Rattle.snippet_suggest.proofs.shown_lines.touch_range.Goals as goal
 
 -- the lines of a range that the loop has passed are all of it

@@ -1,4 +1,4 @@
-use Rattle.std.proofs.Common.{◌≡◌, ◌<◌, ℕ, leb, ltb, false, ◌&&◌, ◌||◌, length, get_or}
+use Rattle.snippet_suggest.proofs.Common.{◌≡◌, ◌<◌, ℕ, leb, ltb, false, ◌&&◌, ◌||◌, length, get_or}
 use Rattle.snippet_suggest.proofs.shown_lines.touch_range.Given as goal
 
 -- the lines so far are marked, and the others are as they were

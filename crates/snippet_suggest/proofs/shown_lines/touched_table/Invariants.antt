@@ -1,6 +1,4 @@
-use Rattle.std.proofs.Common.{◌≡◌, ◌<◌, ℕ, Bool, false, List, length, take, get_or}
-use Rattle.snippet_splice.specs.declared.splice.LineRange.{LineRange}
-use Rattle.snippet_suggest.specs.SuggestedLines.{is_touched}
+use Rattle.snippet_suggest.proofs.Common.{◌≡◌, ◌<◌, ℕ, Bool, false, List, length, take, get_or, LineRange, is_touched}
 use Rattle.snippet_suggest.proofs.shown_lines.touched_table.Given as goal
 
 -- the lines of the ranges so far are marked

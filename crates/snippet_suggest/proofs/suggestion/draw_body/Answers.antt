@@ -1,26 +1,9 @@
 use denote.Enum.Bare.{same_true, true_same}
-use Rattle.std.proofs.Common.{◌≡◌, ◌≢◌, ℕ, ◌+◌, ◌<◌, ◌∷◌, ◌++◌, ◌∙◌, [], All, List, ap, append_assoc, if◌then◌else◌, length, map, rules}
-use Rattle.std.proofs.Common.{subst, sym}
-use Rattle.std.proofs.lemmas.List.{append-nil, length-map}
-use Rattle.snippet_grid.specs.Grid.{row_at}
-use Rattle.snippet_style.specs.Cell.{Cell}
-use Rattle.snippet_splice.specs.declared.stretches.SubstitutionHighlight.{SubstitutionHighlight}
-use Rattle.snippet_splice.specs.StretchLines.{line_stretches}
-use Rattle.snippet_suggest.specs.declared.kind.DisplaySuggestion.{DisplaySuggestion}
-use Rattle.snippet_suggest.specs.Cells.{begin_cells}
-use Rattle.snippet_suggest.specs.Suggested.{new_on}
+use Rattle.snippet_suggest.proofs.Common.{◌≡◌, ◌≢◌, ℕ, ◌+◌, ◌<◌, ◌∷◌, ◌++◌, ◌∙◌, [], All, List, ap, append_assoc}
+use Rattle.snippet_suggest.proofs.Common.{if◌then◌else◌, length, map, rules, subst, sym, append-nil, length-map, row_at, Cell, SubstitutionHighlight}
+use Rattle.snippet_suggest.proofs.Common.{line_stretches, DisplaySuggestion, begin_cells, new_on, source_lines, line_of, IsSpan, TrimmedPatch, the_type, Diff}
+use Rattle.snippet_suggest.proofs.Common.{LineRange, first_given, given_lines, given_ranges, shown_kind, first_original, suggestion_row, is_touched, shown_from}
 use Rattle.snippet_suggest.proofs.SuggestedRows.{body_shown, rows_of_same_stretches}
-use Rattle.snippet_lines.specs.Lines.{source_lines}
-use Rattle.snippet_lines.specs.Place.{line_of}
-use Rattle.snippet_lines.specs.IsSpan.{IsSpan}
-use Rattle.snippet_splice.specs.declared.patches.TrimmedPatch.{TrimmedPatch}
-use Rattle.snippet_suggest.specs.contracts.kind.DisplaySuggestion.{the_type}
-use Rattle.snippet_suggest.specs.declared.kind.DisplaySuggestion.TheVariants.{Diff}
-use Rattle.snippet_splice.specs.declared.splice.LineRange.{LineRange}
-use Rattle.snippet_suggest.specs.Given.{first_given, given_lines, given_ranges, shown_kind}
-use Rattle.snippet_suggest.specs.PreparedSuggestion.{first_original}
-use Rattle.snippet_suggest.specs.OfferedRows.{suggestion_row}
-use Rattle.snippet_suggest.specs.SuggestedLines.{is_touched, shown_from}
 use Rattle.snippet_suggest.proofs.KnownLemmas.{known_first, known_originals, known_some}
 use Rattle.snippet_suggest.proofs.KnownNumbers.{known_one, lines_none, lines_some}
 use Rattle.snippet_suggest.proofs.OrderLaws.{rows_others}

@@ -1,21 +1,9 @@
-use Rattle.std.proofs.Common.{◌≡◌, ℕ, append_assoc, ◌<◌, ◌∷◌, ◌++◌, ◌∙◌, [], All, List, false, ap, length, map, refl, subst, sym}
-use Rattle.snippet_splice.specs.ShownText.{first_start}
-use Rattle.snippet_lines.specs.IsSpan.{IsSpan}
-use Rattle.snippet_parts.specs.declared.source_map.LineInfo.{LineInfo}
-use Rattle.snippet_splice.specs.declared.patches.TrimmedPatch.{TrimmedPatch}
-use Rattle.snippet_splice.specs.Copied.{end_from}
-use Rattle.snippet_suggest.specs.declared.kind.DisplaySuggestion.TheVariants.{Diff}
-use Rattle.snippet_style.specs.Cell.{Cell}
-use Rattle.std.proofs.lemmas.List.{append-nil}
-use Rattle.snippet_splice.specs.StretchLines.{line_stretches}
-use Rattle.snippet_splice.specs.TrimmedEdits.{AreApart, trimmed_edit_of}
-use Rattle.snippet_suggest.specs.Cells.{begin_cells}
-use Rattle.snippet_suggest.specs.RemovedRows.{diff_cells}
-use Rattle.snippet_suggest.specs.Suggested.{new_on, suggested_stretches}
+use Rattle.snippet_suggest.proofs.Common.{◌≡◌, ℕ, append_assoc, ◌<◌, ◌∷◌, ◌++◌, ◌∙◌, [], All, List, false, ap, length, map, refl}
+use Rattle.snippet_suggest.proofs.Common.{subst, sym, first_start, IsSpan, LineInfo, TrimmedPatch, end_from, Diff, Cell, append-nil, line_stretches, AreApart}
+use Rattle.snippet_suggest.proofs.Common.{trimmed_edit_of, begin_cells, diff_cells, new_on, suggested_stretches, shown_kind, given_ranges, is_left_out}
+use Rattle.snippet_suggest.proofs.Common.{last_reached, is_touched}
 use Rattle.snippet_suggest.proofs.KnownDiff.{IsDiff, known_diff, known_diff_rows}
 use Rattle.snippet_suggest.proofs.SuggestedRows.{body_diff, body_untouched}
-use Rattle.snippet_suggest.specs.Given.{shown_kind, given_ranges, is_left_out, last_reached}
-use Rattle.snippet_suggest.specs.SuggestedLines.{is_touched}
 use Rattle.snippet_suggest.proofs.KnownLemmas.{known_apart, known_some, known_spans}
 use Rattle.snippet_suggest.proofs.OrderLaws.{rows_diff}
 use Rattle.snippet_suggest.proofs.ReachLemmas.{touched_some}

@@ -1,23 +1,9 @@
 use denote.Enum.Bare.{same_true, true_same}
-use Rattle.std.proofs.Common.{◌≡◌, ◌≢◌, ℕ, ◌<◌, ◌≤◌, ◌∷◌, ◌++◌, ◌∙◌, All, [], List, ap, append_assoc, arith, if◌then◌else◌, length, map}
-use Rattle.std.proofs.Common.{rules, subst, sym}
-use Rattle.std.proofs.lemmas.List.{append-nil, length-append}
-use Rattle.snippet_grid.specs.Grid.{row_at}
-use Rattle.snippet_style.specs.Cell.{Cell}
-use Rattle.snippet_suggest.specs.Cells.{begin_cells}
+use Rattle.snippet_suggest.proofs.Common.{◌≡◌, ◌≢◌, ℕ, ◌<◌, ◌≤◌, ◌∷◌, ◌++◌, ◌∙◌, All, [], List, ap, append_assoc, arith}
+use Rattle.snippet_suggest.proofs.Common.{if◌then◌else◌, length, map, rules, subst, sym, append-nil, length-append, row_at, Cell, begin_cells}
+use Rattle.snippet_suggest.proofs.Common.{on_ok_weaker, source_lines, line_of, IsSpan, TrimmedPatch, LineInfo, the_type, Diff, removed_lines, Begins}
+use Rattle.snippet_suggest.proofs.Common.{first_original, first_original_end, emptied_cells, numbered_at, removed_from}
 use Rattle.snippet_suggest.proofs.SuggestedRows.{body_emptied, body_emptied_diff, shared_few}
-use Rattle.std.proofs.lemmas.Result.{on_ok_weaker}
-use Rattle.snippet_lines.specs.Lines.{source_lines}
-use Rattle.snippet_lines.specs.Place.{line_of}
-use Rattle.snippet_lines.specs.IsSpan.{IsSpan}
-use Rattle.snippet_splice.specs.declared.patches.TrimmedPatch.{TrimmedPatch}
-use Rattle.snippet_parts.specs.declared.source_map.LineInfo.{LineInfo}
-use Rattle.snippet_suggest.specs.contracts.kind.DisplaySuggestion.{the_type}
-use Rattle.snippet_suggest.specs.declared.kind.DisplaySuggestion.TheVariants.{Diff}
-use Rattle.snippet_suggest.specs.Given.{removed_lines}
-use Rattle.snippet_suggest.specs.RowOrder.{Begins}
-use Rattle.snippet_suggest.specs.PreparedSuggestion.{first_original, first_original_end}
-use Rattle.snippet_suggest.specs.RemovedRows.{emptied_cells, numbered_at, removed_from}
 use Rattle.snippet_suggest.proofs.KnownLemmas.{known_originals, known_some}
 use Rattle.snippet_suggest.proofs.KnownRemoved.{known_emptied_rows}
 use Rattle.snippet_suggest.proofs.OrderLaws.{rows_none, rows_none_diff, removed_row}

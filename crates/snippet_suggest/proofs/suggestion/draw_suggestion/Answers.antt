@@ -1,20 +1,8 @@
 use denote.Enum.Bare.{same_true, true_same}
-use Rattle.std.proofs.Common.{◌≡◌, ◌≢◌, ◌∙◌, ℕ, ◌++◌, ◌∷◌, [], All, List, ap, map, replicate, rules, subst, sym}
-use Rattle.std.proofs.Common.{◌+◌, arith, length}
-use Rattle.std.proofs.lemmas.List.{length-append, length-replicate}
-use Rattle.snippet_splice.specs.TrimmedEdits.{trimmed_edit_of}
-use Rattle.snippet_suggest.specs.contracts.kind.DisplaySuggestion.{the_type}
-use Rattle.snippet_suggest.specs.declared.kind.DisplaySuggestion.TheVariants.{Underline}
-use Rattle.snippet_suggest.specs.Given.{shown_kind, trimmed_of}
-use Rattle.snippet_suggest.specs.Marks.{with_marks}
-use Rattle.snippet_grid.specs.Grid.{row_at}
-use Rattle.snippet_suggest.specs.Cells.{end_cells}
-use Rattle.snippet_suggest.specs.RowOrder.{Ends}
-use Rattle.snippet_suggest.specs.Suggested.{suggested_cells}
+use Rattle.snippet_suggest.proofs.Common.{◌≡◌, ◌≢◌, ◌∙◌, ℕ, ◌++◌, ◌∷◌, [], All, List, ap, map, replicate, rules, subst, sym}
+use Rattle.snippet_suggest.proofs.Common.{◌+◌, arith, length, length-append, length-replicate, trimmed_edit_of, the_type, Underline, shown_kind, trimmed_of}
+use Rattle.snippet_suggest.proofs.Common.{with_marks, row_at, end_cells, Ends, suggested_cells, IsSpan, Cell, TrimmedPatch}
 use Rattle.snippet_suggest.proofs.SuggestedRows.{ends_marked, ends_plain, suggestion_is}
-use Rattle.snippet_lines.specs.IsSpan.{IsSpan}
-use Rattle.snippet_style.specs.Cell.{Cell}
-use Rattle.snippet_splice.specs.declared.patches.TrimmedPatch.{TrimmedPatch}
 use Rattle.snippet_suggest.proofs.KnownLemmas.{known_spans}
 use Rattle.snippet_suggest.proofs.suggestion.draw_suggestion.Goals as goal
 use Rattle.snippet_suggest.proofs.suggestion.draw_suggestion.Goals.{then-eq+in_ok-draw_marks, else-eq}

@@ -1,4 +1,4 @@
-use Rattle.std.proofs.Common.{◌-◌, ◌∙◌, arith, length}
+use Rattle.snippet_suggest.proofs.Common.{◌-◌, ◌∙◌, arith, length}
 use Rattle.snippet_suggest.proofs.ReachLemmas.{first_begin, last_end, least_begin, only_end}
 use Rattle.snippet_suggest.proofs.SpanLemmas.{joined_span, whole_span}
 use Rattle.snippet_suggest.proofs.suggestion.trimmed_span.Goals as goal

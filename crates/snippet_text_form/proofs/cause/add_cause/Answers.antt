@@ -1,10 +1,4 @@
-use Rattle.std.proofs.Common.{All, List, sym, ap, subst, ◌∙◌, map}
-use Rattle.std.proofs.lemmas.Result.{on_ok_weaker}
-use Rattle.std.specs.Option.{option_copied}
-use Rattle.snippet_lines.specs.IsSpan.{IsSpan}
-use Rattle.snippet_model.specs.declared.snippet.Annotation.{Annotation}
-use Rattle.snippet_text_form.specs.Cause.{named_spans}
-use Rattle.snippet_text_form.specs.declared.cause.NamedSpan.{NamedSpan}
+use Rattle.snippet_text_form.proofs.Common.{All, List, sym, ap, subst, ◌∙◌, map, on_ok_weaker, option_copied, IsSpan, Annotation, named_spans, NamedSpan}
 use Rattle.snippet_text_form.proofs.CauseLemmas.{annotation_of, All-annotations, All-named_spans, cause-added}
 use Rattle.snippet_text_form.proofs.cause.add_cause.Goals as goal
 

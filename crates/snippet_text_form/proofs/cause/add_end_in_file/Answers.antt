@@ -1,10 +1,6 @@
-use Rattle.std.proofs.Common.{◌+◌, ℕ, eqb, codes, List, [], ◌++◌, sym, ap, ◌∙◌}
-use Rattle.std.proofs.lemmas.Bool.{cond-false, ne_eqb}
-use Rattle.std.proofs.lemmas.Result.{on_ok_weaker}
-use Rattle.std.specs.Fmt.{decimal}
+use Rattle.snippet_text_form.proofs.Common.{◌+◌, ℕ, eqb, codes, List, [], ◌++◌, sym, ap, ◌∙◌, cond-false, ne_eqb, on_ok_weaker, decimal}
+use Rattle.snippet_text_form.proofs.Common.{line_name, bare}
 use Rattle.std.specs.Str.{chars}
-use Rattle.snippet_titles.specs.Origin.{line_name}
-use Rattle.snippet_text_form.specs.Form.{bare}
 use Rattle.snippet_text_form.proofs.CauseLemmas.{bare-four}
 use Rattle.snippet_text_form.proofs.cause.add_end_in_file.Goals as goal
 

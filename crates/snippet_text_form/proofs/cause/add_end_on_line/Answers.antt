@@ -1,10 +1,5 @@
-use Rattle.std.proofs.Common.{eqb, Bool, List, ℕ, [], ◌++◌, sym, ap, ◌∙◌}
-use Rattle.std.proofs.lemmas.Bool.{cond-false, ne_eqb}
-use Rattle.std.proofs.lemmas.Result.{on_ok_weaker}
-use Rattle.snippet_lines.specs.Lines.{line_at}
-use Rattle.snippet_text_form.specs.Cause.{column_unless, is_blank_after}
-use Rattle.snippet_text_form.specs.Form.{bare}
-use Rattle.snippet_text_form.specs.Position.{to_line}
+use Rattle.snippet_text_form.proofs.Common.{eqb, Bool, List, ℕ, [], ◌++◌, sym, ap, ◌∙◌, cond-false, ne_eqb, on_ok_weaker, line_at, column_unless}
+use Rattle.snippet_text_form.proofs.Common.{is_blank_after, bare, to_line}
 use Rattle.snippet_text_form.proofs.cause.add_end_on_line.Goals as goal
 
 pub returns : goal.returns

@@ -1,5 +1,5 @@
-use Rattle.std.proofs.Common.{None, chars, length, ltb, refl, sym, ap, ◌∙◌}
-use Rattle.snippet_text_form.specs.Cause.{span_form}
+use Rattle.snippet_text_form.proofs.Common.{None, length, ltb, refl, sym, ap, ◌∙◌, span_form}
+use Rattle.std.proofs.Common.{chars}
 use Rattle.snippet_text_form.proofs.CauseLemmas.{further-none, further-one}
 use Rattle.snippet_text_form.proofs.cause.add_further_span.Goals as goal
 

@@ -1,7 +1,5 @@
-use Rattle.std.proofs.Common.{length, ltb, ◌++◌, sym, ap, ◌∙◌}
-use Rattle.std.specs.Option.{option_copied}
+use Rattle.snippet_text_form.proofs.Common.{length, ltb, ◌++◌, sym, ap, ◌∙◌, option_copied, bare}
 use Rattle.std.specs.Str.{chars}
-use Rattle.snippet_text_form.specs.Form.{bare}
 use Rattle.snippet_text_form.proofs.CauseLemmas.{span-labelled, span-plain}
 use Rattle.snippet_text_form.proofs.cause.add_span.Goals as goal
 

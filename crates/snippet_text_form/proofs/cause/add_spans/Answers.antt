@@ -1,11 +1,5 @@
-use Rattle.std.proofs.Common.{All, sym, subst}
-use Rattle.std.proofs.lemmas.List.{nil_from_length, take_all}
-use Rattle.std.proofs.lemmas.List.Elements.{All-tail}
-use Rattle.std.proofs.lemmas.Result.{on_ok_weaker}
-use Rattle.std.specs.Option.{option_copied}
+use Rattle.snippet_text_form.proofs.Common.{All, sym, subst, nil_from_length, take_all, All-tail, on_ok_weaker, option_copied, IsSpan, NamedSpan}
 use Rattle.std.specs.Str.{chars}
-use Rattle.snippet_lines.specs.IsSpan.{IsSpan}
-use Rattle.snippet_text_form.specs.declared.cause.NamedSpan.{NamedSpan}
 use Rattle.snippet_text_form.proofs.CauseLemmas.{no_span-added, spans-added}
 use Rattle.snippet_text_form.proofs.cause.add_spans.Goals as goal
 

@@ -1,7 +1,6 @@
 -- Of the further spans so far those with a label stand after the first; spans are looked for in the source.
-use Rattle.std.proofs.Common.{◌≡◌, ◌++◌, None, filter, map, take, chars}
-use Rattle.std.specs.List.{flat_map}
-use Rattle.snippet_text_form.specs.Cause.{is_labelled, span_form}
+use Rattle.snippet_text_form.proofs.Common.{◌≡◌, ◌++◌, None, filter, map, take, flat_map, is_labelled, span_form}
+use Rattle.std.proofs.Common.{chars}
 use Rattle.snippet_text_form.proofs.CauseLemmas.{annotation_of}
 use Rattle.snippet_text_form.proofs.cause.add_spans.Given as goal
 

@@ -1,6 +1,4 @@
-use Rattle.std.proofs.Common.{sym, ap, ◌∙◌}
-use Rattle.std.specs.Option.{option_copied}
-use Rattle.snippet_text_form.specs.Cause.{further_indent}
+use Rattle.snippet_text_form.proofs.Common.{sym, ap, ◌∙◌, option_copied, further_indent}
 use Rattle.snippet_text_form.proofs.CauseLemmas.{two-spaces}
 use Rattle.snippet_text_form.proofs.TextLemmas.{chars-space}
 use Rattle.snippet_text_form.proofs.cause.further_indent.Goals as goal

@@ -1,8 +1,4 @@
-use Rattle.std.proofs.Common.{sym, ap, ◌∙◌}
-use Rattle.std.proofs.lemmas.Str.{chars-nil}
-use Rattle.std.specs.Cow.{cow_str_bytes}
-use Rattle.std.specs.Option.{option_map}
-use Rattle.snippet_text.specs.Normalized.{normalized_chars}
+use Rattle.snippet_text_form.proofs.Common.{sym, ap, ◌∙◌, chars-nil, cow_str_bytes, option_map, normalized_chars}
 use Rattle.snippet_text_form.proofs.cause.label_of.Goals as goal
 
 pub returns-in-None : goal.returns-in-None

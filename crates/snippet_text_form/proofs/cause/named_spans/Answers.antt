@@ -1,7 +1,4 @@
-use Rattle.std.proofs.Common.{◌≡◌, filter, map, ap, ◌∙◌, arith, rules}
-use Rattle.std.proofs.lemmas.List.{take_all}
-use Rattle.std.proofs.lemmas.List.Sorted.{answers_always}
-use Rattle.snippet_parts.specs.Mark.{is_marking}
+use Rattle.snippet_text_form.proofs.Common.{◌≡◌, filter, map, ap, ◌∙◌, arith, rules, take_all, answers_always, is_marking}
 use Rattle.snippet_text_form.proofs.CauseLemmas.{annotation_of, compare-tells, named_spans-is, span_before, span_before-order}
 use Rattle.snippet_text_form.proofs.cause.named_spans.Goals as goal
 

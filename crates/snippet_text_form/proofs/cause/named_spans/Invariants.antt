@@ -1,6 +1,5 @@
 -- The spans so far are those that are marked.
-use Rattle.std.proofs.Common.{◌≡◌, filter, map, take}
-use Rattle.snippet_parts.specs.Mark.{is_marking}
+use Rattle.snippet_text_form.proofs.Common.{◌≡◌, filter, map, take, is_marking}
 use Rattle.snippet_text_form.proofs.CauseLemmas.{annotation_of}
 use Rattle.snippet_text_form.proofs.cause.named_spans.Given as goal
 

@@ -1,8 +1,5 @@
-use Rattle.std.proofs.Common.{◌≡◌, ◌∙◌, ◌++◌, ◌∷◌, [], List, ℕ, ap, length, rules, subst, sym, string_bytes}
-use Rattle.std.proofs.lemmas.Str.{IsUtf8-string_bytes}
-use Rattle.snippet_grid.proofs.StretchLemmas.{BeginsWith-added}
-use Rattle.snippet_text_form.specs.FormMarks.{AreMarks, pieces_from}
-use Rattle.snippet_text_form.specs.declared.form.FormMark.{FormMark}
+use Rattle.snippet_text_form.proofs.Common.{◌≡◌, ◌∙◌, ◌++◌, ◌∷◌, [], List, ℕ, ap, length, rules, subst, sym, string_bytes}
+use Rattle.snippet_text_form.proofs.Common.{IsUtf8-string_bytes, BeginsWith-added, AreMarks, pieces_from, FormMark}
 use Rattle.snippet_text_form.proofs.MarkLemmas.{AreMarks-grown, AreMarks-mark, pieces-mark}
 use Rattle.snippet_text_form.proofs.form.push_mark.Goals as goal
 

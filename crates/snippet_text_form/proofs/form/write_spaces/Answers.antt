@@ -1,7 +1,5 @@
-use Rattle.std.proofs.Common.{◌≡◌, ◌∷◌, ◌++◌, [], List, ℕ, sym, ap, ◌∙◌, replicate, arith, string_bytes}
-use Rattle.std.proofs.lemmas.List.{append-nil, append_assoc, replicate_more}
-use Rattle.std.proofs.lemmas.Str.{encode_ascii}
-use Rattle.snippet_grid.proofs.StretchLemmas.{BeginsWith-added}
+use Rattle.snippet_text_form.proofs.Common.{◌≡◌, ◌∷◌, ◌++◌, [], List, ℕ, sym, ap, ◌∙◌, replicate, arith, string_bytes, append-nil}
+use Rattle.snippet_text_form.proofs.Common.{append_assoc, replicate_more, encode_ascii, BeginsWith-added}
 use Rattle.snippet_text_form.proofs.form.write_spaces.Goals as goal
 
 pub loop-init : goal.loop-init

@@ -1,5 +1,5 @@
 -- So many spaces were added.
-use Rattle.std.proofs.Common.{◌≡◌, ◌++◌, replicate, string_bytes}
+use Rattle.snippet_text_form.proofs.Common.{◌≡◌, ◌++◌, replicate, string_bytes}
 use Rattle.snippet_text_form.proofs.form.write_spaces.Given as goal
 
 abbrev pub invariant-loop : goal.invariant-loop

@@ -1,9 +1,5 @@
-use Rattle.std.proofs.Common.{◌∙◌, ◌++◌, List, ℕ, ap, string_bytes, encode_utf8_all}
-use Rattle.std.proofs.lemmas.Result.{on_ok_weaker}
-use Rattle.std.specs.Option.{option_copied}
-use Rattle.snippet_style.specs.Codes.{opening, reset}
-use Rattle.snippet_style.specs.declared.style.Style.{Style}
-use Rattle.snippet_text_form.specs.Form.{role_style}
+use Rattle.snippet_text_form.proofs.Common.{◌∙◌, ◌++◌, List, ℕ, ap, string_bytes, encode_utf8_all, on_ok_weaker, option_copied, opening, reset}
+use Rattle.snippet_text_form.proofs.Common.{Style, role_style}
 use Rattle.snippet_text_form.proofs.FormSteps.{styled_added}
 use Rattle.snippet_text_form.proofs.form.write_styled.Goals as goal
 

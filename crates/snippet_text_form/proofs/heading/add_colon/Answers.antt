@@ -1,8 +1,5 @@
-use Rattle.std.proofs.Common.{◌≡◌, ◌∷◌, ◌++◌, List, [], chars, subst, sym, ◌∙◌}
-use Rattle.std.specs.Option.{option_copied}
-use Rattle.std.specs.Result.{OnOk}
-use Rattle.snippet_text_form.specs.Form.{FormPiece, styled}
-use Rattle.snippet_text_form.specs.HeadingForm.{colon_form}
+use Rattle.snippet_text_form.proofs.Common.{◌≡◌, ◌∷◌, ◌++◌, List, [], subst, sym, ◌∙◌, option_copied, OnOk, FormPiece, styled, colon_form}
+use Rattle.std.proofs.Common.{chars}
 use Rattle.snippet_text_form.proofs.LabelForm.{colon_named, colon_set}
 use Rattle.snippet_text_form.proofs.heading.add_colon.Goals as goal
 use Rattle.snippet_text_form.proofs.heading.add_colon.Goals.{else-hidden-via-then-hidden+else-not-is_set, else-hidden-via-else-hidden}

@@ -1,4 +1,4 @@
-use Rattle.std.proofs.Common.{refl}
+use Rattle.snippet_text_form.proofs.Common.{refl}
 use Rattle.snippet_text_form.proofs.LabelForm.{heading-added}
 use Rattle.snippet_text_form.proofs.heading.add_heading.Goals as goal
 

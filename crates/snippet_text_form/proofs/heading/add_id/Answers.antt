@@ -1,9 +1,5 @@
-use Rattle.std.proofs.Common.{◌≡◌, ◌∙◌, ap, chars}
-use Rattle.std.specs.Cow.{cow_str_bytes}
-use Rattle.std.specs.Option.{option_copied, option_map}
-use Rattle.snippet_text.specs.Normalized.{norm}
-use Rattle.snippet_titles.specs.HeadingRows.{address_of}
-use Rattle.snippet_text_form.specs.HeadingForm.{link_for}
+use Rattle.snippet_text_form.proofs.Common.{◌≡◌, ◌∙◌, ap, cow_str_bytes, option_copied, option_map, norm, address_of, link_for}
+use Rattle.std.proofs.Common.{chars}
 use Rattle.snippet_text_form.proofs.LabelForm.{id-added, link-known}
 use Rattle.snippet_text_form.proofs.heading.add_id.Goals as goal
 use Rattle.snippet_text_form.proofs.heading.add_id.Goals.{then-is_empty, else-is_empty}

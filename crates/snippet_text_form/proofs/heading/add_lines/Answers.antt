@@ -1,10 +1,6 @@
-use Rattle.std.proofs.Common.{List, ℕ, chars, sym, lit<}
-use Rattle.std.proofs.lemmas.List.{append-nil}
-use Rattle.std.proofs.lemmas.Iterator.Splits.{YieldsList-from_str_split}
-use Rattle.std.proofs.lemmas.Iterator.Consumers.{YieldsList-end, YieldsList-from_enumerate, YieldsList-turn}
-use Rattle.snippet_titles.proofs.HeadingLemmas.{plain_shown}
-use Rattle.snippet_titles.proofs.LineLemmas.{number_is}
-use Rattle.snippet_titles.proofs.SplitLemmas.{lines_at}
+use Rattle.snippet_text_form.proofs.Common.{List, ℕ, sym, lit<, append-nil, YieldsList-from_str_split, YieldsList-end, YieldsList-from_enumerate}
+use Rattle.snippet_text_form.proofs.Common.{YieldsList-turn, plain_shown, number_is, lines_at}
+use Rattle.std.proofs.Common.{chars}
 use Rattle.snippet_text_form.proofs.SplitForm.{all_added, line_added, one_added-on_ok, plain_lines, shown_lines-all}
 use Rattle.snippet_text_form.proofs.heading.add_lines.Goals as goal
 

@@ -1,7 +1,5 @@
 -- The lines so far were added, and the columns of what stands before them are known where they were asked for.
-use Rattle.std.proofs.Common.{◌≡◌, IfSome}
-use Rattle.snippet_text.specs.Width.{width_of}
-use Rattle.snippet_text_form.specs.HeadingForm.{heading_label}
+use Rattle.snippet_text_form.proofs.Common.{◌≡◌, IfSome, width_of, heading_label}
 use Rattle.snippet_text_form.proofs.SplitForm.{with_lines}
 use Rattle.snippet_text_form.proofs.heading.add_lines.Given as goal
 

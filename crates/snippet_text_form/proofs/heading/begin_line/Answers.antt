@@ -1,5 +1,4 @@
-use Rattle.std.proofs.Common.{◌∷◌, ◌∙◌, [], ap, replicate}
-use Rattle.snippet_text_form.specs.FormMarks.{before_line}
+use Rattle.snippet_text_form.proofs.Common.{◌∷◌, ◌∙◌, [], ap, replicate, before_line}
 use Rattle.snippet_text_form.proofs.AddedLemmas.{text-as, text-two}
 use Rattle.snippet_text_form.proofs.SplitForm.{before_line-later}
 use Rattle.snippet_text_form.proofs.TextLemmas.{chars-feed}

@@ -1,7 +1,5 @@
-use Rattle.std.proofs.Common.{◌∙◌, ap, chars}
-use Rattle.std.specs.Cow.{cow_str_bytes}
-use Rattle.std.specs.Option.{option_map}
-use Rattle.snippet_text.specs.Width.{width_of}
+use Rattle.snippet_text_form.proofs.Common.{◌∙◌, ap, cow_str_bytes, option_map, width_of}
+use Rattle.std.proofs.Common.{chars}
 use Rattle.snippet_text_form.proofs.LabelForm.{id-width}
 use Rattle.snippet_text_form.proofs.heading.id_width.Goals as goal
 

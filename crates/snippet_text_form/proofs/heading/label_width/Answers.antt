@@ -1,6 +1,4 @@
-use Rattle.std.proofs.Common.{◌∙◌, ap}
-use Rattle.snippet_model.specs.Heading.{is_hidden}
-use Rattle.snippet_model.specs.declared.level.Level.{Level}
+use Rattle.snippet_text_form.proofs.Common.{◌∙◌, ap, is_hidden, Level}
 use Rattle.snippet_text_form.proofs.LabelForm.{width_of-label}
 use Rattle.snippet_text_form.proofs.heading.label_width.Goals as goal
 

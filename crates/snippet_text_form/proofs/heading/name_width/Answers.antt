@@ -1,8 +1,5 @@
-use Rattle.std.proofs.Common.{◌∙◌, ap, chars, sym}
-use Rattle.snippet_model.specs.Heading.{is_hidden}
-use Rattle.snippet_model.specs.Level.{name_of}
-use Rattle.snippet_text.specs.Width.{width_of}
-use Rattle.snippet_text_form.specs.HeadingForm.{before_name}
+use Rattle.snippet_text_form.proofs.Common.{◌∙◌, ap, sym, is_hidden, name_of, width_of, before_name}
+use Rattle.std.proofs.Common.{chars}
 use Rattle.snippet_text_form.proofs.LabelForm.{name-width}
 use Rattle.snippet_text_form.proofs.heading.name_width.Goals as goal
 

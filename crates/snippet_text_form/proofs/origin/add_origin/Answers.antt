@@ -1,7 +1,4 @@
-use Rattle.std.proofs.Common.{◌∷◌, ◌++◌, [], codes}
-use Rattle.snippet_text_form.specs.Form.{Break, bare}
-use Rattle.snippet_text_form.specs.Position.{place_in_file}
-use Rattle.snippet_text_form.specs.Suggestion.{origin_form}
+use Rattle.snippet_text_form.proofs.Common.{◌∷◌, ◌++◌, [], codes, Break, bare, place_in_file, origin_form}
 use Rattle.snippet_text_form.proofs.AddedLemmas.{added-two-on_ok, text-as, text-two-on_ok}
 use Rattle.snippet_text_form.proofs.TextLemmas.{chars-space}
 use Rattle.snippet_text_form.proofs.origin.add_origin.Goals as goal

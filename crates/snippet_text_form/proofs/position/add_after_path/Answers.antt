@@ -1,7 +1,4 @@
-use Rattle.std.proofs.Common.{◌++◌, List, ℕ, sym, codes}
-use Rattle.std.specs.Fmt.{decimal}
-use Rattle.std.proofs.lemmas.List.{append-nil}
-use Rattle.snippet_titles.specs.Origin.{line_name}
+use Rattle.snippet_text_form.proofs.Common.{◌++◌, List, ℕ, sym, codes, decimal, append-nil, line_name}
 use Rattle.snippet_text_form.proofs.AddedLemmas.{text-as, text-two}
 use Rattle.snippet_text_form.proofs.TextLemmas.{chars-after}
 use Rattle.snippet_text_form.proofs.position.add_after_path.Goals as goal

@@ -1,5 +1,4 @@
-use Rattle.std.proofs.Common.{codes}
-use Rattle.std.specs.Fmt.{decimal}
+use Rattle.snippet_text_form.proofs.Common.{codes, decimal}
 use Rattle.snippet_text_form.proofs.AddedLemmas.{text-as, text-two-on_ok}
 use Rattle.snippet_text_form.proofs.TextLemmas.{chars-column}
 use Rattle.snippet_text_form.proofs.position.add_column.Goals as goal

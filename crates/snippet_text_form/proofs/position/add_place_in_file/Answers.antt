@@ -1,6 +1,5 @@
-use Rattle.std.proofs.Common.{codes, chars, ◌++◌}
-use Rattle.snippet_text.specs.Normalized.{norm}
-use Rattle.snippet_text_form.specs.Position.{after_path}
+use Rattle.snippet_text_form.proofs.Common.{codes, ◌++◌, norm, after_path}
+use Rattle.std.proofs.Common.{chars}
 use Rattle.snippet_text_form.proofs.AddedLemmas.{text-as, text-two, text-two-on_ok}
 use Rattle.snippet_text_form.proofs.TextLemmas.{chars-place}
 use Rattle.snippet_text_form.proofs.position.add_place_in_file.Goals as goal

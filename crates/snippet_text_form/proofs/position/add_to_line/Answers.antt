@@ -1,6 +1,4 @@
-use Rattle.std.proofs.Common.{codes, ◌++◌}
-use Rattle.snippet_titles.specs.Origin.{line_name}
-use Rattle.snippet_text_form.specs.Position.{column_words}
+use Rattle.snippet_text_form.proofs.Common.{codes, ◌++◌, line_name, column_words}
 use Rattle.snippet_text_form.proofs.AddedLemmas.{text-as, text-two, text-two-on_ok}
 use Rattle.snippet_text_form.proofs.TextLemmas.{chars-to_line}
 use Rattle.snippet_text_form.proofs.position.add_to_line.Goals as goal

@@ -1,9 +1,5 @@
-use Rattle.std.proofs.Common.{◌+◌, ◌++◌, ◌==◌, ◌∙◌, List, ℕ, Some, ap, codes, eq-eqb, sym}
-use Rattle.std.proofs.lemmas.Bool.{cond-false, cond-true, ne_eqb}
-use Rattle.std.proofs.lemmas.Result.{on_ok_weaker}
-use Rattle.std.specs.Fmt.{decimal}
-use Rattle.snippet_text_form.specs.Form.{bare}
-use Rattle.snippet_text_form.specs.Position.{to_line}
+use Rattle.snippet_text_form.proofs.Common.{◌+◌, ◌++◌, ◌==◌, ◌∙◌, List, ℕ, Some, ap, codes, eq-eqb, sym, cond-false, cond-true, ne_eqb}
+use Rattle.snippet_text_form.proofs.Common.{on_ok_weaker, decimal, bare, to_line}
 use Rattle.snippet_text_form.proofs.AddedLemmas.{text-as, text-two}
 use Rattle.snippet_text_form.proofs.TextLemmas.{chars-to_column}
 use Rattle.snippet_text_form.proofs.suggestion.add_end.Goals as goal

@@ -1,9 +1,5 @@
-use Rattle.std.proofs.Common.{◌≡◌, ◌++◌, List, ℕ, ap, codes, refl, sym, ◌∙◌}
-use Rattle.std.specs.Fmt.{decimal}
-use Rattle.std.proofs.lemmas.Result.{on_ok_weaker}
-use Rattle.std.proofs.lemmas.Str.{chars-encodes}
-use Rattle.snippet_text_form.specs.Form.{FormPiece, bare}
-use Rattle.snippet_text_form.specs.Suggestion.{option_form}
+use Rattle.snippet_text_form.proofs.Common.{◌≡◌, ◌++◌, List, ℕ, ap, codes, refl, sym, ◌∙◌, decimal, on_ok_weaker, chars-encodes, FormPiece}
+use Rattle.snippet_text_form.proofs.Common.{bare, option_form}
 use Rattle.snippet_text_form.proofs.AddedLemmas.{text-two}
 use Rattle.snippet_text_form.proofs.SuggestionLemmas.{adds_line}
 use Rattle.snippet_text_form.proofs.suggestion.add_option.Goals as goal

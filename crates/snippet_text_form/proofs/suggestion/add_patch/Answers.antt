@@ -1,12 +1,6 @@
-use Rattle.std.proofs.Common.{◌≡◌, ℕ, ◌++◌, ◌∙◌, List, ap, chars}
-use Rattle.std.proofs.lemmas.Result.{on_ok_weaker}
-use Rattle.std.specs.Option.{option_copied}
-use Rattle.snippet_lines.specs.Place.{locations_of}
-use Rattle.snippet_lines.specs.declared.place.Loc.{Loc}
-use Rattle.snippet_splice.specs.Edits.{Edit}
-use Rattle.snippet_splice.specs.TrimmedEdits.{trimmed_edit_of}
-use Rattle.snippet_text_form.specs.Form.{FormPiece, bare}
-use Rattle.snippet_text_form.specs.Suggestion.{added_form, edit_place}
+use Rattle.snippet_text_form.proofs.Common.{◌≡◌, ℕ, ◌++◌, ◌∙◌, List, ap, on_ok_weaker, option_copied, locations_of, Loc, Edit}
+use Rattle.snippet_text_form.proofs.Common.{trimmed_edit_of, FormPiece, bare, added_form, edit_place}
+use Rattle.std.proofs.Common.{chars}
 use Rattle.snippet_text_form.proofs.AddedLemmas.{added-two, text-two}
 use Rattle.snippet_text_form.proofs.SuggestionLemmas.{adds_line}
 use Rattle.snippet_text_form.proofs.suggestion.add_patch.Goals as goal

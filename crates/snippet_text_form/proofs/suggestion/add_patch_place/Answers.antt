@@ -1,14 +1,6 @@
-use Rattle.std.proofs.Common.{◌≡◌, ℕ, ◌+◌, ◌++◌, ◌∙◌, List, Option, Some, ap, false, not, sym, true}
-use Rattle.std.proofs.lemmas.Bool.{and_left, and_right}
-use Rattle.std.proofs.lemmas.Result.{on_ok_weaker}
-use Rattle.std.specs.Option.{option_copied}
-use Rattle.snippet_splice.specs.Edits.{Edit}
-use Rattle.snippet_splice.specs.TrimmedEdits.{trimmed_edit_of}
-use Rattle.snippet_suggest.specs.Kind.{is_blank_text}
-use Rattle.snippet_text_form.specs.Cause.{column_unless}
-use Rattle.snippet_text_form.specs.Form.{FormPiece, bare}
-use Rattle.snippet_text_form.specs.Position.{place}
-use Rattle.snippet_text_form.specs.Suggestion.{replaces_whole_line, overwrites, replaced_to, replaces}
+use Rattle.snippet_text_form.proofs.Common.{◌≡◌, ℕ, ◌+◌, ◌++◌, ◌∙◌, List, Option, Some, ap, false, not, sym, true, and_left, and_right}
+use Rattle.snippet_text_form.proofs.Common.{on_ok_weaker, option_copied, Edit, trimmed_edit_of, is_blank_text, column_unless, FormPiece, bare, place}
+use Rattle.snippet_text_form.proofs.Common.{replaces_whole_line, overwrites, replaced_to, replaces}
 use Rattle.snippet_text_form.proofs.AddedLemmas.{text-two}
 use Rattle.snippet_text_form.proofs.SuggestionLemmas.{other_place, replaced_place, seen_over}
 use Rattle.snippet_text_form.proofs.suggestion.add_patch_place.Goals as goal

@@ -1,17 +1,7 @@
-use Rattle.std.proofs.Common.{◌≡◌, ℕ, [], List, ◌++◌, ◌∙◌, ap, chars, codes, false, if◌then◌else◌, refl, sym}
-use Rattle.std.proofs.lemmas.Bool.{cond-false, cond-true}
-use Rattle.std.proofs.lemmas.Result.{on_ok_weaker}
-use Rattle.std.proofs.lemmas.Str.{chars-encodes}
-use Rattle.std.specs.Borrow.{Bor}
-use Rattle.std.specs.Cow.{cow_str_bytes}
-use Rattle.snippet_splice.specs.Edits.{Edit}
-use Rattle.snippet_splice.specs.TrimmedEdits.{trimmed_edit_of}
-use Rattle.snippet_splice.specs.ShownText.{without_final_line_feeds}
-use Rattle.snippet_style.specs.declared.role.ElementStyle.TheVariants.{Addition}
-use Rattle.snippet_suggest.specs.Kind.{is_blank_text}
-use Rattle.snippet_text.specs.Normalized.{norm}
-use Rattle.snippet_text_form.specs.Form.{FormPiece, bare, styled}
-use Rattle.snippet_text_form.specs.Suggestion.{added_text, before_added, overwrites}
+use Rattle.snippet_text_form.proofs.Common.{◌≡◌, ℕ, [], List, ◌++◌, ◌∙◌, ap, codes, false, if◌then◌else◌, refl, sym, cond-false}
+use Rattle.snippet_text_form.proofs.Common.{cond-true, on_ok_weaker, chars-encodes, Bor, cow_str_bytes, Edit, trimmed_edit_of, without_final_line_feeds}
+use Rattle.snippet_text_form.proofs.Common.{Addition, is_blank_text, norm, FormPiece, bare, styled, added_text, before_added, overwrites}
+use Rattle.std.proofs.Common.{chars}
 use Rattle.snippet_text_form.proofs.AddedLemmas.{added-two}
 use Rattle.snippet_text_form.proofs.suggestion.add_replacement.Goals as goal
 use Rattle.snippet_text_form.proofs.suggestion.add_replacement.Goals.{then-overwrites, else-overwrites}

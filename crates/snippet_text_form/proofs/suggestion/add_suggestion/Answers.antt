@@ -1,14 +1,6 @@
-use Rattle.std.proofs.Common.{◌≡◌, ℕ, All, List, Option, ◌++◌, ◌∙◌, ap, chars, map, subst, sym, take}
-use Rattle.std.proofs.lemmas.List.{append-nil, take_all}
-use Rattle.std.specs.List.{flat_map}
-use Rattle.std.specs.Option.{option_copied}
-use Rattle.snippet_lines.specs.IsSpan.{IsSpan}
-use Rattle.snippet_splice.specs.Edits.{Edit}
-use Rattle.snippet_splice.specs.TrimmedEdits.{trimmed_edit_of}
-use Rattle.snippet_splice.specs.declared.patches.TrimmedPatch.{TrimmedPatch}
-use Rattle.snippet_suggest.proofs.KnownLemmas.{known_spans}
-use Rattle.snippet_text_form.specs.Form.{FormPiece}
-use Rattle.snippet_text_form.specs.Suggestion.{edit_form}
+use Rattle.snippet_text_form.proofs.Common.{◌≡◌, ℕ, All, List, Option, ◌++◌, ◌∙◌, ap, map, subst, sym, take, append-nil, take_all, flat_map}
+use Rattle.snippet_text_form.proofs.Common.{option_copied, IsSpan, Edit, trimmed_edit_of, TrimmedPatch, known_spans, FormPiece, edit_form}
+use Rattle.std.proofs.Common.{chars}
 use Rattle.snippet_text_form.proofs.SuggestionLemmas.{edits_more, suggestion_added}
 use Rattle.snippet_text_form.proofs.suggestion.add_suggestion.Goals as goal
 

@@ -1,8 +1,5 @@
-use Rattle.std.proofs.Common.{◌≡◌, ◌++◌, chars, take, map}
-use Rattle.std.specs.List.{flat_map}
-use Rattle.std.specs.Option.{option_copied}
-use Rattle.snippet_splice.specs.TrimmedEdits.{trimmed_edit_of}
-use Rattle.snippet_text_form.specs.Suggestion.{edit_form}
+use Rattle.snippet_text_form.proofs.Common.{◌≡◌, ◌++◌, take, map, flat_map, option_copied, trimmed_edit_of, edit_form}
+use Rattle.std.proofs.Common.{chars}
 use Rattle.snippet_text_form.proofs.suggestion.add_suggestion.Given as goal
 
 -- the patches so far are added

@@ -1,6 +1,4 @@
-use Rattle.std.proofs.Common.{ap, codes, refl, sym, ◌∙◌}
-use Rattle.std.proofs.lemmas.Str.{chars-encodes}
-use Rattle.snippet_text_form.specs.Suggestion.{edit_indent}
+use Rattle.snippet_text_form.proofs.Common.{ap, codes, refl, sym, ◌∙◌, chars-encodes, edit_indent}
 use Rattle.snippet_text_form.proofs.suggestion.indent_below.Goals as goal
 
 pub returns-in-Some : goal.returns-in-Some

@@ -1,7 +1,5 @@
-use Rattle.std.proofs.Common.{◌≡◌, ◌≢◌, ℕ, List, [], ◌∷◌, ◌++◌, Some, None, sym, ap, ◌∙◌, lit<}
-use Rattle.std.proofs.lemmas.Str.Pattern.{strip_suffix_char}
-use Rattle.snippet_splice.specs.ShownText.{without_final_line_feeds}
-use Rattle.snippet_splice.proofs.WriteLemmas.{utf8-front, without_final-push, without_final-stays}
+use Rattle.snippet_text_form.proofs.Common.{◌≡◌, ◌≢◌, ℕ, List, [], ◌∷◌, ◌++◌, Some, None, sym, ap, ◌∙◌, lit<, strip_suffix_char}
+use Rattle.snippet_text_form.proofs.Common.{without_final_line_feeds, utf8-front, without_final-push, without_final-stays}
 use Rattle.snippet_text_form.proofs.suggestion.without_final_line_feeds.Goals as goal
 
 pub loop-front-preserved : goal.loop-front-preserved

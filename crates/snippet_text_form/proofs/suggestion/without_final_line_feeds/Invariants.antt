@@ -1,7 +1,6 @@
-use Rattle.std.proofs.Common.{◌≡◌, length}
+use Rattle.snippet_text_form.proofs.Common.{◌≡◌, length, without_final_line_feeds}
 use denote.Text.{Utf8}
 use denote.Shadow.{shadow}
-use Rattle.snippet_splice.specs.ShownText.{without_final_line_feeds}
 use Rattle.snippet_text_form.proofs.suggestion.without_final_line_feeds.Given as goal
 
 -- only LF were taken from the end of the text

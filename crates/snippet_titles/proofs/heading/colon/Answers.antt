@@ -1,5 +1,4 @@
-use Rattle.std.proofs.Common.{sym, ◌∙◌}
-use Rattle.std.specs.Option.{option_copied}
+use Rattle.snippet_titles.proofs.Common.{sym, ◌∙◌, option_copied}
 use Rattle.snippet_titles.proofs.SignLemmas.{colon_named, colon_none, colon_set}
 use Rattle.snippet_titles.proofs.heading.colon.Goals as goal
 use Rattle.snippet_titles.proofs.heading.colon.Goals.{else-hidden-via-then-hidden+else-not-is_set, else-hidden-via-else-hidden}

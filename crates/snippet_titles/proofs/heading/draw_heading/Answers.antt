@@ -1,4 +1,4 @@
-use Rattle.std.proofs.lemmas.Result.{on_ok_weaker}
+use Rattle.snippet_titles.proofs.Common.{on_ok_weaker}
 use Rattle.snippet_titles.proofs.AddedLemmas.{added_free, added_links, added_texts}
 use Rattle.snippet_titles.proofs.HeadingLemmas.{heading_drawn, label_begun, sign_begun}
 use Rattle.snippet_titles.proofs.heading.draw_heading.Goals as goal

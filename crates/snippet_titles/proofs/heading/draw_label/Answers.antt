@@ -1,6 +1,5 @@
-use Rattle.std.proofs.Common.{◌≡◌, ◌∙◌, ap, sym, length, chars, arith}
-use Rattle.snippet_text.specs.Normalized.{norm}
-use Rattle.snippet_model.specs.Level.{name_of}
+use Rattle.snippet_titles.proofs.Common.{◌≡◌, ◌∙◌, ap, sym, length, arith, norm, name_of}
+use Rattle.std.proofs.Common.{chars}
 use Rattle.snippet_titles.proofs.LabelLemmas.{label_drawn, name_few, name_start}
 use Rattle.snippet_titles.proofs.heading.draw_label.Goals as goal
 

@@ -1,9 +1,6 @@
-use Rattle.std.proofs.Common.{◌++◌, ◌∙◌, ap, chars, lit<, map, take}
-use Rattle.std.proofs.lemmas.Str.Pattern.{split_parts}
-use Rattle.std.proofs.lemmas.Iterator.Splits.{YieldsList-from_str_split}
-use Rattle.std.proofs.lemmas.Iterator.Consumers.{YieldsList-end, YieldsList-from_enumerate, YieldsList-turn}
-use Rattle.snippet_grid.specs.Grid.{row_at}
-use Rattle.snippet_titles.specs.HeadingRows.{indent_cells, lines_below, without_empty_end}
+use Rattle.snippet_titles.proofs.Common.{◌++◌, ◌∙◌, ap, lit<, map, take, split_parts, YieldsList-from_str_split, YieldsList-end}
+use Rattle.snippet_titles.proofs.Common.{YieldsList-from_enumerate, YieldsList-turn, row_at, indent_cells, lines_below, without_empty_end}
+use Rattle.std.proofs.Common.{chars}
 use Rattle.snippet_titles.proofs.EndLemmas.{IsAtEnd-more}
 use Rattle.snippet_titles.proofs.LineLemmas.{further_drawn, lines_at-first, lines_at-one, none_below, number_is, one_line, several_lines}
 use Rattle.snippet_titles.proofs.SplitLemmas.{lines_at}

@@ -1,7 +1,5 @@
 -- Below the first row there is a row for each line so far.
-use Rattle.std.proofs.Common.{◌≡◌, ◌++◌, ◌∷◌, take}
-use Rattle.snippet_grid.specs.Grid.{row_at}
-use Rattle.snippet_titles.specs.HeadingRows.{indent_cells, without_empty_end}
+use Rattle.snippet_titles.proofs.Common.{◌≡◌, ◌++◌, ◌∷◌, take, row_at, indent_cells, without_empty_end}
 use Rattle.snippet_titles.proofs.LineLemmas.{further_rows}
 use Rattle.snippet_titles.proofs.heading.draw_lines.Given as goal
 

@@ -1,5 +1,5 @@
-use Rattle.std.proofs.Common.{◌∙◌, ap, chars}
-use Rattle.std.proofs.lemmas.Result.{on_ok_weaker}
+use Rattle.snippet_titles.proofs.Common.{◌∙◌, ap, on_ok_weaker}
+use Rattle.std.proofs.Common.{chars}
 use Rattle.snippet_titles.proofs.HeadingLemmas.{plain_shown, text_drawn}
 use Rattle.snippet_titles.proofs.LineLemmas.{lines_at-plain, one_line}
 use Rattle.snippet_titles.proofs.heading.draw_text.Goals as goal

@@ -1,7 +1,5 @@
-use Rattle.std.proofs.Common.{◌∙◌, ap, chars}
-use Rattle.std.specs.Cow.{cow_str_bytes}
-use Rattle.std.specs.Option.{option_map}
-use Rattle.snippet_text.specs.Width.{width_of}
+use Rattle.snippet_titles.proofs.Common.{◌∙◌, ap, cow_str_bytes, option_map, width_of}
+use Rattle.std.proofs.Common.{chars}
 use Rattle.snippet_titles.proofs.LabelLemmas.{width_of-bare, width_of-bracketed}
 use Rattle.snippet_titles.proofs.heading.id_width.Goals as goal
 

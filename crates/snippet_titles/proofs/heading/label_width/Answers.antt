@@ -1,7 +1,5 @@
-use Rattle.std.proofs.Common.{◌∙◌, ap, chars}
-use Rattle.snippet_model.specs.Heading.{is_hidden}
-use Rattle.snippet_model.specs.declared.level.Level.{Level}
-use Rattle.snippet_text.specs.Width.{width_of}
+use Rattle.snippet_titles.proofs.Common.{◌∙◌, ap, is_hidden, Level, width_of}
+use Rattle.std.proofs.Common.{chars}
 use Rattle.snippet_titles.proofs.LabelLemmas.{label_width-parts}
 use Rattle.snippet_titles.proofs.heading.label_width.Goals as goal
 

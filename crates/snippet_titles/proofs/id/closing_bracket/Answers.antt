@@ -1,4 +1,4 @@
-use Rattle.std.proofs.lemmas.Str.{chars-nil}
+use Rattle.snippet_titles.proofs.Common.{chars-nil}
 use Rattle.snippet_titles.proofs.SignLemmas.{chars-closing}
 use Rattle.snippet_titles.proofs.id.closing_bracket.Goals as goal
 

@@ -1,7 +1,5 @@
-use Rattle.std.proofs.Common.{◌≡◌, ◌∙◌, ◌+◌, ap, length, chars, arith}
-use Rattle.std.specs.Cow.{cow_str_bytes}
-use Rattle.std.specs.Option.{option_map}
-use Rattle.snippet_text.specs.Normalized.{norm}
+use Rattle.snippet_titles.proofs.Common.{◌≡◌, ◌∙◌, ◌+◌, ap, length, arith, cow_str_bytes, option_map, norm}
+use Rattle.std.proofs.Common.{chars}
 use Rattle.snippet_titles.proofs.RowLemmas.{id_drawn}
 use Rattle.snippet_titles.proofs.id.draw_id.Goals as goal
 

@@ -1,4 +1,4 @@
-use Rattle.std.proofs.lemmas.Str.{chars-nil}
+use Rattle.snippet_titles.proofs.Common.{chars-nil}
 use Rattle.snippet_titles.proofs.SignLemmas.{chars-opening}
 use Rattle.snippet_titles.proofs.id.opening_bracket.Goals as goal
 

@@ -1,8 +1,5 @@
-use Rattle.std.proofs.Common.{◌∙◌, ap, chars}
-use Rattle.std.proofs.lemmas.Result.{on_ok_weaker}
-use Rattle.snippet_style.specs.Cell.{text_cells}
-use Rattle.snippet_style.specs.declared.role.ElementStyle.TheVariants.{LineAndColumn}
-use Rattle.snippet_titles.specs.Appended.{appended}
+use Rattle.snippet_titles.proofs.Common.{◌∙◌, ap, on_ok_weaker, text_cells, LineAndColumn, appended}
+use Rattle.std.proofs.Common.{chars}
 use Rattle.snippet_titles.proofs.OriginText.{place-chars}
 use Rattle.snippet_titles.proofs.origin.append_place.Goals as goal
 

@@ -1,9 +1,5 @@
-use Rattle.std.proofs.Common.{◌∙◌, ap, chars}
-use Rattle.snippet_grid.specs.Grid.{cells_written}
-use Rattle.snippet_grid.specs.Layout.{Layout}
-use Rattle.snippet_style.specs.Cell.{text_cells}
-use Rattle.snippet_style.specs.declared.role.ElementStyle.TheVariants.{LineNumber}
-use Rattle.snippet_titles.specs.Origin.{file_glyph}
+use Rattle.snippet_titles.proofs.Common.{◌∙◌, ap, cells_written, Layout, text_cells, LineNumber, file_glyph}
+use Rattle.std.proofs.Common.{chars}
 use Rattle.snippet_titles.proofs.FileRowLemmas.{file_row-begun}
 use Rattle.snippet_titles.proofs.origin.begin_file_row.Goals as goal
 

@@ -1,4 +1,4 @@
-use Rattle.std.proofs.lemmas.Result.{on_ok_weaker}
+use Rattle.snippet_titles.proofs.Common.{on_ok_weaker}
 use Rattle.snippet_titles.proofs.FileRowLemmas.{origin_row-begun}
 use Rattle.snippet_titles.proofs.origin.draw_origin.Goals as goal
 

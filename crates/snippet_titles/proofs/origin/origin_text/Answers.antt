@@ -1,5 +1,4 @@
-use Rattle.std.proofs.Common.{string_bytes}
-use Rattle.std.proofs.lemmas.Str.{IsUtf8-string_bytes}
+use Rattle.snippet_titles.proofs.Common.{string_bytes, IsUtf8-string_bytes}
 use Rattle.snippet_titles.proofs.OriginText.{origin_text-added}
 use Rattle.snippet_titles.proofs.origin.origin_text.Goals as goal
 

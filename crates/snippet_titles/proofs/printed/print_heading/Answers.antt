@@ -1,5 +1,4 @@
-use Rattle.std.proofs.Common.{string_bytes}
-use Rattle.std.proofs.lemmas.Result.{IfOk-weaker}
+use Rattle.snippet_titles.proofs.Common.{string_bytes, IfOk-weaker}
 use Rattle.snippet_titles.proofs.PrintedLemmas.{heading_printed}
 use Rattle.snippet_titles.proofs.printed.print_heading.Goals as goal
 

@@ -1,8 +1,5 @@
-use Rattle.std.proofs.Common.{◌≡◌, ◌∙◌, ap, chars}
-use Rattle.std.specs.Cow.{cow_str_bytes}
-use Rattle.std.specs.Option.{option_map}
-use Rattle.std.proofs.lemmas.Result.{on_ok_weaker}
-use Rattle.snippet_text.specs.Normalized.{norm}
+use Rattle.snippet_titles.proofs.Common.{◌≡◌, ◌∙◌, ap, cow_str_bytes, option_map, on_ok_weaker, norm}
+use Rattle.std.proofs.Common.{chars}
 use Rattle.snippet_titles.proofs.PrintedLemmas.{id_woven}
 use Rattle.snippet_titles.proofs.printed.print_id.Goals as goal
 

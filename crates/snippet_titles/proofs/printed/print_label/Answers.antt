@@ -1,8 +1,5 @@
-use Rattle.std.proofs.Common.{◌≡◌, ◌∙◌, ap, chars}
-use Rattle.std.proofs.lemmas.Result.{on_ok_weaker}
-use Rattle.snippet_model.specs.Level.{name_of}
-use Rattle.snippet_text.specs.Normalized.{norm}
-use Rattle.snippet_titles.specs.Title.{id_address}
+use Rattle.snippet_titles.proofs.Common.{◌≡◌, ◌∙◌, ap, on_ok_weaker, name_of, norm, id_address}
+use Rattle.std.proofs.Common.{chars}
 use Rattle.snippet_titles.proofs.PrintedLemmas.{label_added}
 use Rattle.snippet_titles.proofs.printed.print_label.Goals as goal
 

@@ -1,7 +1,4 @@
-use Rattle.std.proofs.Common.{◌∙◌, ◌+◌, ◌++◌, ◌∷◌, [], ap, replicate}
-use Rattle.snippet_style.specs.Cell.{Cell, SPACE, unlinked_cell}
-use Rattle.snippet_grid.specs.Grid.{cells_written}
-use Rattle.snippet_titles.specs.Appended.{appended}
+use Rattle.snippet_titles.proofs.Common.{◌∙◌, ◌+◌, ◌++◌, ◌∷◌, [], ap, replicate, Cell, SPACE, unlinked_cell, cells_written, appended}
 use Rattle.snippet_titles.proofs.RowLemmas.{bar_drawn}
 use Rattle.snippet_titles.proofs.row.draw_indent.Goals as goal
 

@@ -1,8 +1,5 @@
-use Rattle.std.proofs.Common.{◌∙◌, ◌+◌, ◌++◌, ap, chars, replicate}
-use Rattle.snippet_grid.specs.Grid.{cells_written}
-use Rattle.snippet_style.specs.Cell.{SPACE, text_cells}
-use Rattle.snippet_style.specs.declared.role.ElementStyle.TheVariants.{LineNumber}
-use Rattle.snippet_titles.specs.Appended.{appended}
+use Rattle.snippet_titles.proofs.Common.{◌∙◌, ◌+◌, ◌++◌, ap, replicate, cells_written, SPACE, text_cells, LineNumber, appended}
+use Rattle.std.proofs.Common.{chars}
 use Rattle.snippet_titles.proofs.RowLemmas.{after_gutter, some_sign}
 use Rattle.snippet_titles.proofs.row.draw_sign.Goals as goal
 

@@ -1,6 +1,4 @@
-use Rattle.std.proofs.Common.{◌∙◌, ap, sym}
-use Rattle.snippet_grid.specs.Layout.{separator_cell}
-use Rattle.std.proofs.lemmas.Result.{on_ok_weaker}
+use Rattle.snippet_titles.proofs.Common.{◌∙◌, ap, sym, separator_cell, on_ok_weaker}
 use Rattle.snippet_titles.proofs.FileRowLemmas.{closing_row-begun}
 use Rattle.snippet_titles.proofs.separators.draw_closing.Goals as goal
 

@@ -1,7 +1,5 @@
-use Rattle.std.proofs.Common.{◌∙◌, sym, chars}
-use Rattle.std.proofs.lemmas.Result.{on_ok_weaker}
-use Rattle.snippet_style.specs.declared.role.ElementStyle.TheVariants.{LineAndColumn}
-use Rattle.snippet_style.proofs.CellLemmas.{length-text_cells}
+use Rattle.snippet_titles.proofs.Common.{◌∙◌, sym, on_ok_weaker, LineAndColumn, length-text_cells}
+use Rattle.std.proofs.Common.{chars}
 use Rattle.snippet_titles.proofs.HeadingLemmas.{label_begun, sign_begun}
 use Rattle.snippet_titles.proofs.ShortLemmas.{short_drawn}
 use Rattle.snippet_titles.proofs.short.draw_short.Goals as goal

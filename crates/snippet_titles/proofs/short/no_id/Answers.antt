@@ -1,6 +1,4 @@
-use Rattle.std.proofs.Common.{◌++◌, ap, List, ℕ}
-use Rattle.std.proofs.lemmas.Str.{chars-nil}
-use Rattle.snippet_style.specs.Cell.{text_cells}
+use Rattle.snippet_titles.proofs.Common.{◌++◌, ap, List, ℕ, chars-nil, text_cells}
 use Rattle.snippet_titles.proofs.short.no_id.Goals as goal
 
 pub returns : goal.returns

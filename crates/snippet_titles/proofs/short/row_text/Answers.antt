@@ -1,16 +1,7 @@
-use Rattle.std.proofs.Common.{◌∙◌, ap, chars, refl, List, ℕ, subst, string_bytes}
-use Rattle.std.proofs.lemmas.Result.{IfOk-weaker}
-use Rattle.std.specs.Cow.{cow_str_bytes}
-use Rattle.std.specs.Option.{option_copied}
-use Rattle.std.specs.Str.{IsUtf8}
-use Rattle.snippet_grid.proofs.GridShown.{chars_some}
-use Rattle.snippet_grid.specs.Woven.{Prints}
-use Rattle.snippet_model.specs.Heading.{Heading, heading_of_title, is_hidden}
-use Rattle.snippet_style.specs.Cell.{Cell, text_cells}
-use Rattle.snippet_style.specs.declared.role.ElementStyle.TheVariants.{LineAndColumn, NoStyle}
-use Rattle.snippet_titles.specs.HeadingRows.{colon_of, id_cells, linked_to}
-use Rattle.snippet_titles.specs.StretchCells.{stretch_cells}
-use Rattle.snippet_titles.specs.declared.style.HeadingRoles.{HeadingRoles}
+use Rattle.snippet_titles.proofs.Common.{◌∙◌, ap, refl, List, ℕ, subst, string_bytes, IfOk-weaker, cow_str_bytes, option_copied, IsUtf8, chars_some}
+use Rattle.snippet_titles.proofs.Common.{Prints, Heading, heading_of_title, is_hidden, Cell, text_cells, LineAndColumn, NoStyle, colon_of, id_cells, linked_to}
+use Rattle.snippet_titles.proofs.Common.{stretch_cells, HeadingRoles}
+use Rattle.std.proofs.Common.{chars}
 use Rattle.snippet_titles.proofs.ShortRowLemmas.{alike-linked, plain_lines, row_is, three_parts}
 use Rattle.snippet_titles.proofs.short.row_text.Goals as goal
 

@@ -1,6 +1,4 @@
-use Rattle.std.proofs.Common.{◌∙◌, ap, sym}
-use Rattle.std.specs.Option.{option_copied}
-use Rattle.snippet_titles.specs.HeadingRows.{id_cells}
+use Rattle.snippet_titles.proofs.Common.{◌∙◌, ap, sym, option_copied, id_cells}
 use Rattle.snippet_titles.proofs.ShortRowLemmas.{id_cells-textless}
 use Rattle.snippet_titles.proofs.short.shown_id.Goals as goal
 

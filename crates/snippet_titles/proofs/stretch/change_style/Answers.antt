@@ -1,9 +1,5 @@
-use Rattle.std.proofs.Common.{◌++◌, ◌∙◌, ap, encode_utf8_all, string_bytes, sym}
-use Rattle.snippet_style.proofs.StyleLemmas.{differs_told, same_told}
-use Rattle.snippet_style.specs.Codes.{opening, reset}
-use Rattle.snippet_style.specs.Stylesheet.{style_of}
-use Rattle.snippet_style.specs.declared.style.Style.{Style}
-use Rattle.snippet_grid.proofs.StretchPrinted.{codes_added}
+use Rattle.snippet_titles.proofs.Common.{◌++◌, ◌∙◌, ap, encode_utf8_all, string_bytes, sym, differs_told, same_told, opening, reset, style_of, Style}
+use Rattle.snippet_titles.proofs.Common.{codes_added}
 use Rattle.snippet_titles.proofs.stretch.change_style.Goals as goal
 
 pub returns-in_ok-write_opening : goal.returns-in_ok-write_opening

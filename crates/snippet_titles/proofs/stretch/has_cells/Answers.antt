@@ -1,6 +1,4 @@
-use Rattle.std.proofs.Common.{arith}
-use Rattle.std.proofs.lemmas.List.{nil_from_length}
-use Rattle.snippet_grid.proofs.GridShown.{chars_some}
+use Rattle.snippet_titles.proofs.Common.{arith, nil_from_length, chars_some}
 use Rattle.snippet_titles.proofs.stretch.has_cells.Goals as goal
 
 pub returns : goal.returns

@@ -1,8 +1,4 @@
-use Rattle.std.proofs.Common.{arith, take, sum_by, ◌≤◌, List, [], None}
-use Rattle.std.proofs.lemmas.List.Sums.{sum_by_more, sum_by-take-le}
-use Rattle.snippet_style.specs.declared.role.ElementStyle.TheVariants.{MainHeaderMsg}
-use Rattle.snippet_titles.specs.StretchCells.{stretch_room}
-use Rattle.snippet_titles.specs.declared.stretch.RowStretch.{RowStretch}
+use Rattle.snippet_titles.proofs.Common.{arith, take, sum_by, ◌≤◌, List, [], None, sum_by_more, sum_by-take-le, MainHeaderMsg, stretch_room, RowStretch}
 use Rattle.snippet_titles.proofs.stretch.room_for.Goals as goal
 
 -- what stands where a list has no stretch

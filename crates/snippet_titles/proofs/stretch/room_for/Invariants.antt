@@ -1,5 +1,4 @@
-use Rattle.std.proofs.Common.{◌≤◌, sum_by, take}
-use Rattle.snippet_titles.specs.StretchCells.{stretch_room}
+use Rattle.snippet_titles.proofs.Common.{◌≤◌, sum_by, take, stretch_room}
 use Rattle.snippet_titles.proofs.stretch.room_for.Given as goal
 
 abbrev pub invariant-loop-stretch : goal.invariant-loop-stretch

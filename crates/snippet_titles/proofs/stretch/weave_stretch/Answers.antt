@@ -1,7 +1,4 @@
-use Rattle.std.proofs.Common.{◌∙◌, ◌++◌, ap, sym, string_bytes, List, ℕ}
-use Rattle.std.proofs.lemmas.Result.{on_ok_weaker}
-use Rattle.std.proofs.lemmas.Str.{encodes-chars}
-use Rattle.snippet_grid.proofs.OutcomeLemmas.{on_ok_value}
+use Rattle.snippet_titles.proofs.Common.{◌∙◌, ◌++◌, ap, sym, string_bytes, List, ℕ, on_ok_weaker, encodes-chars, on_ok_value}
 use Rattle.snippet_titles.proofs.stretch.weave_stretch.Goals as goal
 
 pub returns : goal.returns

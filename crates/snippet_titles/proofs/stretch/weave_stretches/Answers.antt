@@ -1,17 +1,7 @@
-use Rattle.std.proofs.Common.{◌∙◌, ap, refl, subst, arith, encode_utf8_all, get_or, None, Some, string_bytes, List, [], ℕ, ◌++◌}
-use Rattle.std.proofs.lemmas.Result.{on_ok_weaker}
-use Rattle.std.specs.List.{flat_map}
-use Rattle.std.specs.Option.{option_copied}
-use Rattle.snippet_grid.proofs.OutcomeLemmas.{on_ok_value}
+use Rattle.snippet_titles.proofs.Common.{◌∙◌, ap, refl, subst, arith, encode_utf8_all, get_or, None, Some, string_bytes, List, [], ℕ, ◌++◌}
+use Rattle.snippet_titles.proofs.Common.{on_ok_weaker, flat_map, option_copied, on_ok_value, Goes, row_closed, stretch_cells, RowStretch, Cell, reset, Style}
+use Rattle.snippet_titles.proofs.Common.{style_of, MainHeaderMsg}
 use Rattle.snippet_titles.proofs.StretchRow.{cells_all, none_printed, no_cells, stretch_empty, stretch_woven}
-use Rattle.snippet_grid.proofs.WeaveLemmas.{Goes, row_closed}
-use Rattle.snippet_titles.specs.StretchCells.{stretch_cells}
-use Rattle.snippet_titles.specs.declared.stretch.RowStretch.{RowStretch}
-use Rattle.snippet_style.specs.Cell.{Cell}
-use Rattle.snippet_style.specs.Codes.{reset}
-use Rattle.snippet_style.specs.declared.style.Style.{Style}
-use Rattle.snippet_style.specs.Stylesheet.{style_of}
-use Rattle.snippet_style.specs.declared.role.ElementStyle.TheVariants.{MainHeaderMsg}
 use Rattle.snippet_titles.proofs.stretch.weave_stretches.Goals as goal
 use Rattle.snippet_titles.proofs.stretch.weave_stretches.Goals.{then-has_cells+in_ok-weave_stretch, else-has_cells}
 

@@ -1,9 +1,6 @@
 -- The row is printed up to the next stretch.
-use Rattle.std.proofs.Common.{Some, string_bytes}
-use Rattle.std.specs.Option.{option_copied}
+use Rattle.snippet_titles.proofs.Common.{Some, string_bytes, option_copied, Goes, style_of}
 use Rattle.snippet_titles.proofs.StretchRow.{cells_before}
-use Rattle.snippet_grid.proofs.WeaveLemmas.{Goes}
-use Rattle.snippet_style.specs.Stylesheet.{style_of}
 use Rattle.snippet_titles.proofs.stretch.weave_stretches.Given as goal
 
 abbrev pub invariant-loop-stretch : goal.invariant-loop-stretch

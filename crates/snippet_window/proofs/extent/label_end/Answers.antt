@@ -1,7 +1,4 @@
-use Rattle.std.proofs.Common.{◌∙◌, ◌+◌, ap, sym}
-use Rattle.std.specs.Option.{option_copied}
-use Rattle.snippet_window.specs.Margin.{capped_sum}
-use Rattle.snippet_window.specs.Measures.{end_with}
+use Rattle.snippet_window.proofs.Common.{◌∙◌, ◌+◌, ap, sym, option_copied, capped_sum, end_with}
 use Rattle.snippet_window.proofs.extent.label_end.Goals as goal
 
 pub returns-in-Some : goal.returns-in-Some

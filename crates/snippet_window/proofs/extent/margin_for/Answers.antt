@@ -1,14 +1,8 @@
-use Rattle.std.proofs.Common.{◌++◌, ◌∷◌, [], sym, ◌≡◌, ◌∙◌, ◌≤◌, ℕ, Option, take, ap, subst, arith, unwrap_or, rules}
-use Rattle.std.proofs.lemmas.List.{take_all}
-use Rattle.snippet_window.specs.Extent.{ReachesLines, columns_of, entries_of}
-use Rattle.snippet_parts.specs.declared.shown_line.ShownLine.{ShownLine}
-use Rattle.snippet_parts.specs.ShownLines.{kept_of}
-use Rattle.snippet_window.specs.Measures.{StandsClear}
-use Rattle.snippet_parts.specs.Least.{least}
-use Rattle.snippet_parts.proofs.LeastLemmas.{least_below}
+use Rattle.snippet_window.proofs.Common.{◌++◌, ◌∷◌, [], sym, ◌≡◌, ◌∙◌, ◌≤◌, ℕ, Option, take, ap, subst, arith, unwrap_or, rules}
+use Rattle.snippet_window.proofs.Common.{take_all, ReachesLines, columns_of, entries_of, ShownLine, kept_of, StandsClear, least, least_below, kept_of-next}
+use Rattle.snippet_window.proofs.Common.{kept_of-past}
 use Rattle.snippet_window.proofs.ExtentLemmas.{lines_all, starts_all}
 use Rattle.snippet_window.proofs.MarginLaws.{bounds_reached}
-use Rattle.snippet_parts.proofs.ShownLineLemmas.{kept_of-next, kept_of-past}
 use Rattle.snippet_window.proofs.extent.margin_for.Goals as goal
 use Rattle.snippet_window.proofs.MeasureWords.{margin_by}
 use Rattle.snippet_window.proofs.extent.margin_for.Goals.{else-not-line, then-not-line}

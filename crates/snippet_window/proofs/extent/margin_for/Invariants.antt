@@ -1,6 +1,4 @@
-use Rattle.std.proofs.Common.{take}
-use Rattle.snippet_window.specs.Extent.{ReachesLines}
-use Rattle.snippet_parts.specs.ShownLines.{kept_of}
+use Rattle.snippet_window.proofs.Common.{take, ReachesLines, kept_of}
 use Rattle.snippet_window.proofs.extent.margin_for.Given as goal
 
 -- those of the lines so far that are kept are taken in

@@ -1,5 +1,5 @@
-use Rattle.std.proofs.Common.{◌-◌, ◌∙◌, ap, arith, chars, sym, drop}
-use Rattle.snippet_window.specs.Window.{fitting}
+use Rattle.snippet_window.proofs.Common.{◌-◌, ◌∙◌, ap, arith, sym, drop, fitting}
+use Rattle.std.proofs.Common.{chars}
 use Rattle.snippet_window.proofs.LineWindowLemmas.{cut_boundary, cut_back}
 use Rattle.snippet_window.proofs.NearLemmas.{fitting_width, falling_short-some}
 use Rattle.snippet_window.proofs.near.after_fewer.Goals as goal

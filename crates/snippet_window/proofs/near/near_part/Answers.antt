@@ -1,7 +1,5 @@
-use Rattle.std.proofs.Common.{◌≡◌, ◌∙◌, ap, arith, min, chars, take, drop}
-use Rattle.snippet_text.specs.Width.{width_of}
-use Rattle.snippet_window.specs.NearPart.{falling_short}
-use Rattle.snippet_window.specs.Window.{window_left}
+use Rattle.snippet_window.proofs.Common.{◌≡◌, ◌∙◌, ap, arith, min, take, drop, width_of, falling_short, window_left}
+use Rattle.std.proofs.Common.{chars}
 use Rattle.snippet_window.proofs.NearLemmas.{near_holds, right_is, width_left}
 use Rattle.snippet_window.proofs.near.near_part.Goals as goal
 

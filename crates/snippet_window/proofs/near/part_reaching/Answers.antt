@@ -1,6 +1,5 @@
-use Rattle.std.proofs.Common.{◌≡◌, ◌∙◌, ◌-◌, arith, ap, sym, take, chars}
-use Rattle.snippet_text.specs.Width.{width_of}
-use Rattle.snippet_window.specs.Window.{reaching}
+use Rattle.snippet_window.proofs.Common.{◌≡◌, ◌∙◌, ◌-◌, arith, ap, sym, take, width_of, reaching}
+use Rattle.std.proofs.Common.{chars}
 use Rattle.snippet_window.proofs.LineWindowLemmas.{cut_boundary, cut_front, reaching_whole}
 use Rattle.snippet_window.proofs.near.part_reaching.Goals as goal
 

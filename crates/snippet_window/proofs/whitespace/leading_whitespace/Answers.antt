@@ -1,13 +1,8 @@
-use Rattle.std.proofs.Common.{◌≡◌, ◌+◌, ◌∙◌, arith, length, drop, ap, sym, true, encode_utf8}
-use Rattle.std.specs.Option.{option_map}
-use Rattle.std.specs.Char.{is_whitespace}
-use Rattle.std.proofs.lemmas.Str.{length-encode, len_utf8_bounds}
-use Rattle.snippet_window.specs.Window.{leading_whitespace}
+use Rattle.snippet_window.proofs.Common.{◌≡◌, ◌+◌, ◌∙◌, arith, length, drop, ap, sym, true, encode_utf8, option_map, is_whitespace}
+use Rattle.snippet_window.proofs.Common.{length-encode, len_utf8_bounds, leading_whitespace, YieldsList-from_chars, length_push, length-append, YieldsList-turn}
+use Rattle.snippet_window.proofs.Common.{YieldsList-end}
 use Rattle.snippet_window.proofs.MeasureWords.{whitespace_width}
 use Rattle.std.specs.Str.{chars}
-use Rattle.std.proofs.lemmas.Iterator.{YieldsList-from_chars}
-use Rattle.std.proofs.lemmas.List.{length_push, length-append}
-use Rattle.std.proofs.lemmas.Iterator.Consumers.{YieldsList-turn, YieldsList-end}
 use Rattle.snippet_window.proofs.WindowLemmas.{leading-more, leading-found, leading-blank}
 use Rattle.snippet_window.proofs.whitespace.leading_whitespace.Goals as goal
 

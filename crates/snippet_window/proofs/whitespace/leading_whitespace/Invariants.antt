@@ -1,8 +1,6 @@
 -- All so far is whitespace of this width: the line's is this much more than that of the rest.
-use Rattle.std.proofs.Common.{◌≡◌, ◌+◌, ◌*◌, ◌≤◌, length, drop}
+use Rattle.snippet_window.proofs.Common.{◌≡◌, ◌+◌, ◌*◌, ◌≤◌, length, drop, option_map, leading_whitespace}
 use Rattle.std.specs.Str.{chars}
-use Rattle.std.specs.Option.{option_map}
-use Rattle.snippet_window.specs.Window.{leading_whitespace}
 use Rattle.snippet_window.proofs.whitespace.leading_whitespace.Given as goal
 
 abbrev pub invariant-loop-c : goal.invariant-loop-c

@@ -1,5 +1,5 @@
-use Rattle.std.proofs.Common.{◌∙◌, ap, chars}
-use Rattle.snippet_window.specs.Window.{reaching}
+use Rattle.snippet_window.proofs.Common.{◌∙◌, ap, reaching}
+use Rattle.std.proofs.Common.{chars}
 use Rattle.snippet_window.proofs.LineWindowLemmas.{cut_boundary, cut_back}
 use Rattle.snippet_window.proofs.window.after_columns.Goals as goal
 

@@ -1,11 +1,7 @@
-use Rattle.std.proofs.Common.{◌≡◌, ◌<◌, ◌≤◌, ◌∙◌, ◌+◌, ◌-◌, Option, IfSome, List, ℕ, ap, arith, chars, drop, length, subst, sym, take}
-use Rattle.std.proofs.lemmas.Bool.Decides.{nat_tests}
-use Rattle.std.proofs.lemmas.List.{length-drop}
-use Rattle.snippet_style.specs.Cell.{bytes_of}
-use Rattle.snippet_text.specs.Width.{width_of}
-use Rattle.snippet_window.specs.Window.{fitting}
+use Rattle.snippet_window.proofs.Common.{◌≡◌, ◌<◌, ◌≤◌, ◌∙◌, ◌+◌, ◌-◌, Option, IfSome, List, ℕ, ap, arith, drop, length, subst}
+use Rattle.snippet_window.proofs.Common.{sym, take, nat_tests, length-drop, bytes_of, width_of, fitting, width_of-chars}
+use Rattle.std.proofs.Common.{chars}
 use Rattle.snippet_window.proofs.LineWindowLemmas.{bytes_within, cut_boundary, fitting_whole, none_fitting, whole_bytes}
-use Rattle.snippet_text.proofs.WidthBounds.{width_of-chars}
 use Rattle.snippet_window.proofs.PlainFront.{bytes_front, plain_chars, plain_cut, taken_front, width_front}
 use Rattle.snippet_window.proofs.window.fitting_end.Goals as goal
 

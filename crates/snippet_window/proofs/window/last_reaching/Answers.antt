@@ -1,8 +1,6 @@
-use Rattle.std.proofs.Common.{◌∙◌, length, arith, chars, sym}
+use Rattle.snippet_window.proofs.Common.{◌∙◌, length, arith, sym, YieldsList-from_chars, length_push, YieldsList-turn, YieldsList-end}
+use Rattle.std.proofs.Common.{chars}
 use Rattle.snippet_window.proofs.PlainFront.{last_plain}
-use Rattle.std.proofs.lemmas.Iterator.{YieldsList-from_chars}
-use Rattle.std.proofs.lemmas.List.{length_push}
-use Rattle.std.proofs.lemmas.Iterator.Consumers.{YieldsList-turn, YieldsList-end}
 use Rattle.snippet_window.proofs.LineWindowLemmas.{last_next, last_here, last_all, last_start, width_after}
 use Rattle.snippet_window.proofs.window.last_reaching.Goals as goal
 

@@ -1,8 +1,6 @@
-use Rattle.std.proofs.Common.{◌≡◌, ◌∙◌, ◌-◌, List, ℕ, ap, arith, chars, drop, length, subst, sym, take}
-use Rattle.std.proofs.lemmas.List.{length-drop}
-use Rattle.snippet_style.specs.Cell.{bytes_of}
-use Rattle.snippet_text.specs.Width.{width_of}
-use Rattle.snippet_window.specs.Window.{reaching}
+use Rattle.snippet_window.proofs.Common.{◌≡◌, ◌∙◌, ◌-◌, List, ℕ, ap, arith, drop, length, subst, sym, take, length-drop, bytes_of, width_of}
+use Rattle.snippet_window.proofs.Common.{reaching}
+use Rattle.std.proofs.Common.{chars}
 use Rattle.snippet_window.proofs.LineWindowLemmas.{bytes_within, cut_boundary, none_reaching}
 use Rattle.snippet_window.proofs.PlainFront.{bytes_front, plain_cut, reached_front, width_front}
 use Rattle.snippet_window.proofs.window.reaching_end.Goals as goal

@@ -1,11 +1,8 @@
-use Rattle.std.proofs.Common.{◌≡◌, ◌∙◌, ◌-◌, length, take, ap, sym, arith, chars, rules}
-use Rattle.std.proofs.lemmas.Iterator.{YieldsList-from_chars}
-use Rattle.std.proofs.lemmas.List.{length_push, take_all}
-use Rattle.std.proofs.lemmas.Iterator.Consumers.{YieldsList-turn, YieldsList-end}
-use Rattle.snippet_text.specs.Width.{width_of}
+use Rattle.snippet_window.proofs.Common.{◌≡◌, ◌∙◌, ◌-◌, length, take, ap, sym, arith, rules, YieldsList-from_chars, length_push, take_all}
+use Rattle.snippet_window.proofs.Common.{YieldsList-turn, YieldsList-end, width_of, bytes_of}
+use Rattle.std.proofs.Common.{chars}
 use Rattle.snippet_window.proofs.LineWindowLemmas.{fits_next, fits_enough, fits_all, fits_start, bytes_next}
 use Rattle.snippet_window.proofs.window.walked_end.Goals as goal
-use Rattle.snippet_style.specs.Cell.{bytes_of}
 
 pub loop-c-init : goal.loop-c-init
 loop-c-init c = fits_start c.args.columns (chars c.args.text.now)

@@ -1,8 +1,7 @@
-use Rattle.std.proofs.Common.{Option, IfSome, ℕ, sym, subst, ◌≡◌, ◌<◌, ◌≤◌, ◌+◌, ◌-◌, ◌^◌, ◌∙◌, min, ap, arith, length, unwrap_or, chars, rules, List}
-use Rattle.snippet_text.proofs.WidthBounds.{width_of-chars}
-use Rattle.snippet_text.specs.Width.{width_of}
-use Rattle.snippet_window.specs.NearPart.{IsPartOf, reaching_last}
-use Rattle.snippet_window.specs.Window.{covered_columns, uncovered_part, window_left, window_right}
+use Rattle.snippet_window.proofs.Common.{Option, IfSome, ℕ, sym, subst, ◌≡◌, ◌<◌, ◌≤◌, ◌+◌, ◌-◌, ◌^◌, ◌∙◌, min, ap, arith}
+use Rattle.snippet_window.proofs.Common.{length, unwrap_or, rules, List, width_of-chars, width_of, IsPartOf, reaching_last, covered_columns, uncovered_part}
+use Rattle.snippet_window.proofs.Common.{window_left, window_right}
+use Rattle.std.proofs.Common.{chars}
 use Rattle.snippet_window.proofs.LineWindowLemmas.{cells_few, start_is_few, part_short}
 use Rattle.snippet_window.proofs.NearLemmas.{right_is, window_dropped, inner_found, end_some, end_none}
 use Rattle.snippet_window.proofs.window.window_of.Goals as goal

@@ -1,6 +1,5 @@
-use Rattle.std.proofs.Common.{◌≡◌, ◌∙◌, ◌-◌, arith, ap, sym, take, chars}
-use Rattle.snippet_text.specs.Width.{width_of}
-use Rattle.snippet_window.specs.Window.{fitting}
+use Rattle.snippet_window.proofs.Common.{◌≡◌, ◌∙◌, ◌-◌, arith, ap, sym, take, width_of, fitting}
+use Rattle.std.proofs.Common.{chars}
 use Rattle.snippet_window.proofs.LineWindowLemmas.{cut_boundary, cut_front}
 use Rattle.snippet_window.proofs.window.within_columns.Goals as goal
 

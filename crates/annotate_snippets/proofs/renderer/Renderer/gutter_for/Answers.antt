@@ -1,7 +1,4 @@
-use Rattle.std.proofs.Common.{◌∙◌, List, ap, map}
-use Rattle.snippet_model.specs.declared.snippet.Group.{Group}
-use Rattle.annotate_snippets.specs.Gutter.{gutter_of_report}
-use Rattle.annotate_snippets.specs.declared.renderer.preprocess.PreparedGroup.{PreparedGroup}
+use Rattle.annotate_snippets.proofs.Common.{◌∙◌, List, ap, map, Group, gutter_of_report, PreparedGroup}
 use Rattle.annotate_snippets.proofs.renderer.Renderer.gutter_for.Goals as goal
 
 pub returns-clause-value : goal.returns-clause-value

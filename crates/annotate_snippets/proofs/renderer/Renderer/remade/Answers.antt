@@ -1,9 +1,4 @@
-use Rattle.std.proofs.Common.{◌≡◌, ◌∙◌, List, ap, subst, sym}
-use Rattle.std.proofs.lemmas.Result.{IfOk-weaker}
-use Rattle.std.specs.List.{AllZip}
-use Rattle.snippet_model.specs.declared.snippet.Group.{Group}
-use Rattle.snippet_shown.specs.AsSet.{IsGroupAsSet}
-use Rattle.annotate_snippets.specs.AsSet.{adds_context}
+use Rattle.annotate_snippets.proofs.Common.{◌≡◌, ◌∙◌, List, ap, subst, sym, IfOk-weaker, AllZip, Group, IsGroupAsSet, adds_context}
 use Rattle.annotate_snippets.proofs.AsSetLemmas.{around-keeps, fed-keeps, mask-keeps}
 use Rattle.annotate_snippets.proofs.ContextShown.{groups-sound}
 use Rattle.annotate_snippets.proofs.RemadeLemmas.{Keeps, keeps-then}

@@ -1,8 +1,5 @@
-use Rattle.std.proofs.Common.{◌≡◌, [], ◌∷◌, All, List, None, rules, string_bytes, subst, sym}
-use Rattle.snippet_model.specs.declared.snippet.Group.{Group}
-use Rattle.annotate_snippets.specs.AsSet.{IsAsSet}
-use Rattle.annotate_snippets.specs.Fault.{missing_title}
-use Rattle.annotate_snippets.specs.PreparedReport.{IsGroupDrawable}
+use Rattle.annotate_snippets.proofs.Common.{◌≡◌, [], ◌∷◌, All, List, None, rules, string_bytes, subst, sym, Group, IsAsSet, missing_title}
+use Rattle.annotate_snippets.proofs.Common.{IsGroupDrawable}
 use Rattle.annotate_snippets.proofs.AsSetLemmas.{ShowsAll, shows-all}
 use Rattle.annotate_snippets.proofs.renderer.Renderer.render.Goals as goal
 

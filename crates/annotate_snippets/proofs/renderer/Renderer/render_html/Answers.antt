@@ -1,8 +1,4 @@
-use Rattle.std.proofs.Common.{All, List, rules, string_bytes, subst, sym}
-use Rattle.snippet_model.specs.declared.snippet.Group.{Group}
-use Rattle.annotate_snippets.specs.AsSet.{IsAsSet}
-use Rattle.annotate_snippets.specs.PreparedReport.{IsGroupDrawable}
-use Rattle.annotate_snippets.specs.declared.renderer.form.Form.TheVariants.{Graphic}
+use Rattle.annotate_snippets.proofs.Common.{All, List, rules, string_bytes, subst, sym, Group, IsAsSet, IsGroupDrawable, Graphic}
 use Rattle.annotate_snippets.proofs.HtmlShown.{html_laws}
 use Rattle.annotate_snippets.proofs.renderer.Renderer.render_html.Goals as goal
 

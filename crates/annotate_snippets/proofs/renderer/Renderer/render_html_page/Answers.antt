@@ -1,15 +1,6 @@
-use Rattle.std.proofs.Common.{◌∙◌, ap, ap₂, sym, subst, List, ℕ, ◌∷◌, [], string_bytes}
-use Rattle.std.specs.Cow.{cow_slice_items}
-use Rattle.snippet_model.specs.declared.snippet.Group.{Group}
-use Rattle.snippet_style.specs.Stylesheet.{plain_sheet}
-use Rattle.annotate_snippets.specs.Article.{article, spoken}
-use Rattle.annotate_snippets.specs.AsSet.{IsAsSet}
-use Rattle.annotate_snippets.specs.Forms.{ShowsReport}
-use Rattle.annotate_snippets.specs.Html.{HasHtmlLaws, IsReportHtml}
-use Rattle.annotate_snippets.specs.Laws.Forms.{HasLaws}
-use Rattle.annotate_snippets.specs.Markdown.{title_above, unlinked, unwrapped}
-use Rattle.annotate_snippets.specs.declared.renderer.Renderer.{Renderer}
-use Rattle.annotate_snippets.specs.declared.renderer.form.Form.TheVariants.{Graphic}
+use Rattle.annotate_snippets.proofs.Common.{◌∙◌, ap, ap₂, sym, subst, List, ℕ, ◌∷◌, [], string_bytes, cow_slice_items, Group, plain_sheet}
+use Rattle.annotate_snippets.proofs.Common.{article, spoken, IsAsSet, ShowsReport, HasHtmlLaws, IsReportHtml, HasLaws, title_above, unlinked, unwrapped}
+use Rattle.annotate_snippets.proofs.Common.{Renderer, Graphic}
 use Rattle.annotate_snippets.proofs.ArticleLemmas.{escaped-says, escaped-untagged, heading-tags}
 use Rattle.annotate_snippets.proofs.renderer.Renderer.render_html_page.Goals as goal
 

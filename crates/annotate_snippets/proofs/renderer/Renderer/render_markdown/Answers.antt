@@ -1,13 +1,5 @@
-use Rattle.std.proofs.Common.{◌≡◌, ◌∙◌, List, ap, ap₂, string_bytes, subst, sym}
-use Rattle.std.specs.Cow.{cow_slice_items}
-use Rattle.snippet_model.specs.declared.snippet.Group.{Group}
-use Rattle.snippet_style.specs.Stylesheet.{is_plain_sheet}
-use Rattle.annotate_snippets.specs.AsSet.{IsAsSet}
-use Rattle.annotate_snippets.specs.Fault.{form_of}
-use Rattle.annotate_snippets.specs.WithLaws.{IsTextUnder}
-use Rattle.annotate_snippets.specs.Markdown.{markdown, title_above, unlinked, unwrapped}
-use Rattle.annotate_snippets.specs.declared.renderer.Renderer.{Renderer}
-use Rattle.annotate_snippets.specs.declared.renderer.form.Form.{Form}
+use Rattle.annotate_snippets.proofs.Common.{◌≡◌, ◌∙◌, List, ap, ap₂, string_bytes, subst, sym, cow_slice_items, Group, is_plain_sheet, IsAsSet}
+use Rattle.annotate_snippets.proofs.Common.{form_of, IsTextUnder, markdown, title_above, unlinked, unwrapped, Renderer, Form}
 use Rattle.annotate_snippets.proofs.MarkdownLemmas.{markdown-laws, plain-under}
 use Rattle.annotate_snippets.proofs.renderer.Renderer.render_markdown.Goals as goal
 

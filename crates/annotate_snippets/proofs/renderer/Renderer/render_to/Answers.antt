@@ -1,6 +1,4 @@
-use Rattle.std.proofs.Common.{◌∙◌, sym}
-use Rattle.std.proofs.lemmas.Option.{IfSome_then}
-use Rattle.annotate_snippets.specs.Fault.{first_refusal}
+use Rattle.annotate_snippets.proofs.Common.{◌∙◌, sym, IfSome_then, first_refusal}
 use Rattle.annotate_snippets.proofs.WriteLemmas.{target_same}
 use Rattle.annotate_snippets.proofs.renderer.Renderer.render_to.Goals as goal
 

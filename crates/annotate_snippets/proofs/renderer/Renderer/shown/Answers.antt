@@ -1,5 +1,4 @@
-use Rattle.std.proofs.Common.{◌≡◌, ◌∙◌, None, sym}
-use Rattle.annotate_snippets.specs.Fault.{first_fault, missing_title, refusal_in}
+use Rattle.annotate_snippets.proofs.Common.{◌≡◌, ◌∙◌, None, sym, first_fault, missing_title, refusal_in}
 use Rattle.annotate_snippets.proofs.AsSetLemmas.{drawable-set}
 use Rattle.annotate_snippets.proofs.AsSetSteps.{set-remade, unset}
 use Rattle.annotate_snippets.proofs.FaultLemmas.{unrefused}

@@ -1,4 +1,4 @@
-use Rattle.std.proofs.lemmas.Result.{IfOk-weaker}
+use Rattle.annotate_snippets.proofs.Common.{IfOk-weaker}
 use Rattle.annotate_snippets.proofs.ContextShown.{fits-around}
 use Rattle.annotate_snippets.proofs.renderer.Renderer.with_context.Goals as goal
 

@@ -1,8 +1,4 @@
-use Rattle.std.proofs.Common.{◌≡◌, List, ap, subst, sym}
-use Rattle.std.proofs.lemmas.Result.{IfOk-weaker}
-use Rattle.snippet_model.specs.declared.snippet.Group.{Group}
-use Rattle.snippet_shown.specs.AsMasked.{IsGroupMasked}
-use Rattle.annotate_snippets.specs.AsSet.{IsStep}
+use Rattle.annotate_snippets.proofs.Common.{◌≡◌, List, ap, subst, sym, IfOk-weaker, Group, IsGroupMasked, IsStep}
 use Rattle.annotate_snippets.proofs.MaskShown.{groups-taken}
 use Rattle.annotate_snippets.proofs.renderer.Renderer.with_masks.Goals as goal
 

@@ -1,11 +1,5 @@
-use Rattle.std.proofs.Common.{◌≡◌, ◌∙◌, ℕ, All, Bool, List, ap, subst, sym}
-use Rattle.std.proofs.lemmas.Result.{IfOk-weaker}
-use Rattle.std.specs.List.{AllZip}
-use Rattle.snippet_model.specs.declared.snippet.Group.{Group}
-use Rattle.snippet_shown.specs.AsWrapped.{IsGroupWrapped}
-use Rattle.annotate_snippets.specs.AsSet.{IsStep, wraps}
-use Rattle.annotate_snippets.specs.Gutter.{gutter_of_report}
-use Rattle.annotate_snippets.specs.PreparedReport.{IsGroupDrawable}
+use Rattle.annotate_snippets.proofs.Common.{◌≡◌, ◌∙◌, ℕ, All, Bool, List, ap, subst, sym, IfOk-weaker, AllZip, Group, IsGroupWrapped, IsStep}
+use Rattle.annotate_snippets.proofs.Common.{wraps, gutter_of_report, IsGroupDrawable}
 use Rattle.annotate_snippets.proofs.FaultLemmas.{groups-drawable}
 use Rattle.annotate_snippets.proofs.WrapShown.{groups-wrappable}
 use Rattle.annotate_snippets.proofs.renderer.Renderer.with_wrapped.Goals as goal

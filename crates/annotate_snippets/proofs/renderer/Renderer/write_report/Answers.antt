@@ -1,10 +1,5 @@
-use Rattle.std.proofs.Common.{◌≡◌, All, List, None, rules, subst, sym}
-use Rattle.std.proofs.lemmas.Result.{on_err_weaker, on_ok_weaker}
-use Rattle.snippet_model.specs.declared.snippet.Group.{Group}
-use Rattle.annotate_snippets.specs.AsSet.{IsAsSet}
-use Rattle.annotate_snippets.specs.Fault.{missing_title}
-use Rattle.annotate_snippets.specs.Lent.{held}
-use Rattle.annotate_snippets.specs.PreparedReport.{IsGroupDrawable}
+use Rattle.annotate_snippets.proofs.Common.{◌≡◌, All, List, None, rules, subst, sym, on_err_weaker, on_ok_weaker, Group, IsAsSet, missing_title, held}
+use Rattle.annotate_snippets.proofs.Common.{IsGroupDrawable}
 use Rattle.annotate_snippets.proofs.AsSetLemmas.{written-laws, written-part, written-shows}
 use Rattle.annotate_snippets.proofs.renderer.Renderer.write_report.Goals as goal
 

@@ -1,6 +1,4 @@
-use Rattle.std.proofs.Common.{string_bytes}
-use Rattle.std.proofs.lemmas.Result.{on_ok_weaker}
-use Rattle.snippet_grid.proofs.OutcomeLemmas.{on_ok_value}
+use Rattle.annotate_snippets.proofs.Common.{string_bytes, on_ok_weaker, on_ok_value}
 use Rattle.annotate_snippets.proofs.ArticleLemmas.{link-ended}
 use Rattle.annotate_snippets.proofs.renderer.article.end_link.Goals as goal
 

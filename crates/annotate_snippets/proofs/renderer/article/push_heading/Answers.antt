@@ -1,9 +1,4 @@
-use Rattle.std.proofs.Common.{◌++◌, string_bytes, codes}
-use Rattle.std.proofs.lemmas.Result.{on_ok_weaker}
-use Rattle.snippet_grid.proofs.OutcomeLemmas.{on_ok_value}
-use Rattle.snippet_grid.specs.Html.{html_bytes}
-use Rattle.snippet_model.specs.Heading.{heading_of_title}
-use Rattle.annotate_snippets.specs.Article.{title_html}
+use Rattle.annotate_snippets.proofs.Common.{◌++◌, string_bytes, codes, on_ok_weaker, on_ok_value, html_bytes, heading_of_title, title_html}
 use Rattle.annotate_snippets.proofs.ArticleLemmas.{bytes-added}
 use Rattle.annotate_snippets.proofs.renderer.article.push_heading.Goals as goal
 

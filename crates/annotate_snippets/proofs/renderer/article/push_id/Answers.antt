@@ -1,11 +1,8 @@
-use Rattle.std.proofs.Common.{◌≡◌, ◌∙◌, ℕ, List, map, subst, sym, ap, ap₂, chars, string_bytes, ◌++◌}
-use Rattle.std.proofs.lemmas.Result.{on_ok_weaker}
-use Rattle.std.specs.Cow.{cow_str_bytes}
-use Rattle.std.specs.Option.{option_copied, option_map}
-use Rattle.snippet_grid.specs.Html.{AddsHtml, HtmlPiece, Text}
-use Rattle.snippet_text.specs.Normalized.{norm}
-use Rattle.snippet_titles.specs.HeadingRows.{closing_bracket_of, opening_bracket_of}
-use Rattle.annotate_snippets.specs.Article.{address_of, linked_html}
+use Rattle.annotate_snippets.proofs.Common.{◌≡◌, ◌∙◌, ℕ, List, map, subst, sym, ap, ap₂, string_bytes, ◌++◌, on_ok_weaker, cow_str_bytes}
+use Rattle.annotate_snippets.proofs.Common.{option_copied, option_map, AddsHtml, HtmlPiece, norm, closing_bracket_of, opening_bracket_of, address_of}
+use Rattle.annotate_snippets.proofs.Common.{linked_html}
+use Rattle.std.proofs.Common.{chars}
+use Rattle.snippet_grid.specs.Html.{Text}
 use Rattle.annotate_snippets.proofs.ArticleLemmas.{id-some, three-added}
 use Rattle.annotate_snippets.proofs.renderer.article.push_id.Goals as goal
 

@@ -1,8 +1,5 @@
-use Rattle.std.proofs.Common.{◌++◌, chars, string_bytes, subst, sym, ap}
-use Rattle.std.proofs.lemmas.Result.{on_ok_weaker}
-use Rattle.std.specs.Option.{option_copied}
-use Rattle.snippet_grid.specs.Html.{AddsHtml}
-use Rattle.annotate_snippets.specs.Article.{linked_html}
+use Rattle.annotate_snippets.proofs.Common.{◌++◌, string_bytes, subst, sym, ap, on_ok_weaker, option_copied, AddsHtml, linked_html}
+use Rattle.std.proofs.Common.{chars}
 use Rattle.annotate_snippets.proofs.ArticleLemmas.{linked-added}
 use Rattle.annotate_snippets.proofs.renderer.article.push_linked.Goals as goal
 

@@ -1,6 +1,5 @@
-use Rattle.std.proofs.Common.{chars, string_bytes}
-use Rattle.std.proofs.lemmas.Result.{on_ok_weaker}
-use Rattle.snippet_grid.proofs.HtmlLemmas.{adds_text}
+use Rattle.annotate_snippets.proofs.Common.{string_bytes, on_ok_weaker, adds_text}
+use Rattle.std.proofs.Common.{chars}
 use Rattle.annotate_snippets.proofs.renderer.article.push_text.Goals as goal
 
 pub returns : goal.returns

@@ -1,13 +1,7 @@
-use Rattle.std.proofs.Common.{◌≡◌, ◌∙◌, ℕ, List, map, subst, ap, ap₂, chars, string_bytes, ◌++◌}
-use Rattle.std.proofs.lemmas.Result.{on_ok_weaker}
-use Rattle.std.specs.Cow.{cow_str_bytes}
-use Rattle.std.specs.Option.{option_copied}
-use Rattle.snippet_grid.specs.Html.{AddsHtml, HtmlPiece, Text}
-use Rattle.snippet_model.specs.Heading.{is_hidden}
-use Rattle.snippet_model.specs.Level.{name_of}
-use Rattle.snippet_text.specs.Normalized.{norm}
-use Rattle.snippet_titles.specs.HeadingRows.{colon_of}
-use Rattle.annotate_snippets.specs.Article.{id_html}
+use Rattle.annotate_snippets.proofs.Common.{◌≡◌, ◌∙◌, ℕ, List, map, subst, ap, ap₂, string_bytes, ◌++◌, on_ok_weaker, cow_str_bytes}
+use Rattle.annotate_snippets.proofs.Common.{option_copied, AddsHtml, HtmlPiece, is_hidden, name_of, norm, colon_of, id_html}
+use Rattle.std.proofs.Common.{chars}
+use Rattle.snippet_grid.specs.Html.{Text}
 use Rattle.annotate_snippets.proofs.ArticleLemmas.{four-added}
 use Rattle.annotate_snippets.proofs.renderer.article.push_title.Goals as goal
 

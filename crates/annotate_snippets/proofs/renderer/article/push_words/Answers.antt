@@ -1,6 +1,5 @@
-use Rattle.std.proofs.Common.{◌++◌, string_bytes, codes, chars, encode_utf8_all}
-use Rattle.std.proofs.lemmas.Result.{on_ok_weaker}
-use Rattle.snippet_grid.proofs.OutcomeLemmas.{on_ok_value}
+use Rattle.annotate_snippets.proofs.Common.{◌++◌, string_bytes, codes, encode_utf8_all, on_ok_weaker, on_ok_value}
+use Rattle.std.proofs.Common.{chars}
 use Rattle.snippet_grid.specs.Html.{escaped}
 use Rattle.annotate_snippets.proofs.ArticleLemmas.{bytes-added}
 use Rattle.annotate_snippets.proofs.renderer.article.push_words.Goals as goal

@@ -1,12 +1,5 @@
-use Rattle.std.proofs.Common.{◌≡◌, ◌∙◌, ◌++◌, [], Bool, List, ap, sym}
-use Rattle.std.specs.Cow.{cow_str_bytes}
-use Rattle.std.proofs.lemmas.List.{append_assoc}
-use Rattle.std.proofs.lemmas.Result.{on_ok_weaker}
-use Rattle.snippet_parts.specs.Kept.{shown_lines}
-use Rattle.snippet_style.specs.Cell.{Cell}
-use Rattle.annotate_snippets.specs.GraphicForm.{rows_of_lines}
-use Rattle.annotate_snippets.specs.Page.{cells_of}
-use Rattle.annotate_snippets.specs.RowsWithoutSource.{cause_head, rows_after_cause}
+use Rattle.annotate_snippets.proofs.Common.{◌≡◌, ◌∙◌, ◌++◌, [], Bool, List, ap, sym, cow_str_bytes, append_assoc, on_ok_weaker, shown_lines}
+use Rattle.annotate_snippets.proofs.Common.{Cell, rows_of_lines, cells_of, cause_head, rows_after_cause}
 use Rattle.annotate_snippets.proofs.CauseShown.{snippet_cells}
 use Rattle.annotate_snippets.proofs.renderer.cause.draw_cause.Goals as goal
 

@@ -1,29 +1,8 @@
-use Rattle.std.proofs.Common.{◌≡◌, ◌∙◌, ◌+◌, ◌-◌, ◌<◌, ◌≤◌, ◌^◌, ◌++◌, IfSome, [], All, Bool, List, ap, length, map, refl, subst, sym}
-use Rattle.std.proofs.lemmas.Result.{on_ok_weaker}
-use Rattle.std.specs.Cow.{cow_str_bytes}
-use Rattle.snippet_model.specs.declared.snippet.Annotation.{Annotation}
-use Rattle.snippet_lines.specs.Lines.{Source}
-use Rattle.snippet_lines.specs.Number.{shown_number}
-use Rattle.snippet_lines.specs.IsSpan.{IsSpan}
-use Rattle.snippet_lines.specs.declared.number.LineNumbers.{LineNumbers}
-use Rattle.snippet_parts.specs.declared.entries.AnnotatedLineInfo.{AnnotatedLineInfo}
-use Rattle.snippet_parts.specs.ShownLines.{infos_of, kept_of}
-use Rattle.snippet_parts.proofs.ShownLineLemmas.{infos_all}
-use Rattle.snippet_parts.specs.Annotated.{annotated_lines, kept_line}
-use Rattle.snippet_parts.specs.OnLine.{seen_kept}
-use Rattle.snippet_parts.specs.Kept.{kept_lines, shown_lines}
-use Rattle.snippet_window.specs.Measures.{margin_of}
-use Rattle.snippet_parts.specs.declared.entries.LineAnnotation.{LineAnnotation}
-use Rattle.snippet_grid.specs.Layout.{Layout}
-use Rattle.snippet_strokes.specs.Drawable.{IsDrawableLine}
-use Rattle.snippet_strokes.specs.declared.snippet.LineView.{LineView}
-use Rattle.annotate_snippets.specs.GraphicForm.{margin_in, rows_of_lines}
-use Rattle.annotate_snippets.specs.Page.{cells_of}
-use Rattle.snippet_strokes.specs.InfoRows.{infos_rows}
-use Rattle.snippet_style.specs.Cell.{Cell}
-use Rattle.annotate_snippets.specs.Gutter.{numbered_source}
-use Rattle.annotate_snippets.specs.PreparedReport.{IsCausePrepared}
-use Rattle.annotate_snippets.specs.declared.renderer.preprocess.PreparedCause.{PreparedCause}
+use Rattle.annotate_snippets.proofs.Common.{◌≡◌, ◌∙◌, ◌+◌, ◌-◌, ◌<◌, ◌≤◌, ◌^◌, ◌++◌, IfSome, [], All, Bool, List, ap}
+use Rattle.annotate_snippets.proofs.Common.{length, map, refl, subst, sym, on_ok_weaker, cow_str_bytes, Annotation, Source, shown_number, IsSpan, LineNumbers}
+use Rattle.annotate_snippets.proofs.Common.{AnnotatedLineInfo, infos_of, kept_of, infos_all, annotated_lines, kept_line, seen_kept, kept_lines, shown_lines}
+use Rattle.annotate_snippets.proofs.Common.{margin_of, LineAnnotation, Layout, IsDrawableLine, LineView, margin_in, rows_of_lines, cells_of, infos_rows, Cell}
+use Rattle.annotate_snippets.proofs.Common.{numbered_source, IsCausePrepared, PreparedCause}
 use Rattle.annotate_snippets.proofs.GutterLemmas.{numbers_fit}
 use Rattle.annotate_snippets.proofs.LineValue.{lines_value}
 use Rattle.annotate_snippets.proofs.PartsFacts.{lines_entries, lines_labels, lines_texts, shown_clear}

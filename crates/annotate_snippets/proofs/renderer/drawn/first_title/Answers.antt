@@ -1,14 +1,5 @@
-use Rattle.std.proofs.Common.{◌≡◌, ◌∙◌, List, Err, Ok, Result, Some, ap, sym}
-use Rattle.std.specs.List.{slice_get}
-use Rattle.std.specs.Option.{option_copied}
-use Rattle.std.specs.Result.{IfOk}
-use Rattle.std.specs.declared.alloc.AllocError.{AllocError}
-use Rattle.snippet_model.specs.declared.snippet.Group.{Group}
-use Rattle.snippet_model.specs.declared.snippet.Title.{Title}
-use Rattle.annotate_snippets.specs.Walk.{IsShortForm}
-use Rattle.annotate_snippets.specs.ShortForm.{short_form}
-use Rattle.annotate_snippets.specs.declared.renderer.Renderer.{Renderer}
-use Rattle.annotate_snippets.specs.declared.renderer.short.ShortForm.{ShortForm}
+use Rattle.annotate_snippets.proofs.Common.{◌≡◌, ◌∙◌, List, Err, Ok, Result, Some, ap, sym, slice_get, option_copied, IfOk, AllocError, Group}
+use Rattle.annotate_snippets.proofs.Common.{Title, IsShortForm, short_form, Renderer, ShortForm}
 use Rattle.annotate_snippets.proofs.FaultLemmas.{first-there, title-there}
 use Rattle.annotate_snippets.proofs.renderer.drawn.first_title.Goals as goal
 

@@ -1,9 +1,4 @@
-use Rattle.std.proofs.Common.{List, string_bytes}
-use Rattle.std.proofs.lemmas.Result.{IfOk-weaker}
-use Rattle.snippet_model.specs.declared.snippet.Group.{Group}
-use Rattle.snippet_style.specs.declared.stylesheet.Stylesheet.{Stylesheet}
-use Rattle.annotate_snippets.specs.WithLaws.{IsTextUnder}
-use Rattle.annotate_snippets.specs.declared.renderer.form.Form.TheVariants.{Short}
+use Rattle.annotate_snippets.proofs.Common.{List, string_bytes, IfOk-weaker, Group, Stylesheet, IsTextUnder, Short}
 use Rattle.annotate_snippets.proofs.ShortShown.{IsOfShort, short-under}
 use Rattle.annotate_snippets.proofs.renderer.drawn.short_form_text.Goals as goal
 

@@ -1,6 +1,5 @@
 -- Each text so far is the form's under its sheet.
-use Rattle.std.proofs.Common.{map, string_bytes, take}
-use Rattle.std.specs.List.{AllZip}
+use Rattle.annotate_snippets.proofs.Common.{map, string_bytes, take, AllZip}
 use Rattle.annotate_snippets.proofs.ShortShown.{IsOfShort}
 use Rattle.annotate_snippets.proofs.renderer.drawn.short_form_texts.Given as goal
 

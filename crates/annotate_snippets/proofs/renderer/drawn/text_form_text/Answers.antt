@@ -1,12 +1,5 @@
-use Rattle.std.proofs.Common.{List, string_bytes, ◌≡◌}
-use Rattle.std.proofs.lemmas.Result.{IfOk-weaker}
-use Rattle.snippet_grid.specs.Woven.{IsWoven}
-use Rattle.snippet_model.specs.declared.snippet.Group.{Group}
-use Rattle.snippet_style.specs.declared.stylesheet.Stylesheet.{Stylesheet}
-use Rattle.snippet_text_form.specs.Form.{form_bytes, form_text}
-use Rattle.snippet_text_form.specs.FormLinks.{form_links}
-use Rattle.annotate_snippets.specs.WithLaws.{IsTextUnder}
-use Rattle.annotate_snippets.specs.declared.renderer.form.Form.TheVariants.{Text}
+use Rattle.annotate_snippets.proofs.Common.{List, string_bytes, ◌≡◌, IfOk-weaker, IsWoven, Group, Stylesheet, form_bytes, form_text, form_links}
+use Rattle.annotate_snippets.proofs.Common.{IsTextUnder, Text}
 use Rattle.annotate_snippets.proofs.ReportLemmas.{IfOk-both}
 use Rattle.annotate_snippets.proofs.TextShown.{form-text, text-under}
 use Rattle.annotate_snippets.proofs.renderer.drawn.text_form_text.Goals as goal

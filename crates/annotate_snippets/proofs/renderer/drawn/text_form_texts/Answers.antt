@@ -1,11 +1,5 @@
-use Rattle.std.proofs.Common.{◌∙◌, [], ◌∷◌, List, ap, arith, map, string_bytes, subst}
-use Rattle.std.specs.List.{AllZip}
-use Rattle.std.proofs.lemmas.List.{map-append, take_all}
-use Rattle.snippet_model.specs.declared.snippet.Group.{Group}
-use Rattle.snippet_model.proofs.ZipLemmas.{AllZip-weaker}
-use Rattle.snippet_style.specs.declared.stylesheet.Stylesheet.{Stylesheet}
-use Rattle.annotate_snippets.specs.Laws.Forms.{LawsIn}
-use Rattle.annotate_snippets.specs.declared.renderer.form.Form.TheVariants.{Text}
+use Rattle.annotate_snippets.proofs.Common.{◌∙◌, [], ◌∷◌, List, ap, arith, map, string_bytes, subst, AllZip, map-append, take_all, Group}
+use Rattle.annotate_snippets.proofs.Common.{AllZip-weaker, Stylesheet, LawsIn, Text}
 use Rattle.annotate_snippets.proofs.ListLemmas.{AllZip-push}
 use Rattle.annotate_snippets.proofs.TextShown.{IsFormText, form-text, text-law, text-shown}
 use Rattle.annotate_snippets.proofs.renderer.drawn.text_form_texts.Goals as goal

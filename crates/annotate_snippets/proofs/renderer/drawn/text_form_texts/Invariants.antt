@@ -1,6 +1,5 @@
 -- Each text so far is the text form under its sheet.
-use Rattle.std.proofs.Common.{map, string_bytes, take}
-use Rattle.std.specs.List.{AllZip}
+use Rattle.annotate_snippets.proofs.Common.{map, string_bytes, take, AllZip}
 use Rattle.annotate_snippets.proofs.TextShown.{IsFormText}
 use Rattle.annotate_snippets.proofs.renderer.drawn.text_form_texts.Given as goal
 

@@ -1,9 +1,5 @@
-use Rattle.std.proofs.Common.{◌∙◌, ◌+◌, ◌&&◌, not, map, ap, sym, subst, true, false, List, arith}
-use Rattle.std.specs.Option.{option_copied}
-use Rattle.std.proofs.lemmas.List.{length-map}
-use Rattle.annotate_snippets.specs.declared.renderer.element_context.ElementContext.{ElementContext}
-use Rattle.annotate_snippets.specs.ElementContext.{first_two_share, next_of}
-use Rattle.annotate_snippets.specs.PreparedReport.{element_of}
+use Rattle.annotate_snippets.proofs.Common.{◌∙◌, ◌+◌, ◌&&◌, not, map, ap, sym, subst, true, false, List, arith, option_copied, length-map}
+use Rattle.annotate_snippets.proofs.Common.{ElementContext, first_two_share, next_of, element_of}
 use Rattle.annotate_snippets.proofs.ContextLemmas.{AreAroundBefore, all_around, around_more, around_same, element_read, elements_from, has_file}
 use Rattle.annotate_snippets.proofs.ContextLemmas.{none_around}
 use Rattle.annotate_snippets.proofs.renderer.element_context.contexts_of.Goals.{then-primary, else-primary}

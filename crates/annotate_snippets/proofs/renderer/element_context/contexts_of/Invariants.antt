@@ -1,7 +1,5 @@
 -- The elements so far have their contexts.
-use Rattle.std.proofs.Common.{map}
-use Rattle.std.specs.Option.{option_copied}
-use Rattle.annotate_snippets.specs.PreparedReport.{element_of}
+use Rattle.annotate_snippets.proofs.Common.{map, option_copied, element_of}
 use Rattle.annotate_snippets.proofs.ContextLemmas.{AreAroundBefore}
 use Rattle.annotate_snippets.proofs.renderer.element_context.contexts_of.Given as goal
 

@@ -1,11 +1,5 @@
-use Rattle.std.proofs.Common.{[], ◌∷◌, ◌∙◌, ap, refl, sym}
-use Rattle.std.proofs.lemmas.Result.{on_ok_weaker}
-use Rattle.snippet_model.specs.Heading.{heading_of_message}
-use Rattle.snippet_model.specs.declared.snippet.Element.TheVariants.{Cause, Message, Origin, Padding}
-use Rattle.snippet_titles.specs.HeadingRows.{heading_rows}
-use Rattle.snippet_titles.proofs.PaddingWords.{padding_row}
-use Rattle.annotate_snippets.specs.PreparedReport.{element_of}
-use Rattle.annotate_snippets.specs.RowsWithoutSource.{origin_rows}
+use Rattle.annotate_snippets.proofs.Common.{[], ◌∷◌, ◌∙◌, ap, refl, sym, on_ok_weaker, heading_of_message, Cause, Message, Origin, Padding}
+use Rattle.annotate_snippets.proofs.Common.{heading_rows, padding_row, element_of, origin_rows}
 use Rattle.annotate_snippets.proofs.PageWords.{message_rows}
 use Rattle.annotate_snippets.proofs.NamedRows.{cells_of-others}
 use Rattle.annotate_snippets.proofs.PlainRows.{plain_added}

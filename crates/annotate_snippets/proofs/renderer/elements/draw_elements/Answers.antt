@@ -1,9 +1,5 @@
-use Rattle.std.proofs.Common.{length, map, subst}
-use Rattle.std.specs.Option.{option_copied}
-use Rattle.std.proofs.lemmas.Iterator.Adapters.{YieldsList-from_vec}
-use Rattle.std.proofs.lemmas.Iterator.Consumers.{YieldsList-end, YieldsList-from_enumerate, YieldsList-turn}
-use Rattle.std.proofs.lemmas.List.{length_push}
-use Rattle.annotate_snippets.specs.PreparedReport.{AreAround, element_of}
+use Rattle.annotate_snippets.proofs.Common.{length, map, subst, option_copied, YieldsList-from_vec, YieldsList-end, YieldsList-from_enumerate, YieldsList-turn}
+use Rattle.annotate_snippets.proofs.Common.{length_push, AreAround, element_of}
 use Rattle.annotate_snippets.proofs.ElementRows.{drawn_none, turn_drawn, turn_stands, turns_all}
 use Rattle.annotate_snippets.proofs.renderer.elements.draw_elements.Goals as goal
 

@@ -1,6 +1,4 @@
-use Rattle.std.proofs.Common.{length, map}
-use Rattle.std.specs.Option.{option_copied}
-use Rattle.annotate_snippets.specs.PreparedReport.{element_of}
+use Rattle.annotate_snippets.proofs.Common.{length, map, option_copied, element_of}
 use Rattle.annotate_snippets.proofs.ElementRows.{DrawnSoFar}
 use Rattle.annotate_snippets.proofs.renderer.elements.draw_elements.Given as goal
 

@@ -1,9 +1,4 @@
-use Rattle.std.proofs.Common.{◌≡◌, ◌∙◌, List, ap, map, sym}
-use Rattle.std.specs.Option.{option_copied}
-use Rattle.snippet_model.specs.declared.snippet.Element.{Element}
-use Rattle.annotate_snippets.specs.ElementContext.{next_of}
-use Rattle.annotate_snippets.specs.PreparedReport.{element_of}
-use Rattle.annotate_snippets.specs.RowsWithoutSource.{title_part}
+use Rattle.annotate_snippets.proofs.Common.{◌≡◌, ◌∙◌, List, ap, map, sym, option_copied, Element, next_of, element_of, title_part}
 use Rattle.annotate_snippets.proofs.ElementRows.{group_drawn, title_drawn}
 use Rattle.annotate_snippets.proofs.renderer.graphic.draw_group.Goals.{in-Some+in_ok-draw_title, in_default}
 use Rattle.annotate_snippets.proofs.renderer.graphic.draw_group.Goals as goal

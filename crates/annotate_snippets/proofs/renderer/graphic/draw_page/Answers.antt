@@ -1,11 +1,6 @@
-use Rattle.std.proofs.Common.{◌≡◌, ◌∙◌, ◌==◌, ◌+◌, alloc_error, ap, drop, arith, inr, length, map, refl, subst, sym, take, true}
-use Rattle.std.proofs.lemmas.Iterator.Adapters.{YieldsList-from_vec}
-use Rattle.std.proofs.lemmas.Iterator.Consumers.{YieldsList-end, YieldsList-from_enumerate, YieldsList-turn}
-use Rattle.std.proofs.lemmas.List.{length_push, take_all}
-use Rattle.std.specs.Option.{option_copied}
-use Rattle.annotate_snippets.specs.GraphicForm.{graphic_form}
-use Rattle.annotate_snippets.specs.Gutter.{gutter_of_report}
-use Rattle.annotate_snippets.specs.PageSink.{Stops, Takes}
+use Rattle.annotate_snippets.proofs.Common.{◌≡◌, ◌∙◌, ◌==◌, ◌+◌, alloc_error, ap, drop, arith, inr, length, map, refl, subst, sym, take}
+use Rattle.annotate_snippets.proofs.Common.{true, YieldsList-from_vec, YieldsList-end, YieldsList-from_enumerate, YieldsList-turn, length_push, take_all}
+use Rattle.annotate_snippets.proofs.Common.{option_copied, graphic_form, gutter_of_report, Stops, Takes}
 use Rattle.annotate_snippets.proofs.AreTexts.{prepared_texts}
 use Rattle.annotate_snippets.proofs.GridRows.{page_count, room_at, stands_at, taken_here, turn_group, turn_prepared, turns_all}
 use Rattle.annotate_snippets.proofs.PageWords.{page_at}

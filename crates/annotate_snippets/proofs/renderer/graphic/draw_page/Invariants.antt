@@ -1,7 +1,5 @@
 -- The grid is empty, and the sink took up the groups so far.
-use Rattle.std.proofs.Common.{◌≡◌, [], length, take, true}
-use Rattle.annotate_snippets.specs.GraphicForm.{graphic_form}
-use Rattle.annotate_snippets.specs.PageSink.{Takes}
+use Rattle.annotate_snippets.proofs.Common.{◌≡◌, [], length, take, true, graphic_form, Takes}
 use Rattle.annotate_snippets.proofs.renderer.graphic.draw_page.Given as goal
 
 abbrev pub invariant-loop-i : goal.invariant-loop-i

@@ -1,6 +1,4 @@
-use Rattle.std.proofs.Common.{◌∙◌, ap}
-use Rattle.std.specs.Option.{option_copied, option_or}
-use Rattle.annotate_snippets.specs.ElementContext.{primary_path}
+use Rattle.annotate_snippets.proofs.Common.{◌∙◌, ap, option_copied, option_or, primary_path}
 use Rattle.annotate_snippets.proofs.GridRows.{copied_or, layout_is}
 use Rattle.annotate_snippets.proofs.renderer.graphic.group_context.Goals as goal
 

@@ -1,12 +1,5 @@
-use Rattle.std.proofs.Common.{◌≡◌, ◌∙◌, List, ap, cond, fold, map, subst, sym}
-use Rattle.std.specs.List.{flat_map}
-use Rattle.std.proofs.lemmas.List.{take_all}
-use Rattle.std.proofs.lemmas.List.Elements.{All-same}
-use Rattle.std.proofs.lemmas.List.Folds.{flat_map-map}
-use Rattle.snippet_model.specs.declared.snippet.Group.{Group}
-use Rattle.annotate_snippets.specs.Gutter.{width_wanted}
-use Rattle.annotate_snippets.specs.PreparedReport.{IsElementPrepared, IsGroupPrepared}
-use Rattle.annotate_snippets.specs.declared.renderer.preprocess.PreparedGroup.{PreparedGroup}
+use Rattle.annotate_snippets.proofs.Common.{◌≡◌, ◌∙◌, List, ap, cond, fold, map, subst, sym, flat_map, take_all, All-same, flat_map-map, Group}
+use Rattle.annotate_snippets.proofs.Common.{width_wanted, IsElementPrepared, IsGroupPrepared, PreparedGroup}
 use Rattle.annotate_snippets.proofs.WidestLemmas.{elements_in, greater, widest-more_groups, widest-prepared, width-undrawn}
 use Rattle.annotate_snippets.proofs.renderer.gutter.gutter_of.Goals as goal
 use Rattle.annotate_snippets.proofs.renderer.gutter.gutter_of.Goals.{After-deref}

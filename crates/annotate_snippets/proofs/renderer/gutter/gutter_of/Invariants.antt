@@ -1,7 +1,5 @@
 -- The width so far is the greatest that the elements of the groups so far want.
-use Rattle.std.proofs.Common.{◌≡◌, ◌≤◌, fold, take}
-use Rattle.std.specs.List.{flat_map}
-use Rattle.annotate_snippets.specs.Gutter.{width_wanted}
+use Rattle.annotate_snippets.proofs.Common.{◌≡◌, ◌≤◌, fold, take, flat_map, width_wanted}
 use Rattle.annotate_snippets.proofs.WidestLemmas.{elements_in, greater}
 use Rattle.annotate_snippets.proofs.renderer.gutter.gutter_of.Given as goal
 

@@ -1,8 +1,5 @@
-use Rattle.std.proofs.Common.{◌∙◌, List, ap, arith, fold, map, subst, sym}
-use Rattle.std.proofs.lemmas.List.{take_all}
-use Rattle.annotate_snippets.specs.Gutter.{width_wanted}
-use Rattle.annotate_snippets.specs.PreparedReport.{IsElementPrepared, element_of}
-use Rattle.annotate_snippets.specs.declared.renderer.preprocess.PreparedElement.{PreparedElement}
+use Rattle.annotate_snippets.proofs.Common.{◌∙◌, List, ap, arith, fold, map, subst, sym, take_all, width_wanted, IsElementPrepared, element_of}
+use Rattle.annotate_snippets.proofs.Common.{PreparedElement}
 use Rattle.annotate_snippets.proofs.WidestLemmas.{greater, widest-more}
 use Rattle.annotate_snippets.proofs.renderer.gutter.widened.Goals as goal
 

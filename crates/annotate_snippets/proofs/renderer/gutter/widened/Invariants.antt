@@ -1,7 +1,5 @@
 -- The width so far is the greatest that the elements so far want.
-use Rattle.std.proofs.Common.{◌≡◌, ◌≤◌, fold, map, take}
-use Rattle.annotate_snippets.specs.Gutter.{width_wanted}
-use Rattle.annotate_snippets.specs.PreparedReport.{element_of}
+use Rattle.annotate_snippets.proofs.Common.{◌≡◌, ◌≤◌, fold, map, take, width_wanted, element_of}
 use Rattle.annotate_snippets.proofs.WidestLemmas.{greater}
 use Rattle.annotate_snippets.proofs.renderer.gutter.widened.Given as goal
 

@@ -1,4 +1,4 @@
-use Rattle.annotate_snippets.specs.GraphicForm.{graphic_form}
+use Rattle.annotate_snippets.proofs.Common.{graphic_form}
 use Rattle.annotate_snippets.proofs.HtmlShown.{html_after}
 use Rattle.annotate_snippets.proofs.renderer.html.page_html.Goals as goal
 

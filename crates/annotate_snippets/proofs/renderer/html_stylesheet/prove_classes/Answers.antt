@@ -1,10 +1,6 @@
-use Rattle.std.proofs.Common.{[], ◌∷◌, All, List, map, refl}
-use Rattle.std.proofs.lemmas.List.Elements.{All-cons, All-nil}
-use Rattle.snippet_grid.specs.Html.{class_of}
-use Rattle.annotate_snippets.specs.HtmlStylesheet.{IsClassOfRole}
-use Rattle.snippet_style.specs.declared.role.ElementStyle.{ElementStyle}
-use Rattle.snippet_style.specs.declared.role.ElementStyle.TheVariants.{MainHeaderMsg, LineNumber, UnderlineSecondary, Level, Addition, Removal}
-use Rattle.snippet_style.specs.declared.role.LevelInner.TheVariants.{Error, Warning, Info, Note, Help}
+use Rattle.annotate_snippets.proofs.Common.{[], ◌∷◌, All, List, map, refl, All-cons, All-nil, class_of, IsClassOfRole, ElementStyle, MainHeaderMsg}
+use Rattle.annotate_snippets.proofs.Common.{LineNumber, UnderlineSecondary, Addition, Removal, Error, Warning, Info, Note, Help}
+use Rattle.snippet_style.specs.declared.role.ElementStyle.TheVariants.{Level}
 use Rattle.annotate_snippets.proofs.renderer.html_stylesheet.prove_classes.Goals as goal
 
 -- the classes of roles, in a group that is an error's

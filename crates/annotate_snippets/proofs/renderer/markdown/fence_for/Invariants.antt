@@ -1,4 +1,4 @@
-use Rattle.std.proofs.Common.{◌≡◌, replicate, string_bytes}
+use Rattle.annotate_snippets.proofs.Common.{◌≡◌, replicate, string_bytes}
 use Rattle.annotate_snippets.proofs.renderer.markdown.fence_for.Given as goal
 
 -- so many backquotes

@@ -1,4 +1,4 @@
-use Rattle.std.proofs.Common.{◌≡◌, ◌≤◌, drop}
+use Rattle.annotate_snippets.proofs.Common.{◌≡◌, ◌≤◌, drop}
 use Rattle.annotate_snippets.specs.Markdown as spec
 use Rattle.annotate_snippets.proofs.renderer.markdown.longest_run.Given as goal
 

@@ -1,8 +1,6 @@
-use Rattle.std.proofs.Common.{◌∙◌, ℕ, List, ap, sym, encode_utf8_all, string_bytes, ◌++◌, append-nil, append_assoc}
-use Rattle.std.proofs.lemmas.List.{map-id}
-use Rattle.std.proofs.lemmas.Iterator.{YieldsList-from_chars}
-use Rattle.std.proofs.lemmas.Iterator.Consumers.{YieldsList-end}
-use Rattle.annotate_snippets.specs.Markdown.{escaped, escaped_text}
+use Rattle.annotate_snippets.proofs.Common.{◌∙◌, ℕ, List, ap, sym, encode_utf8_all, string_bytes, ◌++◌, map-id, YieldsList-from_chars}
+use Rattle.annotate_snippets.proofs.Common.{YieldsList-end, escaped, escaped_text}
+use Rattle.std.proofs.Common.{append-nil, append_assoc}
 use Rattle.annotate_snippets.proofs.MarkdownLemmas.{escapes-push}
 use Rattle.annotate_snippets.proofs.renderer.markdown.push_escaped.Goals as goal
 

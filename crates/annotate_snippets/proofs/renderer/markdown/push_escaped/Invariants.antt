@@ -1,5 +1,4 @@
-use Rattle.std.proofs.Common.{◌≡◌, ◌++◌, encode_utf8_all, string_bytes}
-use Rattle.annotate_snippets.specs.Markdown.{escaped_text}
+use Rattle.annotate_snippets.proofs.Common.{◌≡◌, ◌++◌, encode_utf8_all, string_bytes, escaped_text}
 use Rattle.annotate_snippets.proofs.renderer.markdown.push_escaped.Given as goal
 
 -- the characters so far are added

@@ -1,9 +1,6 @@
-use Rattle.std.proofs.Common.{◌≡◌, ◌∙◌, ℕ, List, subst, sym, ap, ap₂, chars, encode_utf8_all, string_bytes, ◌++◌}
-use Rattle.std.proofs.lemmas.Result.{on_ok_weaker}
-use Rattle.std.specs.Cow.{cow_str_bytes}
-use Rattle.std.specs.Option.{option_copied, option_map}
-use Rattle.snippet_text.specs.Normalized.{norm}
-use Rattle.annotate_snippets.specs.Markdown.{escaped_text, linked_text}
+use Rattle.annotate_snippets.proofs.Common.{◌≡◌, ◌∙◌, ℕ, List, subst, sym, ap, ap₂, encode_utf8_all, string_bytes, ◌++◌, on_ok_weaker}
+use Rattle.annotate_snippets.proofs.Common.{cow_str_bytes, option_copied, option_map, norm, escaped_text, linked_text}
+use Rattle.std.proofs.Common.{chars}
 use Rattle.annotate_snippets.proofs.MarkdownLemmas.{id-added, id-some}
 use Rattle.annotate_snippets.proofs.renderer.markdown.push_id.Goals as goal
 

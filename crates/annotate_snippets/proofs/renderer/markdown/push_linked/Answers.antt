@@ -1,6 +1,5 @@
-use Rattle.std.proofs.Common.{◌∙◌, ap, sym, chars, encode_utf8_all, string_bytes, ◌++◌}
-use Rattle.std.specs.Option.{option_copied}
-use Rattle.annotate_snippets.specs.Markdown.{linked_text}
+use Rattle.annotate_snippets.proofs.Common.{◌∙◌, ap, sym, encode_utf8_all, string_bytes, ◌++◌, option_copied, linked_text}
+use Rattle.std.proofs.Common.{chars}
 use Rattle.annotate_snippets.proofs.MarkdownLemmas.{linked-added}
 use Rattle.annotate_snippets.proofs.renderer.markdown.push_linked.Goals as goal
 

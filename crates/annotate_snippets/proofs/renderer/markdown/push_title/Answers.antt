@@ -1,6 +1,4 @@
-use Rattle.std.proofs.Common.{◌≡◌, ◌∙◌, ℕ, List, subst, sym, ap, string_bytes, ◌++◌}
-use Rattle.std.specs.Str.{trim}
-use Rattle.annotate_snippets.specs.Markdown.{bold_line, title_bytes}
+use Rattle.annotate_snippets.proofs.Common.{◌≡◌, ◌∙◌, ℕ, List, subst, sym, ap, string_bytes, ◌++◌, trim, bold_line, title_bytes}
 use Rattle.annotate_snippets.proofs.MarkdownLemmas.{bold-added}
 use Rattle.annotate_snippets.proofs.renderer.markdown.push_title.Goals as goal
 

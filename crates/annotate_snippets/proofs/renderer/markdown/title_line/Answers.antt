@@ -1,9 +1,6 @@
-use Rattle.std.proofs.Common.{◌≡◌, ◌∙◌, ap, ap₂, chars, encode_utf8_all, string_bytes, ◌++◌}
-use Rattle.std.specs.Option.{option_copied}
-use Rattle.snippet_model.specs.Heading.{is_hidden}
-use Rattle.snippet_text.specs.Normalized.{norm}
-use Rattle.snippet_titles.specs.HeadingRows.{colon_of}
-use Rattle.annotate_snippets.specs.Markdown.{escaped_text, id_in_markdown}
+use Rattle.annotate_snippets.proofs.Common.{◌≡◌, ◌∙◌, ap, ap₂, encode_utf8_all, string_bytes, ◌++◌, option_copied, is_hidden, norm, colon_of}
+use Rattle.annotate_snippets.proofs.Common.{escaped_text, id_in_markdown}
+use Rattle.std.proofs.Common.{chars}
 use Rattle.annotate_snippets.proofs.MarkdownLemmas.{line-added}
 use Rattle.annotate_snippets.proofs.renderer.markdown.title_line.Goals as goal
 

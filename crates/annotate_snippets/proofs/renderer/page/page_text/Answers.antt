@@ -1,5 +1,4 @@
-use Rattle.std.proofs.Common.{string_bytes}
-use Rattle.annotate_snippets.specs.GraphicForm.{graphic_form}
+use Rattle.annotate_snippets.proofs.Common.{string_bytes, graphic_form}
 use Rattle.annotate_snippets.proofs.SheetPages.{page_after}
 use Rattle.annotate_snippets.proofs.WriteLemmas.{page_text_is}
 use Rattle.annotate_snippets.proofs.renderer.page.page_text.Goals as goal

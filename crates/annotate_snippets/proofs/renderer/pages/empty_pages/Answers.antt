@@ -1,5 +1,4 @@
-use Rattle.std.proofs.Common.{arith}
-use Rattle.annotate_snippets.specs.Written.{IsEmptyPage}
+use Rattle.annotate_snippets.proofs.Common.{arith, IsEmptyPage}
 use Rattle.annotate_snippets.proofs.ListLemmas.{AllZip-push}
 use Rattle.annotate_snippets.proofs.renderer.pages.empty_pages.Goals as goal
 

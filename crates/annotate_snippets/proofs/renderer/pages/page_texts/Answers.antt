@@ -1,9 +1,5 @@
-use Rattle.std.proofs.Common.{◌≡◌, ℕ, Global, List, String, map, string_bytes, subst, sym}
-use Rattle.std.specs.List.{AllZip}
-use Rattle.std.proofs.lemmas.Result.{IfOk-weaker}
-use Rattle.annotate_snippets.specs.WithLaws.{IsTextUnder}
-use Rattle.annotate_snippets.specs.declared.renderer.form.Form.TheVariants.{Graphic}
-use Rattle.annotate_snippets.specs.declared.renderer.page.SheetPage.{SheetPage}
+use Rattle.annotate_snippets.proofs.Common.{◌≡◌, ℕ, List, String, map, string_bytes, subst, sym, AllZip, IfOk-weaker, IsTextUnder, Graphic, SheetPage}
+use Rattle.std.proofs.Common.{Global}
 use Rattle.annotate_snippets.proofs.SheetPages.{pages_after}
 use Rattle.annotate_snippets.proofs.renderer.pages.page_texts.Goals as goal
 

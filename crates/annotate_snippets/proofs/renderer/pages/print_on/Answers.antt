@@ -1,5 +1,4 @@
-use Rattle.std.proofs.Common.{◌∙◌, [], ◌∷◌, ◌++◌, ap, cond, string_bytes}
-use Rattle.annotate_snippets.specs.declared.renderer.page.SheetPage.{SheetPage}
+use Rattle.annotate_snippets.proofs.Common.{◌∙◌, [], ◌∷◌, ◌++◌, ap, cond, string_bytes, SheetPage}
 use Rattle.annotate_snippets.proofs.WriteLemmas.{rows_added}
 use Rattle.annotate_snippets.proofs.renderer.pages.print_on.Goals as goal
 

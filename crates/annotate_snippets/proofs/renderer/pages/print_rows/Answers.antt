@@ -1,4 +1,4 @@
-use Rattle.std.proofs.Common.{arith}
+use Rattle.annotate_snippets.proofs.Common.{arith}
 use Rattle.annotate_snippets.proofs.SheetPages.{grew_all, grew_more}
 use Rattle.annotate_snippets.proofs.renderer.pages.print_rows.Goals as goal
 

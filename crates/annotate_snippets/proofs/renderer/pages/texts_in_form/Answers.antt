@@ -1,14 +1,6 @@
-use Rattle.std.proofs.Common.{◌≡◌, ℕ, [], ◌∷◌, IfOk, List, String, Global, arith, length, map, string_bytes, subst, sym}
-use Rattle.std.proofs.lemmas.Result.{IfOk-weaker}
-use Rattle.std.specs.List.{AllZip}
-use Rattle.snippet_model.specs.declared.snippet.Group.{Group}
-use Rattle.snippet_model.proofs.ZipLemmas.{AllZip-weaker}
-use Rattle.snippet_style.specs.declared.stylesheet.Stylesheet.{Stylesheet}
-use Rattle.annotate_snippets.specs.Laws.Forms.{LawsIn}
-use Rattle.annotate_snippets.specs.WithLaws.{IsTextUnder}
-use Rattle.annotate_snippets.specs.Forms.{ShowsForm}
-use Rattle.annotate_snippets.specs.declared.renderer.form.Form.{Form}
-use Rattle.annotate_snippets.specs.declared.renderer.form.Form.TheVariants.{Graphic}
+use Rattle.annotate_snippets.proofs.Common.{◌≡◌, ℕ, [], ◌∷◌, List, String, arith, length, map, string_bytes, subst, sym, IfOk-weaker, AllZip}
+use Rattle.annotate_snippets.proofs.Common.{Group, AllZip-weaker, Stylesheet, LawsIn, IsTextUnder, ShowsForm, Form, Graphic}
+use Rattle.std.proofs.Common.{IfOk, Global}
 use Rattle.annotate_snippets.proofs.FormsShown.{none-laws, none-shown, one_sheet, one_shown, page-shown}
 use Rattle.annotate_snippets.proofs.renderer.pages.texts_in_form.Goals as goal
 

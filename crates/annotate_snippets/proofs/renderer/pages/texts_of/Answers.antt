@@ -1,8 +1,5 @@
-use Rattle.std.proofs.Common.{◌∙◌, [], ◌∷◌, ◌++◌, ap, map, sym}
-use Rattle.std.proofs.lemmas.Iterator.Adapters.{YieldsList-from_vec}
-use Rattle.std.proofs.lemmas.Iterator.Consumers.{YieldsList-end}
-use Rattle.std.proofs.lemmas.List.{map-append, map-id}
-use Rattle.annotate_snippets.specs.declared.renderer.page.SheetPage.{SheetPage}
+use Rattle.annotate_snippets.proofs.Common.{◌∙◌, [], ◌∷◌, ◌++◌, ap, map, sym, YieldsList-from_vec, YieldsList-end, map-append, map-id}
+use Rattle.annotate_snippets.proofs.Common.{SheetPage}
 use Rattle.annotate_snippets.proofs.renderer.pages.texts_of.Goals as goal
 
 pub loop-page-preserved : goal.loop-page-preserved

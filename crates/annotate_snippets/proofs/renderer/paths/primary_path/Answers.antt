@@ -1,5 +1,4 @@
-use Rattle.std.proofs.Common.{◌∙◌, Some, ap}
-use Rattle.annotate_snippets.specs.ElementContext.{file_of_element}
+use Rattle.annotate_snippets.proofs.Common.{◌∙◌, Some, ap, file_of_element}
 use Rattle.annotate_snippets.proofs.WalkLemmas.{filter_map-passed, no_file, primary_path-first, primary_path-none}
 use Rattle.annotate_snippets.proofs.renderer.paths.primary_path.Goals as goal
 

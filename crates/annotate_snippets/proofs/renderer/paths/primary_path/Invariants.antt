@@ -1,7 +1,5 @@
 -- No element so far is of a file.
-use Rattle.std.proofs.Common.{◌≡◌, drop}
-use Rattle.std.specs.List.{filter_map}
-use Rattle.annotate_snippets.specs.ElementContext.{file_of_element}
+use Rattle.annotate_snippets.proofs.Common.{◌≡◌, drop, filter_map, file_of_element}
 use Rattle.annotate_snippets.proofs.renderer.paths.primary_path.Given as goal
 
 abbrev pub invariant-loop-element : goal.invariant-loop-element

@@ -1,6 +1,4 @@
-use Rattle.std.proofs.Common.{◌∙◌, ap, sym}
-use Rattle.std.specs.Option.{option_copied}
-use Rattle.annotate_snippets.specs.ElementContext.{primary_path}
+use Rattle.annotate_snippets.proofs.Common.{◌∙◌, ap, sym, option_copied, primary_path}
 use Rattle.annotate_snippets.proofs.WalkLemmas.{filter_map-none, filter_map-passed, report_path-first}
 use Rattle.annotate_snippets.proofs.renderer.paths.report_file.Goals as goal
 

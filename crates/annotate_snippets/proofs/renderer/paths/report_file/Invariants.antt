@@ -1,7 +1,5 @@
 -- No group so far has a path.
-use Rattle.std.proofs.Common.{◌≡◌, drop}
-use Rattle.std.specs.List.{filter_map}
-use Rattle.annotate_snippets.specs.ElementContext.{primary_path}
+use Rattle.annotate_snippets.proofs.Common.{◌≡◌, drop, filter_map, primary_path}
 use Rattle.annotate_snippets.proofs.renderer.paths.report_file.Given as goal
 
 abbrev pub invariant-loop-group : goal.invariant-loop-group

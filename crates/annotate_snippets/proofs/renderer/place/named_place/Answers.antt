@@ -1,11 +1,5 @@
-use Rattle.std.proofs.Common.{◌≡◌, ◌∙◌, ◌+◌, Some, ap, sym}
-use Rattle.std.specs.Option.{option_map}
-use Rattle.snippet_lines.specs.declared.place.Loc.{Loc}
-use Rattle.snippet_lines.specs.Place.{start_location}
-use Rattle.snippet_lines.proofs.PlaceLemmas.{locations_of-start}
-use Rattle.snippet_titles.specs.declared.origin.OriginLocation.{OriginLocation}
-use Rattle.snippet_parts.specs.NamingStart.{place_at}
-use Rattle.annotate_snippets.specs.RowsWithoutSource.{place_found}
+use Rattle.annotate_snippets.proofs.Common.{◌≡◌, ◌∙◌, ◌+◌, Some, ap, sym, option_map, Loc, start_location, locations_of-start, OriginLocation}
+use Rattle.annotate_snippets.proofs.Common.{place_at, place_found}
 use Rattle.annotate_snippets.proofs.renderer.place.named_place.Goals as goal
 
 -- a place as an origin names it

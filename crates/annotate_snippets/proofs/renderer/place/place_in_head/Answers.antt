@@ -1,10 +1,5 @@
-use Rattle.std.proofs.Common.{◌≡◌, ◌∙◌, ap, map}
-use Rattle.std.specs.Cow.{cow_str_bytes}
-use Rattle.snippet_parts.specs.Annotated.{annotated_lines}
-use Rattle.snippet_parts.specs.OnLine.{seen_kept}
-use Rattle.snippet_parts.specs.Kept.{kept_lines}
-use Rattle.snippet_parts.proofs.EntryFacts.{characters-fit}
-use Rattle.annotate_snippets.specs.Gutter.{numbered_source}
+use Rattle.annotate_snippets.proofs.Common.{◌≡◌, ◌∙◌, ap, map, cow_str_bytes, annotated_lines, seen_kept, kept_lines, characters-fit}
+use Rattle.annotate_snippets.proofs.Common.{numbered_source}
 use Rattle.annotate_snippets.proofs.renderer.place.place_in_head.Goals as goal
 
 -- the columns of the entries of the lines that are kept have room

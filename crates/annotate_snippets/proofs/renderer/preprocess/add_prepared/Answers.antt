@@ -1,8 +1,5 @@
-use Rattle.std.proofs.Common.{◌∷◌, ◌++◌, [], IfSome, Option, subst}
-use Rattle.std.proofs.lemmas.List.Elements.{All-push, All-same}
-use Rattle.snippet_suggest.specs.PreparedSuggestion.{IsPrepared}
-use Rattle.snippet_suggest.specs.declared.prepared.PreparedSuggestion.{PreparedSuggestion}
-use Rattle.annotate_snippets.specs.PreparedReport.{IsElementPrepared}
+use Rattle.annotate_snippets.proofs.Common.{◌∷◌, ◌++◌, [], IfSome, Option, subst, All-push, All-same, IsPrepared, PreparedSuggestion}
+use Rattle.annotate_snippets.proofs.Common.{IsElementPrepared}
 use Rattle.annotate_snippets.specs.declared.renderer.preprocess.PreparedElement.TheVariants.{Suggestion}
 use Rattle.annotate_snippets.proofs.renderer.preprocess.add_prepared.Goals as goal
 

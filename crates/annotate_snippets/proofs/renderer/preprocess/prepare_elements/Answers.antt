@@ -1,9 +1,5 @@
-use Rattle.std.proofs.Common.{◌∙◌, [], ap, map, subst, sym}
-use Rattle.std.specs.List.{filter}
-use Rattle.std.proofs.lemmas.List.{take_all}
-use Rattle.std.proofs.lemmas.List.Elements.{All-nil, All-same}
-use Rattle.annotate_snippets.specs.Walk.{is_drawn}
-use Rattle.annotate_snippets.specs.PreparedReport.{IsElementDrawable, IsElementPrepared, element_of}
+use Rattle.annotate_snippets.proofs.Common.{◌∙◌, [], ap, map, subst, sym, filter, take_all, All-nil, All-same, is_drawn, IsElementDrawable}
+use Rattle.annotate_snippets.proofs.Common.{IsElementPrepared, element_of}
 use Rattle.annotate_snippets.proofs.PreparedLemmas.{AreDrawnPrepared-more}
 use Rattle.annotate_snippets.proofs.renderer.preprocess.prepare_elements.Goals as goal
 

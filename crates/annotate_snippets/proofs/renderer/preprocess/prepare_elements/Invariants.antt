@@ -1,5 +1,5 @@
 -- Those of the elements so far that are drawn are prepared.
-use Rattle.std.proofs.Common.{take}
+use Rattle.annotate_snippets.proofs.Common.{take}
 use Rattle.annotate_snippets.proofs.PreparedLemmas.{AreDrawnPrepared}
 use Rattle.annotate_snippets.proofs.renderer.preprocess.prepare_elements.Given as goal
 

@@ -1,9 +1,5 @@
-use Rattle.std.proofs.Common.{◌∙◌, [], ap, map, refl, subst, sym}
-use Rattle.std.specs.List.{filter}
-use Rattle.std.proofs.lemmas.List.{take_all}
-use Rattle.std.proofs.lemmas.List.Elements.{All-nil, All-same}
-use Rattle.annotate_snippets.specs.Walk.{is_drawn}
-use Rattle.annotate_snippets.specs.PreparedReport.{IsElementDrawable, IsGroupDrawable, IsGroupPrepared}
+use Rattle.annotate_snippets.proofs.Common.{◌∙◌, [], ap, map, refl, subst, sym, filter, take_all, All-nil, All-same, is_drawn, IsElementDrawable}
+use Rattle.annotate_snippets.proofs.Common.{IsGroupDrawable, IsGroupPrepared}
 use Rattle.annotate_snippets.proofs.PreparedLemmas.{ArePrepared-push, group_of}
 use Rattle.annotate_snippets.proofs.renderer.preprocess.prepare_groups.Goals as goal
 

@@ -1,5 +1,5 @@
 -- The groups so far are prepared.
-use Rattle.std.proofs.Common.{take}
+use Rattle.annotate_snippets.proofs.Common.{take}
 use Rattle.annotate_snippets.proofs.PreparedLemmas.{ArePrepared}
 use Rattle.annotate_snippets.proofs.renderer.preprocess.prepare_groups.Given as goal
 

@@ -1,10 +1,5 @@
-use Rattle.std.proofs.Common.{◌∙◌, ap, length, map, refl, subst}
-use Rattle.std.specs.Option.{option_copied}
-use Rattle.std.proofs.lemmas.Iterator.Adapters.{YieldsList-from_vec}
-use Rattle.std.proofs.lemmas.Iterator.Consumers.{YieldsList-end, YieldsList-from_enumerate, YieldsList-turn}
-use Rattle.std.proofs.lemmas.List.{length_push}
-use Rattle.annotate_snippets.specs.PreparedReport.{AreAround, element_of}
-use Rattle.annotate_snippets.specs.declared.renderer.printing.Printing.{Printing}
+use Rattle.annotate_snippets.proofs.Common.{◌∙◌, ap, length, map, refl, subst, option_copied, YieldsList-from_vec, YieldsList-end}
+use Rattle.annotate_snippets.proofs.Common.{YieldsList-from_enumerate, YieldsList-turn, length_push, AreAround, element_of, Printing}
 use Rattle.annotate_snippets.proofs.ElementRows.{turn_stands}
 use Rattle.annotate_snippets.proofs.PrintingLemmas.{elements_all, elements_drawn, elements_none, elements_printed}
 use Rattle.annotate_snippets.proofs.renderer.printing.add_elements.Goals as goal

@@ -1,9 +1,5 @@
 -- The codes are those of the sheet, the level stays, and the elements so far are printed or drawn below the rows that the group had.
-use Rattle.std.proofs.Common.{◌≡◌, List, length, map, ℕ}
-use Rattle.std.specs.Option.{option_copied}
-use Rattle.snippet_style.specs.Cell.{Cell}
-use Rattle.annotate_snippets.specs.PreparedReport.{element_of}
-use Rattle.annotate_snippets.specs.Printing.{IsPrinting}
+use Rattle.annotate_snippets.proofs.Common.{◌≡◌, List, length, map, ℕ, option_copied, Cell, element_of, IsPrinting}
 use Rattle.annotate_snippets.proofs.PrintingLemmas.{ElementsPrinted}
 use Rattle.annotate_snippets.proofs.renderer.printing.add_elements.Given as goal
 

@@ -1,5 +1,4 @@
-use Rattle.std.proofs.Common.{◌∙◌, ◌++◌, ◌∷◌, [], ap, cond, not, refl, string_bytes, true}
-use Rattle.annotate_snippets.specs.declared.renderer.printing.Printing.{Printing}
+use Rattle.annotate_snippets.proofs.Common.{◌∙◌, ◌++◌, ◌∷◌, [], ap, cond, not, refl, string_bytes, true, Printing}
 use Rattle.annotate_snippets.proofs.PrintingLemmas.{heading_some, printing_more}
 use Rattle.annotate_snippets.proofs.renderer.printing.add_plain_message.Goals as goal
 

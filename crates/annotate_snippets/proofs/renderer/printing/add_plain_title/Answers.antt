@@ -1,6 +1,5 @@
-use Rattle.std.proofs.Common.{◌∙◌, ◌++◌, ◌∷◌, [], ap, cond, not, refl, string_bytes, true}
+use Rattle.annotate_snippets.proofs.Common.{◌∙◌, ◌++◌, ◌∷◌, [], ap, cond, not, refl, string_bytes, true, Printing}
 use Rattle.snippet_titles.specs.declared.style.TitleStyle.TheVariants.{Title}
-use Rattle.annotate_snippets.specs.declared.renderer.printing.Printing.{Printing}
 use Rattle.annotate_snippets.proofs.PrintingLemmas.{heading_some, printing_more}
 use Rattle.annotate_snippets.proofs.renderer.printing.add_plain_title.Goals as goal
 

@@ -1,8 +1,4 @@
-use Rattle.std.proofs.Common.{◌∙◌, ap, map, refl, string_bytes}
-use Rattle.std.proofs.lemmas.Result.{on_ok_weaker}
-use Rattle.annotate_snippets.specs.ElementContext.{next_of}
-use Rattle.annotate_snippets.specs.PreparedReport.{element_of}
-use Rattle.annotate_snippets.specs.declared.renderer.printing.Printing.{Printing}
+use Rattle.annotate_snippets.proofs.Common.{◌∙◌, ap, map, refl, string_bytes, on_ok_weaker, next_of, element_of, Printing}
 use Rattle.annotate_snippets.proofs.PrintingLemmas.{title_printed}
 use Rattle.annotate_snippets.proofs.renderer.printing.add_title.Goals as goal
 

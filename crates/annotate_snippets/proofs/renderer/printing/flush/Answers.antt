@@ -1,5 +1,4 @@
-use Rattle.std.proofs.Common.{◌∙◌, ◌++◌, ◌∷◌, [], ◌<◌, ap, arith, cond, length, not, refl, string_bytes, true}
-use Rattle.annotate_snippets.specs.declared.renderer.printing.Printing.{Printing}
+use Rattle.annotate_snippets.proofs.Common.{◌∙◌, ◌++◌, ◌∷◌, [], ◌<◌, ap, arith, cond, length, not, refl, string_bytes, true, Printing}
 use Rattle.annotate_snippets.proofs.PrintingLemmas.{printing_flushed}
 use Rattle.annotate_snippets.proofs.renderer.printing.flush.Goals as goal
 

@@ -1,6 +1,4 @@
-use Rattle.std.proofs.Common.{string_bytes}
-use Rattle.std.specs.Option.{option_copied}
-use Rattle.std.proofs.lemmas.Result.{on_ok_weaker}
+use Rattle.annotate_snippets.proofs.Common.{string_bytes, option_copied, on_ok_weaker}
 use Rattle.annotate_snippets.proofs.PrintingLemmas.{group_printed}
 use Rattle.annotate_snippets.proofs.renderer.printing.print_group.Goals as goal
 

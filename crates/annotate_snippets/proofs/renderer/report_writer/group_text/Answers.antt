@@ -1,8 +1,4 @@
-use Rattle.std.proofs.Common.{string_bytes}
-use Rattle.std.proofs.lemmas.Result.{IfOk-weaker}
-use Rattle.snippet_grid.specs.Weaving.{WeavesRows}
-use Rattle.snippet_style.specs.declared.stylesheet.Stylesheet.{Stylesheet}
-use Rattle.annotate_snippets.specs.Written.{PrintsGroup}
+use Rattle.annotate_snippets.proofs.Common.{string_bytes, IfOk-weaker, WeavesRows, Stylesheet, PrintsGroup}
 use Rattle.annotate_snippets.proofs.WriteLemmas.{rows_printed}
 use Rattle.annotate_snippets.proofs.renderer.report_writer.group_text.Goals as goal
 

@@ -1,6 +1,5 @@
 -- No element so far is an annotated snippet.
-use Rattle.std.proofs.Common.{◌≡◌, drop}
-use Rattle.annotate_snippets.specs.ShortForm.{first_cause}
+use Rattle.annotate_snippets.proofs.Common.{◌≡◌, drop, first_cause}
 use Rattle.annotate_snippets.proofs.renderer.short.first_cause.Given as goal
 
 abbrev pub invariant-loop-element : goal.invariant-loop-element

@@ -1,7 +1,5 @@
-use Rattle.std.proofs.Common.{◌∙◌, ap, chars, take}
-use Rattle.std.proofs.lemmas.List.{take_all}
-use Rattle.std.proofs.lemmas.Str.{chars-nil}
-use Rattle.annotate_snippets.specs.ShortForm.{joined_labels, primary_labels}
+use Rattle.annotate_snippets.proofs.Common.{◌∙◌, ap, take, take_all, chars-nil, joined_labels, primary_labels}
+use Rattle.std.proofs.Common.{chars}
 use Rattle.annotate_snippets.proofs.ShortLemmas.{primary_labels-more}
 use Rattle.annotate_snippets.proofs.renderer.short.labels_of.Goals as goal
 

@@ -1,6 +1,6 @@
 -- The text holds the labels of the spans so far.
-use Rattle.std.proofs.Common.{◌≡◌, chars, string_bytes, take}
-use Rattle.annotate_snippets.specs.ShortForm.{joined_labels, primary_labels}
+use Rattle.annotate_snippets.proofs.Common.{◌≡◌, string_bytes, take, joined_labels, primary_labels}
+use Rattle.std.proofs.Common.{chars}
 use Rattle.annotate_snippets.proofs.renderer.short.labels_of.Given as goal
 
 abbrev pub invariant-loop-annotation : goal.invariant-loop-annotation

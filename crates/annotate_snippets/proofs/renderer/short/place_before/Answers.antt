@@ -1,7 +1,5 @@
-use Rattle.std.proofs.Common.{◌∙◌, ap, arith, chars, length, sym}
-use Rattle.std.specs.Option.{option_copied}
-use Rattle.std.proofs.lemmas.Str.{chars-nil}
-use Rattle.annotate_snippets.specs.ShortForm.{place_of_cause}
+use Rattle.annotate_snippets.proofs.Common.{◌∙◌, ap, arith, length, sym, option_copied, chars-nil, place_of_cause}
+use Rattle.std.proofs.Common.{chars}
 use Rattle.annotate_snippets.proofs.renderer.short.place_before.Goals as goal
 
 pub returns-in-None : goal.returns-in-None

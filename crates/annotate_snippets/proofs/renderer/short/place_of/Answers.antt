@@ -1,16 +1,7 @@
-use Rattle.std.proofs.Common.{◌≡◌, ◌∙◌, All, IfSome, ℕ, List, ap, arith, chars, length, rules, string_bytes, subst, sym, true}
-use Rattle.std.specs.Cow.{cow_str_bytes}
-use Rattle.std.proofs.lemmas.Str.{IsUtf8-string_bytes, chars-nil}
-use Rattle.snippet_lines.specs.Lines.{Source}
-use Rattle.snippet_lines.specs.IsSpan.{IsSpan}
-use Rattle.snippet_lines.proofs.LinesLemmas.{length-source_lines}
-use Rattle.snippet_model.specs.Fits.{TextFits}
-use Rattle.snippet_parts.specs.Annotated.{annotated_lines}
-use Rattle.snippet_titles.specs.Origin.{origin_text}
-use Rattle.snippet_titles.specs.declared.origin.OriginLocation.{OriginLocation}
-use Rattle.annotate_snippets.specs.ElementContext.{path_bytes}
-use Rattle.annotate_snippets.specs.Gutter.{numbered_source}
-use Rattle.annotate_snippets.specs.ShortForm.{place_named}
+use Rattle.annotate_snippets.proofs.Common.{◌≡◌, ◌∙◌, All, IfSome, ℕ, List, ap, arith, length, rules, string_bytes, subst, sym, true}
+use Rattle.annotate_snippets.proofs.Common.{cow_str_bytes, IsUtf8-string_bytes, chars-nil, Source, IsSpan, length-source_lines, TextFits, annotated_lines}
+use Rattle.annotate_snippets.proofs.Common.{origin_text, OriginLocation, path_bytes, numbered_source, place_named}
+use Rattle.std.proofs.Common.{chars}
 use Rattle.annotate_snippets.proofs.ShortLemmas.{PlaceFits, place-added, place-of_none, origin_text-place_of_cause, place-short}
 use Rattle.annotate_snippets.proofs.renderer.short.place_of.Goals as goal
 

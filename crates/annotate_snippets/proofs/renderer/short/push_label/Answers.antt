@@ -1,11 +1,6 @@
-use Rattle.std.proofs.Common.{◌≡◌, ◌∙◌, Bor, true, false, List, ℕ, [], ◌∷◌, ◌++◌, ◌==◌, ap, chars, string_bytes, sym}
-use Rattle.std.specs.Char.{is_whitespace}
-use Rattle.std.specs.Cow.{cow_str_bytes}
-use Rattle.std.specs.List.{list_all}
-use Rattle.std.proofs.lemmas.List.{append-nil}
-use Rattle.std.proofs.lemmas.Str.{IsUtf8-string_bytes}
-use Rattle.snippet_text.specs.Normalized.{norm}
-use Rattle.annotate_snippets.specs.ShortForm.{joined_labels, primary_labels}
+use Rattle.annotate_snippets.proofs.Common.{◌≡◌, ◌∙◌, Bor, true, false, List, ℕ, [], ◌∷◌, ◌++◌, ◌==◌, ap, string_bytes, sym}
+use Rattle.annotate_snippets.proofs.Common.{is_whitespace, cow_str_bytes, list_all, append-nil, IsUtf8-string_bytes, norm, joined_labels, primary_labels}
+use Rattle.std.proofs.Common.{chars}
 use Rattle.annotate_snippets.proofs.ShortLemmas.{joined_labels-added, lead, on_added, primary_labels-one}
 use Rattle.annotate_snippets.proofs.renderer.short.push_label.Goals as goal
 use Rattle.annotate_snippets.proofs.renderer.short.push_label.Goals.{then-is_empty, else-is_empty}

@@ -1,6 +1,4 @@
-use Rattle.std.proofs.Common.{IfSome, subst, sym}
-use Rattle.snippet_model.specs.Fits.{AnnotationFits, SnippetFits}
-use Rattle.annotate_snippets.specs.PreparedReport.{IsDrawable}
+use Rattle.annotate_snippets.proofs.Common.{IfSome, subst, sym, AnnotationFits, SnippetFits, IsDrawable}
 use Rattle.annotate_snippets.proofs.ShortLemmas.{first_cause-drawable, first_cause-fits}
 use Rattle.annotate_snippets.proofs.renderer.short.short_form.Goals as goal
 

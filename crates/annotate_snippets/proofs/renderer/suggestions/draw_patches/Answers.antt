@@ -1,7 +1,5 @@
-use Rattle.std.proofs.Common.{◌≡◌, ◌∙◌, Bool, true, false, not, ap, sym, rules}
+use Rattle.annotate_snippets.proofs.Common.{◌≡◌, ◌∙◌, Bool, true, false, not, ap, sym, rules, the_type, Path}
 use denote.Enum.Bare.{same_true, sameb}
-use Rattle.snippet_suggest.specs.contracts.SuggestionStart.{the_type}
-use Rattle.snippet_suggest.specs.declared.SuggestionStart.TheVariants.{Path}
 use Rattle.annotate_snippets.proofs.PatchRows.{patches_added}
 use Rattle.annotate_snippets.proofs.renderer.suggestions.draw_patches.Goals.{then-eq+in_ok-draw_path, else-eq}
 use Rattle.annotate_snippets.proofs.renderer.suggestions.draw_patches.Goals as goal

@@ -1,6 +1,4 @@
-use Rattle.std.proofs.Common.{ap, sym, ◌∙◌}
-use Rattle.std.specs.Option.{option_copied}
-use Rattle.std.specs.List.{slice_get}
+use Rattle.annotate_snippets.proofs.Common.{ap, sym, ◌∙◌, option_copied, slice_get}
 use Rattle.annotate_snippets.proofs.PlaceLemmas.{first-is_some, patch_place-first, first-span}
 use Rattle.annotate_snippets.proofs.renderer.suggestions.first_place.Goals as goal
 

@@ -1,5 +1,4 @@
-use Rattle.std.proofs.Common.{◌∙◌, ap, sym}
-use Rattle.annotate_snippets.specs.Walk.{is_drawn}
+use Rattle.annotate_snippets.proofs.Common.{◌∙◌, ap, sym, is_drawn}
 use Rattle.annotate_snippets.proofs.FormSteps.{has_patches}
 use Rattle.annotate_snippets.proofs.renderer.text_form.add_element.Goals as goal
 

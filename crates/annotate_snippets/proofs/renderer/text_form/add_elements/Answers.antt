@@ -1,9 +1,5 @@
-use Rattle.std.proofs.Common.{◌∙◌, ◌+◌, ◌-◌, ◌∷◌, arith, ap, drop, length, sym}
-use Rattle.std.specs.List.{filter}
-use Rattle.std.specs.Option.{option_copied}
-use Rattle.std.proofs.lemmas.List.{length-drop, take_all}
-use Rattle.annotate_snippets.specs.ElementContext.{first_two_share}
-use Rattle.annotate_snippets.specs.Walk.{is_drawn, before_seen}
+use Rattle.annotate_snippets.proofs.Common.{◌∙◌, ◌+◌, ◌-◌, ◌∷◌, arith, ap, drop, length, sym, filter, option_copied, length-drop, take_all}
+use Rattle.annotate_snippets.proofs.Common.{first_two_share, is_drawn, before_seen}
 use Rattle.annotate_snippets.proofs.FormSteps.{all_added, element_added, element_passed, none_added, number_small}
 use Rattle.annotate_snippets.proofs.renderer.text_form.add_elements.Goals as goal
 use Rattle.annotate_snippets.proofs.renderer.text_form.add_elements.Goals.{then-is_drawn+in_ok-add_element, else-is_drawn}

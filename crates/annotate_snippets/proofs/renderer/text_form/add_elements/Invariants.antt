@@ -1,6 +1,5 @@
 -- The elements so far are added.
-use Rattle.std.specs.Option.{option_copied}
-use Rattle.annotate_snippets.specs.Walk.{before_seen}
+use Rattle.annotate_snippets.proofs.Common.{option_copied, before_seen}
 use Rattle.annotate_snippets.proofs.FormSteps.{ElementsSoFar}
 use Rattle.annotate_snippets.proofs.renderer.text_form.add_elements.Given as goal
 

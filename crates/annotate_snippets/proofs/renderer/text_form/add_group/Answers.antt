@@ -1,9 +1,4 @@
-use Rattle.std.proofs.Common.{◌≡◌, ◌++◌, ◌∙◌, List, ap}
-use Rattle.std.specs.List.{filter}
-use Rattle.std.specs.Option.{option_copied}
-use Rattle.std.proofs.lemmas.Result.{on_ok_weaker}
-use Rattle.snippet_text_form.specs.Form.{FormPiece}
-use Rattle.annotate_snippets.specs.Walk.{is_drawn}
+use Rattle.annotate_snippets.proofs.Common.{◌≡◌, ◌++◌, ◌∙◌, List, ap, filter, option_copied, on_ok_weaker, FormPiece, is_drawn}
 use Rattle.annotate_snippets.proofs.FormSteps.{group_added, no_title_added, title_added, title_form}
 use Rattle.annotate_snippets.proofs.renderer.text_form.add_group.Goals as goal
 use Rattle.annotate_snippets.proofs.renderer.text_form.add_group.Goals.{in-Some+in_ok-add_title, in_default}

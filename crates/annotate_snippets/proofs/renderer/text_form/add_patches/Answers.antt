@@ -1,11 +1,6 @@
-use Rattle.std.proofs.Common.{◌≡◌, ◌++◌, IfSome, Option, refl, subst, sym}
+use Rattle.annotate_snippets.proofs.Common.{◌≡◌, ◌++◌, IfSome, Option, refl, subst, sym, OnOk, Patch, Snippet, IsPrepared, PreparedSuggestion}
+use Rattle.annotate_snippets.proofs.Common.{suggestion_form}
 use Rattle.std.specs.Prelude.{IsNone}
-use Rattle.std.specs.Result.{OnOk}
-use Rattle.snippet_model.specs.declared.snippet.Patch.{Patch}
-use Rattle.snippet_model.specs.declared.snippet.Snippet.{Snippet}
-use Rattle.snippet_suggest.specs.PreparedSuggestion.{IsPrepared}
-use Rattle.snippet_suggest.specs.declared.prepared.PreparedSuggestion.{PreparedSuggestion}
-use Rattle.snippet_text_form.specs.Suggestion.{suggestion_form}
 use Rattle.annotate_snippets.proofs.renderer.text_form.add_patches.Goals as goal
 
 pub add_suggestion-requires : goal.add_suggestion-requires

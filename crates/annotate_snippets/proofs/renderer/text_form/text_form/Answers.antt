@@ -1,5 +1,4 @@
-use Rattle.std.proofs.Common.{◌∙◌, ap}
-use Rattle.std.proofs.lemmas.List.{take_all}
+use Rattle.annotate_snippets.proofs.Common.{◌∙◌, ap, take_all}
 use Rattle.annotate_snippets.proofs.FormSteps.{groups_form}
 use Rattle.annotate_snippets.proofs.renderer.text_form.text_form.Goals as goal
 

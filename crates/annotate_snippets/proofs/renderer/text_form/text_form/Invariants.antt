@@ -1,5 +1,5 @@
 -- The groups so far are added.
-use Rattle.std.proofs.Common.{◌≡◌, take}
+use Rattle.annotate_snippets.proofs.Common.{◌≡◌, take}
 use Rattle.annotate_snippets.proofs.FormSteps.{groups_form}
 use Rattle.annotate_snippets.proofs.renderer.text_form.text_form.Given as goal
 

@@ -1,9 +1,4 @@
-use Rattle.std.proofs.Common.{List, ◌++◌, ◌∙◌, ap}
-use Rattle.std.proofs.lemmas.List.{append_assoc}
-use Rattle.std.proofs.lemmas.Result.{on_ok_weaker}
-use Rattle.snippet_style.specs.Cell.{Cell}
-use Rattle.snippet_titles.specs.PrintedHeading.{title_rows}
-use Rattle.annotate_snippets.specs.RowsWithoutSource.{rows_after_title}
+use Rattle.annotate_snippets.proofs.Common.{List, ◌++◌, ◌∙◌, ap, append_assoc, on_ok_weaker, Cell, title_rows, rows_after_title}
 use Rattle.annotate_snippets.proofs.renderer.title.draw_title.Goals as goal
 
 pub returns : goal.returns

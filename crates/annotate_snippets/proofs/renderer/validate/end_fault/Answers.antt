@@ -1,9 +1,5 @@
-use Rattle.std.proofs.Common.{◌≡◌, ◌<◌, ◌^◌, nat_le, true, arith, refl}
-use Rattle.std.proofs.lemmas.Bool.Decides.{nat_tests}
-use Rattle.std.specs.Cow.{cow_str_bytes}
-use Rattle.snippet_style.specs.Bounds.{max_usize}
-use Rattle.snippet_lines.proofs.LinesLemmas.{length-source_lines, newline_count-le}
-use Rattle.annotate_snippets.specs.Fault.{number_after_lines}
+use Rattle.annotate_snippets.proofs.Common.{◌≡◌, ◌<◌, ◌^◌, nat_le, true, arith, refl, nat_tests, cow_str_bytes, max_usize, length-source_lines}
+use Rattle.annotate_snippets.proofs.Common.{newline_count-le, number_after_lines}
 use Rattle.annotate_snippets.proofs.renderer.validate.end_fault.Goals as goal
 
 pub returns-then-len-line_start : goal.returns-then-len-line_start

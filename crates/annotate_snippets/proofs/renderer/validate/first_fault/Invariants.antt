@@ -1,6 +1,5 @@
 -- No group so far has a fault.
-use Rattle.std.proofs.Common.{◌≡◌, drop}
-use Rattle.annotate_snippets.specs.Fault.{faults_from, group_faults}
+use Rattle.annotate_snippets.proofs.Common.{◌≡◌, drop, faults_from, group_faults}
 use Rattle.annotate_snippets.proofs.renderer.validate.first_fault.Given as goal
 
 abbrev pub invariant-loop-number : goal.invariant-loop-number

@@ -1,6 +1,5 @@
 -- No element so far has a fault.
-use Rattle.std.proofs.Common.{◌≡◌, drop}
-use Rattle.annotate_snippets.specs.Fault.{faults_from, element_faults}
+use Rattle.annotate_snippets.proofs.Common.{◌≡◌, drop, faults_from, element_faults}
 use Rattle.annotate_snippets.proofs.renderer.validate.first_of_elements.Given as goal
 
 abbrev pub invariant-loop-number : goal.invariant-loop-number

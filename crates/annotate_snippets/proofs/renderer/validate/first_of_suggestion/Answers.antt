@@ -1,9 +1,5 @@
-use Rattle.std.proofs.Common.{◌≡◌, ◌∙◌, Some, List, [], ℕ, map, sym, ap}
-use Rattle.std.specs.Cow.{cow_str_bytes}
-use Rattle.snippet_model.specs.declared.snippet.Patch.{Patch}
-use Rattle.snippet_splice.specs.Edits.{edit_of}
-use Rattle.snippet_splice.specs.Overlap.{first_overlap}
-use Rattle.annotate_snippets.specs.Fault.{faults_from, span_faults}
+use Rattle.annotate_snippets.proofs.Common.{◌≡◌, ◌∙◌, Some, List, [], ℕ, map, sym, ap, cow_str_bytes, Patch, edit_of, first_overlap, faults_from}
+use Rattle.annotate_snippets.proofs.Common.{span_faults}
 use Rattle.annotate_snippets.proofs.FaultLemmas.{none_first, spans-faultless, overlap-first}
 use Rattle.annotate_snippets.proofs.renderer.validate.first_of_suggestion.Goals as goal
 

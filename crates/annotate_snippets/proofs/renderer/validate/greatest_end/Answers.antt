@@ -1,7 +1,4 @@
-use Rattle.std.proofs.Common.{◌≡◌, ap, arith, length, refl, take}
-use Rattle.std.proofs.lemmas.List.{take_all}
-use Rattle.snippet_lines.proofs.LinesLemmas.{length-source_lines, newline_count-le}
-use Rattle.annotate_snippets.specs.Fault.{added_lines}
+use Rattle.annotate_snippets.proofs.Common.{◌≡◌, ap, arith, length, refl, take, take_all, length-source_lines, newline_count-le, added_lines}
 use Rattle.annotate_snippets.proofs.FaultLemmas.{added_more}
 use Rattle.annotate_snippets.proofs.renderer.validate.greatest_end.Goals as goal
 

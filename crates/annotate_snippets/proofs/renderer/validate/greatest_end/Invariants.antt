@@ -1,6 +1,5 @@
 -- The number is no less than that after the lines so far, and fits.
-use Rattle.std.proofs.Common.{◌+◌, ◌<◌, ◌≤◌, ◌^◌, take}
-use Rattle.annotate_snippets.specs.Fault.{added_lines, number_after_lines}
+use Rattle.annotate_snippets.proofs.Common.{◌+◌, ◌<◌, ◌≤◌, ◌^◌, take, added_lines, number_after_lines}
 use Rattle.annotate_snippets.proofs.renderer.validate.greatest_end.Given as goal
 
 abbrev pub invariant-loop-patch : goal.invariant-loop-patch

@@ -1,7 +1,4 @@
-use Rattle.std.proofs.Common.{◌∙◌, ap, length}
-use Rattle.std.specs.Cow.{cow_str_bytes}
-use Rattle.snippet_lines.specs.Lines.{source_lines}
-use Rattle.snippet_parts.proofs.TableLemmas.{length-starts_from}
+use Rattle.annotate_snippets.proofs.Common.{◌∙◌, ap, length, cow_str_bytes, source_lines, length-starts_from}
 use Rattle.annotate_snippets.proofs.renderer.validate.line_count.Goals as goal
 
 pub returns-in-Some : goal.returns-in-Some

@@ -1,8 +1,5 @@
-use Rattle.std.proofs.Common.{◌≡◌, ◌∙◌, ◌+◌, ℕ, List, ap, arith}
-use Rattle.std.proofs.lemmas.List.{take_all}
-use Rattle.std.specs.Cow.{cow_str_bytes}
-use Rattle.snippet_model.specs.declared.snippet.Patch.{Patch}
-use Rattle.annotate_snippets.specs.Fault.{added_lines, number_after_lines}
+use Rattle.annotate_snippets.proofs.Common.{◌≡◌, ◌∙◌, ◌+◌, ℕ, List, ap, arith, take_all, cow_str_bytes, Patch, added_lines}
+use Rattle.annotate_snippets.proofs.Common.{number_after_lines}
 use Rattle.annotate_snippets.proofs.renderer.validate.patched_end_number.Goals as goal
 
 pub returns : goal.returns

@@ -1,7 +1,5 @@
 -- The number has grown by the lines that the patches so far may add, and fits.
-use Rattle.std.proofs.Common.{◌≡◌, ◌+◌, ◌<◌, ◌^◌, take}
-use Rattle.std.specs.Cow.{cow_str_bytes}
-use Rattle.annotate_snippets.specs.Fault.{added_lines, number_after_lines}
+use Rattle.annotate_snippets.proofs.Common.{◌≡◌, ◌+◌, ◌<◌, ◌^◌, take, cow_str_bytes, added_lines, number_after_lines}
 use Rattle.annotate_snippets.proofs.renderer.validate.patched_end_number.Given as goal
 
 abbrev pub invariant-loop-patch : goal.invariant-loop-patch

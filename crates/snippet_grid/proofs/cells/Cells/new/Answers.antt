@@ -1,4 +1,4 @@
-use Rattle.std.proofs.Common.{string_bytes}
+use Rattle.snippet_grid.proofs.Common.{string_bytes}
 use Rattle.snippet_grid.proofs.GridShown.{grid_none}
 use Rattle.snippet_grid.proofs.cells.Cells.new.Goals as goal
 

@@ -1,5 +1,4 @@
-use Rattle.std.proofs.Common.{rules, ◌≡◌, ◌∙◌, ap, sym, length, string_bytes}
-use Rattle.snippet_grid.specs.Stored.{Stored}
+use Rattle.snippet_grid.proofs.Common.{rules, ◌≡◌, ◌∙◌, ap, sym, length, string_bytes, Stored}
 use Rattle.snippet_grid.proofs.GridShown.{count_shown}
 use Rattle.snippet_grid.proofs.cells.Cells.num_rows.Goals as goal
 

@@ -1,6 +1,4 @@
-use Rattle.std.proofs.Common.{◌≡◌, ◌≤◌, rules, arith, subst, length, string_bytes}
-use Rattle.snippet_grid.specs.RunBounds.{fewest_runs, most_runs}
-use Rattle.snippet_grid.specs.Stored.{Stored}
+use Rattle.snippet_grid.proofs.Common.{◌≡◌, ◌≤◌, rules, arith, subst, length, string_bytes, fewest_runs, most_runs, Stored}
 use Rattle.snippet_grid.proofs.RunBoundLemmas.{most_in}
 use Rattle.snippet_grid.proofs.RunBounds.{runs_bounded}
 use Rattle.snippet_grid.proofs.cells.Cells.num_runs.Goals as goal

@@ -1,7 +1,5 @@
-use Rattle.std.proofs.Common.{◌∙◌, ap, sym, length, string_bytes, List, ℕ}
+use Rattle.snippet_grid.proofs.Common.{◌∙◌, ap, sym, length, string_bytes, List, ℕ, row_at, Stored}
 use Rattle.std.specs.List.{slice_index_or}
-use Rattle.snippet_grid.specs.Grid.{row_at}
-use Rattle.snippet_grid.specs.Stored.{Stored}
 use Rattle.snippet_grid.proofs.GridShown.{width_shown}
 use Rattle.snippet_grid.proofs.cells.Cells.width.Goals as goal
 

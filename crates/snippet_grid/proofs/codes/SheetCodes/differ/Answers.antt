@@ -1,5 +1,4 @@
-use Rattle.std.proofs.Common.{◌∙◌, sym}
-use Rattle.snippet_style.proofs.StyleLemmas.{differs_told, same_told}
+use Rattle.snippet_grid.proofs.Common.{◌∙◌, sym, differs_told, same_told}
 use Rattle.snippet_grid.proofs.CodeLemmas.{style_read}
 use Rattle.snippet_grid.proofs.codes.SheetCodes.differ.Goals as goal
 

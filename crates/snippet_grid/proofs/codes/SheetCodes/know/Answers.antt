@@ -1,6 +1,4 @@
-use Rattle.std.proofs.Common.{◌∙◌, ap, sym}
-use Rattle.snippet_grid.specs.SheetCodes.{opening_bytes, style_at, styles_in}
-use Rattle.snippet_grid.specs.UsualCodes.{usual_bytes}
+use Rattle.snippet_grid.proofs.Common.{◌∙◌, ap, sym, opening_bytes, style_at, styles_in, usual_bytes}
 use Rattle.snippet_grid.proofs.CodeLemmas.{openings_set}
 use Rattle.snippet_grid.proofs.codes.SheetCodes.know.Goals as goal
 

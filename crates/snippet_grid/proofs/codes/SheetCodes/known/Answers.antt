@@ -1,4 +1,4 @@
-use Rattle.std.proofs.Common.{refl}
+use Rattle.snippet_grid.proofs.Common.{refl}
 use Rattle.snippet_grid.proofs.CodeLemmas.{opening_kept}
 use Rattle.snippet_grid.proofs.codes.SheetCodes.known.Goals as goal
 

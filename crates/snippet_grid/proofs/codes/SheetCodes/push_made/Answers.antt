@@ -1,5 +1,4 @@
-use Rattle.std.proofs.Common.{◌∙◌, ap, sym, string_bytes}
-use Rattle.snippet_grid.specs.SheetCodes.{opening_bytes, style_at, styles_in}
+use Rattle.snippet_grid.proofs.Common.{◌∙◌, ap, sym, string_bytes, opening_bytes, style_at, styles_in}
 use Rattle.snippet_grid.proofs.CodeLemmas.{openings_set}
 use Rattle.snippet_grid.proofs.codes.SheetCodes.push_made.Goals as goal
 

@@ -1,8 +1,4 @@
-use Rattle.std.proofs.Common.{◌∙◌, ◌++◌, ℕ, List, ap, sym, string_bytes}
-use Rattle.std.proofs.lemmas.Result.{on_ok_weaker}
-use Rattle.snippet_grid.specs.SheetCodes.{opening_bytes}
-use Rattle.std.proofs.lemmas.List.{append-nil}
-use Rattle.snippet_style.proofs.StyleLemmas.{plain_is_plain}
+use Rattle.snippet_grid.proofs.Common.{◌∙◌, ◌++◌, ℕ, List, ap, sym, string_bytes, on_ok_weaker, opening_bytes, append-nil, plain_is_plain}
 use Rattle.snippet_grid.proofs.OutcomeLemmas.{on_ok_value}
 use Rattle.snippet_grid.proofs.codes.SheetCodes.push_opening.Goals as goal
 

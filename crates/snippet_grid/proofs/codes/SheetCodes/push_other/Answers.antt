@@ -1,6 +1,4 @@
-use Rattle.std.proofs.Common.{◌∙◌, ◌++◌, ℕ, List, ap, string_bytes}
-use Rattle.std.proofs.lemmas.Result.{on_ok_weaker}
-use Rattle.snippet_grid.specs.SheetCodes.{opening_bytes, style_at}
+use Rattle.snippet_grid.proofs.Common.{◌∙◌, ◌++◌, ℕ, List, ap, string_bytes, on_ok_weaker, opening_bytes, style_at}
 use Rattle.snippet_grid.proofs.OutcomeLemmas.{on_ok_value}
 use Rattle.snippet_grid.proofs.codes.SheetCodes.push_other.Goals as goal
 

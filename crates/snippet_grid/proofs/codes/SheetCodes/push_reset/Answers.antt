@@ -1,6 +1,4 @@
-use Rattle.std.proofs.Common.{◌∙◌, ◌++◌, ap, sym, string_bytes, List, ℕ}
-use Rattle.std.proofs.lemmas.Result.{on_ok_weaker}
-use Rattle.snippet_grid.specs.SheetCodes.{style_at}
+use Rattle.snippet_grid.proofs.Common.{◌∙◌, ◌++◌, ap, sym, string_bytes, List, ℕ, on_ok_weaker, style_at}
 use Rattle.snippet_grid.proofs.CodeLemmas.{reset_plain, reset_styled}
 use Rattle.snippet_grid.proofs.OutcomeLemmas.{on_ok_value}
 use Rattle.snippet_grid.proofs.codes.SheetCodes.push_reset.Goals as goal

@@ -1,11 +1,6 @@
-use Rattle.std.proofs.Common.{◌≡◌, ◌∙◌, ap, sym, subst, arith, length, List}
-use Rattle.std.proofs.lemmas.Bool.{false≢true}
-use Rattle.std.proofs.lemmas.Result.{on_ok_weaker}
+use Rattle.snippet_grid.proofs.Common.{◌≡◌, ◌∙◌, ap, sym, subst, arith, length, List, false≢true, on_ok_weaker, row_at, cells_written}
+use Rattle.snippet_grid.proofs.Common.{WritesCells, Cell, text_cells, length-chars_le}
 use Rattle.std.specs.Str.{chars}
-use Rattle.snippet_grid.specs.Grid.{row_at, cells_written}
-use Rattle.snippet_grid.specs.Calls.{WritesCells}
-use Rattle.snippet_style.specs.Cell.{Cell, text_cells}
-use Rattle.snippet_style.proofs.CellLemmas.{length-chars_le}
 use Rattle.snippet_grid.proofs.grid.StyledBuffer.append.Goals as goal
 
 pub puts-requires-clause-end : goal.puts-requires-clause-end

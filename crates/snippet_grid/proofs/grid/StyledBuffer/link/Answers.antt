@@ -1,5 +1,5 @@
 use Rattle.snippet_grid.proofs.GridChanged.{reads_changed}
-use Rattle.snippet_grid.specs.Grid.{linked}
+use Rattle.snippet_grid.proofs.Common.{linked}
 use Rattle.snippet_grid.proofs.grid.StyledBuffer.link.Goals as goal
 
 pub returns-clause-reads : goal.returns-clause-reads

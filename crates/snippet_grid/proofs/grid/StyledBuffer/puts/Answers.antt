@@ -1,8 +1,5 @@
-use Rattle.std.proofs.Common.{◌∙◌, ap, arith, rules}
-use Rattle.std.proofs.lemmas.Result.{on_ok_weaker}
+use Rattle.snippet_grid.proofs.Common.{◌∙◌, ap, arith, rules, on_ok_weaker, cells_written, text_cells}
 use Rattle.std.specs.Str.{chars}
-use Rattle.snippet_grid.specs.Grid.{cells_written}
-use Rattle.snippet_style.specs.Cell.{text_cells}
 use Rattle.snippet_grid.proofs.GridLemmas.{WritesCells-from_equal}
 use Rattle.snippet_grid.proofs.GridShown.{chars_some}
 use Rattle.snippet_grid.proofs.grid.StyledBuffer.puts.Goals as goal

@@ -1,7 +1,4 @@
-use Rattle.std.proofs.Common.{ℕ, List, refl, subst, string_bytes}
-use Rattle.snippet_grid.specs.Print.{plain_text}
-use Rattle.snippet_grid.specs.Woven.{Prints, links_of}
-use Rattle.snippet_grid.specs.Weaving.{WeavesRows}
+use Rattle.snippet_grid.proofs.Common.{ℕ, List, refl, subst, string_bytes, plain_text, Prints, links_of, WeavesRows}
 use Rattle.snippet_grid.proofs.OutcomeLemmas.{if_ok_weaker}
 use Rattle.snippet_grid.proofs.PrintsOnce.{Prints-unique}
 use Rattle.snippet_grid.proofs.WovenLemmas.{Prints-from_adds, IsWoven-from_prints, plain_woven}

@@ -1,5 +1,4 @@
-use Rattle.std.proofs.Common.{◌∙◌, ap, string_bytes}
-use Rattle.snippet_grid.specs.Stored.{Stored}
+use Rattle.snippet_grid.proofs.Common.{◌∙◌, ap, string_bytes, Stored}
 use Rattle.snippet_grid.proofs.GridShown.{IsGrid-read, grid_read}
 use Rattle.snippet_grid.proofs.WovenLemmas.{AddsRows-same}
 use Rattle.snippet_grid.proofs.grid.StyledBuffer.render_after.Goals as goal

@@ -1,10 +1,5 @@
-use Rattle.std.proofs.Common.{◌∙◌, ap, arith, length}
-use Rattle.std.proofs.lemmas.Result.{on_ok_weaker}
+use Rattle.snippet_grid.proofs.Common.{◌∙◌, ap, arith, length, on_ok_weaker, row_at, cells_replaced, text_cells, LineNumber}
 use Rattle.std.specs.Str.{chars}
-use Rattle.snippet_grid.specs.Grid.{row_at}
-use Rattle.snippet_grid.specs.Calls.{cells_replaced}
-use Rattle.snippet_style.specs.Cell.{text_cells}
-use Rattle.snippet_style.specs.declared.role.ElementStyle.TheVariants.{LineNumber}
 use Rattle.snippet_grid.proofs.ReplaceLemmas.{ReplacesCells-from_equal}
 use Rattle.snippet_grid.proofs.grid.StyledBuffer.replace.Goals as goal
 

@@ -1,5 +1,5 @@
 use Rattle.snippet_grid.proofs.GridChanged.{reads_changed}
-use Rattle.snippet_grid.specs.Grid.{restyled}
+use Rattle.snippet_grid.proofs.Common.{restyled}
 use Rattle.snippet_grid.proofs.grid.StyledBuffer.set_style_range.Goals as goal
 
 pub returns-clause-reads : goal.returns-clause-reads

@@ -1,12 +1,6 @@
-use Rattle.std.proofs.Common.{ℕ, List, ◌++◌, ap, arith, refl, replicate, subst}
-use Rattle.std.proofs.lemmas.List.{length-replicate}
-use Rattle.std.specs.Option.{option_copied}
+use Rattle.snippet_grid.proofs.Common.{ℕ, List, ◌++◌, ap, arith, refl, replicate, subst, length-replicate, option_copied, IsPrinted, style_at, PrintedRow}
+use Rattle.snippet_grid.proofs.Common.{Cell, NoStyle}
 use Rattle.snippet_grid.proofs.OpenRowLemmas.{spaces_alike, word_added}
-use Rattle.snippet_grid.specs.OpenRow.{IsPrinted}
-use Rattle.snippet_grid.specs.SheetCodes.{style_at}
-use Rattle.snippet_grid.specs.declared.printed_row.PrintedRow.{PrintedRow}
-use Rattle.snippet_style.specs.Cell.{Cell}
-use Rattle.snippet_style.specs.declared.role.ElementStyle.TheVariants.{NoStyle}
 use Rattle.snippet_grid.proofs.printed_row.PrintedRow.add_spaces.Goals as goal
 
 pub returns-clause-added : goal.returns-clause-added

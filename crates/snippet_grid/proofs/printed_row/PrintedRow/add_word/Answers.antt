@@ -1,13 +1,8 @@
-use Rattle.std.proofs.Common.{◌≡◌, ◌∙◌, [], List, ap, arith, refl, rules, subst, sym}
-use Rattle.std.proofs.lemmas.List.{nil_from_length}
-use Rattle.std.proofs.lemmas.Str.{chars-nil}
-use Rattle.std.specs.Option.{option_copied}
+use Rattle.snippet_grid.proofs.Common.{◌≡◌, ◌∙◌, [], List, ap, arith, refl, rules, subst, sym, nil_from_length, chars-nil, option_copied, AddsCells}
+use Rattle.snippet_grid.proofs.Common.{style_at, Cell, text_cells}
 use Rattle.std.specs.Str.{chars}
 use Rattle.snippet_grid.proofs.GridShown.{chars_some}
 use Rattle.snippet_grid.proofs.OpenRowLemmas.{adds_none, word_added}
-use Rattle.snippet_grid.specs.OpenRow.{AddsCells}
-use Rattle.snippet_grid.specs.SheetCodes.{style_at}
-use Rattle.snippet_style.specs.Cell.{Cell, text_cells}
 use Rattle.snippet_grid.proofs.printed_row.PrintedRow.add_word.Goals as goal
 
 pub weave_stretch-requires-clause-some : goal.weave_stretch-requires-clause-some

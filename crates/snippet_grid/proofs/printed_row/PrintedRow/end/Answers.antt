@@ -1,6 +1,5 @@
-use Rattle.std.proofs.Common.{string_bytes}
+use Rattle.snippet_grid.proofs.Common.{string_bytes, style_at}
 use Rattle.snippet_grid.proofs.OpenRowLemmas.{row_ended}
-use Rattle.snippet_grid.specs.SheetCodes.{style_at}
 use Rattle.snippet_grid.proofs.printed_row.PrintedRow.end.Goals as goal
 
 pub returns-clause-row : goal.returns-clause-row

@@ -1,7 +1,5 @@
-use Rattle.std.proofs.Common.{◌∙◌, ap, refl, sym}
+use Rattle.snippet_grid.proofs.Common.{◌∙◌, ap, refl, sym, colored, emboldened, plain_style, usual_bytes}
 use Rattle.std.specs.Fmt.{digits}
-use Rattle.snippet_style.specs.Style.{colored, emboldened, plain_style}
-use Rattle.snippet_grid.specs.UsualCodes.{usual_bytes}
 use Rattle.snippet_grid.proofs.CodeLemmas.{usual_text}
 use Rattle.snippet_grid.proofs.usual_codes.UsualCode.text.Goals as goal
 

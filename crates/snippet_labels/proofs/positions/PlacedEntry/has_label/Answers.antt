@@ -1,4 +1,4 @@
-use Rattle.std.proofs.Common.{◌==◌, ◌∙◌, not, ap, length, chars}
+use Rattle.snippet_labels.proofs.Common.{◌==◌, ◌∙◌, not, ap, length, chars}
 use Rattle.snippet_labels.proofs.CharLemmas.{is_empty-chars}
 use Rattle.snippet_labels.proofs.positions.PlacedEntry.has_label.Goals as goal
 

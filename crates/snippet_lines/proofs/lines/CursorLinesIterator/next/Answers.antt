@@ -1,4 +1,4 @@
-use Rattle.std.proofs.Common.{sym, ap, ◌∙◌, arith, length}
+use Rattle.snippet_lines.proofs.Common.{sym, ap, ◌∙◌, arith, length}
 use Rattle.snippet_lines.proofs.CursorLemmas.{lines_of-first}
 use Rattle.snippet_lines.proofs.lines.CursorLinesIterator.next.Goals as goal
 

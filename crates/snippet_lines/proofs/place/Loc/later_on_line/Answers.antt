@@ -1,10 +1,6 @@
-use Rattle.std.proofs.Common.{◌≡◌, ◌+◌, ◌-◌, ◌*◌, ◌≤◌, ◌++◌, ℕ, List, length, take, chars, ap, ◌∙◌, arith}
-use Rattle.std.proofs.lemmas.Grind.{common_steps}
-use Rattle.std.proofs.lemmas.List.{length-append, length-take}
-use Rattle.std.proofs.lemmas.List.Sums.{sum_by-append}
-use Rattle.snippet_text.proofs.WidthBounds.{width_of-chars}
-use Rattle.snippet_text.specs.Width.{char_width, width_of}
-use Rattle.snippet_style.proofs.CellLemmas.{length-chars_le}
+use Rattle.snippet_lines.proofs.Common.{◌≡◌, ◌+◌, ◌-◌, ◌*◌, ◌≤◌, ◌++◌, ℕ, List, length, take, ap, ◌∙◌, arith, common_steps}
+use Rattle.snippet_lines.proofs.Common.{length-append, length-take, sum_by-append, width_of-chars, char_width, width_of, length-chars_le}
+use Rattle.std.proofs.Common.{chars}
 use Rattle.snippet_lines.proofs.PlaceLemmas.{chars-later}
 use Rattle.snippet_lines.proofs.place.Loc.later_on_line.Goals as goal
 

@@ -1,7 +1,5 @@
-use Rattle.std.proofs.Common.{◌≡◌, ◌-◌, ◌≤◌, length, take, chars, ap, ◌∙◌, arith}
-use Rattle.std.proofs.lemmas.List.{take_min}
-use Rattle.std.proofs.lemmas.Grind.{common_steps}
-use Rattle.snippet_style.proofs.CellLemmas.{length-chars_le}
+use Rattle.snippet_lines.proofs.Common.{◌≡◌, ◌-◌, ◌≤◌, length, take, ap, ◌∙◌, arith, take_min, common_steps, length-chars_le}
+use Rattle.std.proofs.Common.{chars}
 use Rattle.snippet_lines.proofs.place.Loc.on_line.Goals as goal
 
 pub returns-clause-char : goal.returns-clause-char

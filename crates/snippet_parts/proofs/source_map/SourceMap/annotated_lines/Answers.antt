@@ -1,7 +1,4 @@
-use Rattle.std.proofs.Common.{sym, subst}
-use Rattle.std.proofs.lemmas.Result.{IfOk-weaker}
-use Rattle.snippet_parts.specs.Depths.{places_of}
-use Rattle.snippet_parts.specs.Chains.{IsLongestChain}
+use Rattle.snippet_parts.proofs.Common.{sym, subst, IfOk-weaker, places_of, IsLongestChain}
 use Rattle.snippet_parts.proofs.DepthLemmas.{longest-chain}
 use Rattle.snippet_parts.proofs.OnLineLemmas.{lines-ascend, first-line-among, last-line-among, seen-line-among, lines-kept, lines-entries}
 use Rattle.snippet_parts.proofs.ShownLemmas.{annotations-distinct}

@@ -1,6 +1,4 @@
-use Rattle.std.proofs.Common.{◌≡◌, ◌-◌, ◌<◌, ℕ, ap, sym, ◌∙◌, length, arith}
-use Rattle.std.proofs.lemmas.Bool.{ltb-true}
-use Rattle.snippet_lines.specs.Lines.{Source, source_lines}
+use Rattle.snippet_parts.proofs.Common.{◌≡◌, ◌-◌, ◌<◌, ℕ, ap, sym, ◌∙◌, length, arith, ltb-true, Source, source_lines}
 use Rattle.snippet_parts.proofs.TableLemmas.{line_at-some}
 use Rattle.snippet_parts.proofs.source_map.SourceMap.get_line.Goals as goal
 

@@ -1,8 +1,5 @@
-use Rattle.std.proofs.Common.{◌≡◌, ◌≤◌, ◌+◌, ◌∙◌, length, List, ℕ, sym, ap, arith}
-use Rattle.std.proofs.lemmas.Bool.{lt-ltb}
-use Rattle.snippet_lines.specs.Lines.{Source, source_lines}
-use Rattle.snippet_lines.proofs.LinesLemmas.{length-source_lines, newline_count-le}
-use Rattle.snippet_parts.specs.MapStarts.{starts_of}
+use Rattle.snippet_parts.proofs.Common.{◌≡◌, ◌≤◌, ◌+◌, ◌∙◌, length, List, ℕ, sym, ap, arith, lt-ltb, Source, source_lines}
+use Rattle.snippet_parts.proofs.Common.{length-source_lines, newline_count-le, starts_of}
 use Rattle.snippet_parts.proofs.TableLemmas.{table-within}
 use Rattle.snippet_parts.proofs.source_map.SourceMap.has_line.Goals as goal
 

@@ -1,9 +1,5 @@
-use Rattle.std.proofs.Common.{◌≡◌, ◌<◌, ◌≤◌, ◌+◌, ◌-◌, ◌∙◌, length, get_or, List, ℕ, sym, ap, arith}
-use Rattle.std.proofs.lemmas.Bool.{ltb-true}
-use Rattle.snippet_lines.specs.Lines.{Source, source_lines, start_of}
-use Rattle.snippet_lines.proofs.LinesLemmas.{joined-source_lines, start_of-end, start_of-le}
-use Rattle.snippet_parts.specs.LineTable.{IsLineTable}
-use Rattle.snippet_parts.specs.MapStarts.{starts_of}
+use Rattle.snippet_parts.proofs.Common.{◌≡◌, ◌<◌, ◌≤◌, ◌+◌, ◌-◌, ◌∙◌, length, get_or, List, ℕ, sym, ap, arith, ltb-true, Source}
+use Rattle.snippet_parts.proofs.Common.{source_lines, start_of, joined-source_lines, start_of-end, start_of-le, IsLineTable, starts_of}
 use Rattle.snippet_parts.proofs.TableLemmas.{table-start}
 use Rattle.snippet_parts.proofs.source_map.SourceMap.kept_start.Goals as goal
 

@@ -1,7 +1,5 @@
-use Rattle.std.proofs.Common.{◌≡◌, ◌+◌, ◌∙◌, length, List, ℕ, ap, arith, rules}
-use Rattle.snippet_lines.specs.Lines.{Source, source_lines}
-use Rattle.snippet_lines.proofs.LinesLemmas.{AreLinesOf-source_lines, length-source_lines, newline_count-le, source_lines-only}
-use Rattle.snippet_parts.specs.MapStarts.{starts_of}
+use Rattle.snippet_parts.proofs.Common.{◌≡◌, ◌+◌, ◌∙◌, length, List, ℕ, ap, arith, rules, Source, source_lines, AreLinesOf-source_lines}
+use Rattle.snippet_parts.proofs.Common.{length-source_lines, newline_count-le, source_lines-only, starts_of}
 use Rattle.snippet_parts.proofs.TableLemmas.{table-last}
 use Rattle.snippet_parts.proofs.source_map.SourceMap.line_count.Goals as goal
 

@@ -1,12 +1,6 @@
-use Rattle.std.proofs.Common.{◌≡◌, ◌<◌, ◌≤◌, ◌+◌, ◌^◌, ◌∙◌, length, List, ℕ, ◌-◌, subst, sym, ap, arith, rules}
-use Rattle.std.specs.List.{HoldsAt}
-use Rattle.std.specs.List.Sorted.{IsNonDecreasingBy}
-use Rattle.snippet_lines.specs.Lines.{Source, source_lines}
-use Rattle.snippet_lines.specs.Place.{line_of}
-use Rattle.snippet_lines.proofs.IndexLemmas.{line_of-clamped}
-use Rattle.snippet_lines.proofs.LinesLemmas.{length-source_lines, newline_count-le}
-use Rattle.snippet_lines.proofs.PlaceLemmas.{line_of-within}
-use Rattle.snippet_parts.specs.MapStarts.{starts_of}
+use Rattle.snippet_parts.proofs.Common.{◌≡◌, ◌<◌, ◌≤◌, ◌+◌, ◌^◌, ◌∙◌, length, List, ℕ, ◌-◌, subst, sym, ap, arith, rules}
+use Rattle.snippet_parts.proofs.Common.{HoldsAt, IsNonDecreasingBy, Source, source_lines, line_of, line_of-clamped, length-source_lines, newline_count-le}
+use Rattle.snippet_parts.proofs.Common.{line_of-within, starts_of}
 use Rattle.snippet_parts.proofs.TableLemmas.{table-ordered, table-first, table-holding}
 use Rattle.snippet_parts.proofs.source_map.SourceMap.line_index_of.Goals as goal
 

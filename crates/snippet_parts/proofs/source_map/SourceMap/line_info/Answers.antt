@@ -1,13 +1,7 @@
-use Rattle.std.proofs.Common.{◌≡◌, ◌<◌, ◌+◌, ◌-◌, ap, sym, subst, ◌∙◌, [], List, ℕ, length, take, drop, get_or, arith}
-use Rattle.std.specs.Str.{IsCharBoundary}
-use Rattle.snippet_lines.specs.declared.lines.EndLine.TheVariants.{Eof}
-use Rattle.snippet_lines.specs.Lines.{Line, Source, line_bytes, source_lines, start_of}
-use Rattle.snippet_lines.specs.CutLines.{IsLineWithEnd}
-use Rattle.snippet_lines.proofs.LinesLemmas.{length-source_lines, newline_count-le, start_of-le}
-use Rattle.snippet_lines.proofs.BoundsLemmas.{IsCharBoundary-start_of, IsLine-at, IsOneLine-line, line_bytes-slice}
-use Rattle.snippet_parts.specs.declared.source_map.LineInfo.{LineInfo}
-use Rattle.snippet_parts.specs.LineTable.{table_entry, entry_at}
-use Rattle.snippet_lines.proofs.StartLemmas.{text-only}
+use Rattle.snippet_parts.proofs.Common.{◌≡◌, ◌<◌, ◌+◌, ◌-◌, ap, sym, subst, ◌∙◌, [], List, ℕ, length, take, drop, get_or, arith}
+use Rattle.snippet_parts.proofs.Common.{IsCharBoundary, Eof, Line, Source, line_bytes, source_lines, start_of, IsLineWithEnd, length-source_lines}
+use Rattle.snippet_parts.proofs.Common.{newline_count-le, start_of-le, IsCharBoundary-start_of, IsLine-at, IsOneLine-line, line_bytes-slice, LineInfo}
+use Rattle.snippet_parts.proofs.Common.{table_entry, entry_at, text-only}
 use Rattle.snippet_parts.proofs.TableLemmas.{entry_at-is}
 use Rattle.snippet_parts.proofs.source_map.SourceMap.line_info.Goals as goal
 

@@ -1,4 +1,4 @@
-use Rattle.std.proofs.Common.{◌∙◌, arith}
+use Rattle.snippet_parts.proofs.Common.{◌∙◌, arith}
 use Rattle.snippet_parts.proofs.TableLemmas.{located-border, located-char, located-display, located-end, located-is, located-line, located-ordered}
 use Rattle.snippet_parts.proofs.source_map.SourceMap.locate_later.Goals as goal
 

@@ -1,12 +1,6 @@
-use Rattle.std.proofs.Common.{◌≡◌, ◌≤◌, ◌+◌, ◌-◌, ◌∙◌, ap, sym, subst, List, ℕ, length, take, drop, arith}
-use Rattle.std.specs.Str.{IsCharBoundary}
-use Rattle.std.proofs.lemmas.List.{length-drop, length-take}
-use Rattle.snippet_lines.specs.Lines.{Line, source_lines, start_of}
-use Rattle.snippet_lines.specs.Place.{line_of}
-use Rattle.snippet_lines.proofs.BoundsLemmas.{IsCharBoundary-start_of}
-use Rattle.snippet_lines.proofs.LinesLemmas.{length-source_lines, start_of-le}
-use Rattle.snippet_lines.proofs.PlaceLemmas.{line_of-mono, line_of-within}
-use Rattle.snippet_lines.specs.Starts.{starts_from}
+use Rattle.snippet_parts.proofs.Common.{◌≡◌, ◌≤◌, ◌+◌, ◌-◌, ◌∙◌, ap, sym, subst, List, ℕ, length, take, drop, arith, IsCharBoundary}
+use Rattle.snippet_parts.proofs.Common.{length-drop, length-take, Line, source_lines, start_of, line_of, IsCharBoundary-start_of, length-source_lines}
+use Rattle.snippet_parts.proofs.Common.{start_of-le, line_of-mono, line_of-within, starts_from}
 use Rattle.snippet_parts.proofs.PartLines.{lines-of-part}
 use Rattle.snippet_parts.proofs.TableLemmas.{length-starts_from, table-alone}
 use Rattle.snippet_parts.proofs.source_map.SourceMap.near.Goals as goal

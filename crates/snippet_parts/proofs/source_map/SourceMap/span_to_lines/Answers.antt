@@ -1,9 +1,5 @@
-use Rattle.std.proofs.Common.{◌≡◌, ◌<◌, ◌≤◌, ◌+◌, ◌-◌, ◌∙◌, List, ℕ, length, map, ap, arith}
-use Rattle.std.specs.List.{range_with_len}
-use Rattle.snippet_lines.specs.Lines.{Line, source_lines}
-use Rattle.snippet_lines.specs.Place.{line_of}
-use Rattle.snippet_lines.proofs.PlaceLemmas.{line_of-mono, line_of-within}
-use Rattle.snippet_parts.specs.LineTable.{entry_at}
+use Rattle.snippet_parts.proofs.Common.{◌≡◌, ◌<◌, ◌≤◌, ◌+◌, ◌-◌, ◌∙◌, List, ℕ, length, map, ap, arith, range_with_len, Line}
+use Rattle.snippet_parts.proofs.Common.{source_lines, line_of, line_of-mono, line_of-within, entry_at}
 use Rattle.snippet_parts.proofs.TableLemmas.{entries-more}
 use Rattle.snippet_parts.proofs.source_map.SourceMap.span_to_lines.Goals as goal
 

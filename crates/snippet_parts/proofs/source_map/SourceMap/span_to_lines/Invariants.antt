@@ -1,8 +1,5 @@
 -- The lines so far are those from the first on.
-use Rattle.std.proofs.Common.{◌≡◌, ◌-◌, map}
-use Rattle.std.specs.List.{range_with_len}
-use Rattle.snippet_lines.specs.Lines.{source_lines}
-use Rattle.snippet_parts.specs.LineTable.{table_entry, entry_at}
+use Rattle.snippet_parts.proofs.Common.{◌≡◌, ◌-◌, map, range_with_len, source_lines, table_entry, entry_at}
 use Rattle.snippet_parts.proofs.source_map.SourceMap.span_to_lines.Given as goal
 
 abbrev pub invariant-loop-index : goal.invariant-loop-index

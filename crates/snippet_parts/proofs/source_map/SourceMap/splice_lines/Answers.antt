@@ -1,6 +1,5 @@
-use Rattle.std.proofs.Common.{ℕ, List, IfOk, IfSome, map, subst}
-use Rattle.snippet_splice.specs.Edits.{edit_of}
-use Rattle.snippet_splice.specs.Splice.{IsSplice}
+use Rattle.snippet_parts.proofs.Common.{ℕ, List, IfOk, map, subst, edit_of, IsSplice}
+use Rattle.std.proofs.Common.{IfSome}
 use Rattle.snippet_parts.proofs.source_map.SourceMap.splice_lines.Goals as goal
 
 pub returns-clause-splice : goal.returns-clause-splice

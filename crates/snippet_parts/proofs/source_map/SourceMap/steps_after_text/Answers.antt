@@ -1,4 +1,4 @@
-use Rattle.std.proofs.Common.{◌≡◌, ◌+◌, ◌∙◌, refl, Bool, true, false, cond, ltb, length, arith}
+use Rattle.snippet_parts.proofs.Common.{◌≡◌, ◌+◌, ◌∙◌, refl, Bool, true, false, cond, ltb, length, arith}
 use mir.Val.{bool_byte}
 use Rattle.snippet_parts.proofs.TableLemmas.{located-end, located-steps}
 use Rattle.snippet_parts.proofs.source_map.SourceMap.steps_after_text.Goals as goal

@@ -1,6 +1,4 @@
-use Rattle.std.proofs.Common.{◌<◌, length, arith}
-use Rattle.snippet_shown.specs.AsSet.{IsElementAsSet}
-use Rattle.snippet_model.proofs.ZipLemmas.{all_zip_more}
+use Rattle.snippet_shown.proofs.Common.{◌<◌, length, arith, IsElementAsSet, all_zip_more}
 use Rattle.snippet_shown.proofs.as_set.groups.elements_as_set.Goals as goal
 
 pub loop-element-preserved : goal.loop-element-preserved

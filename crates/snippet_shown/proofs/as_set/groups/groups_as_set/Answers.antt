@@ -1,6 +1,4 @@
-use Rattle.std.proofs.Common.{◌<◌, length, arith}
-use Rattle.snippet_shown.specs.AsSet.{IsGroupAsSet}
-use Rattle.snippet_model.proofs.ZipLemmas.{all_zip_more}
+use Rattle.snippet_shown.proofs.Common.{◌<◌, length, arith, IsGroupAsSet, all_zip_more}
 use Rattle.snippet_shown.proofs.as_set.groups.groups_as_set.Goals as goal
 
 pub loop-group-preserved : goal.loop-group-preserved

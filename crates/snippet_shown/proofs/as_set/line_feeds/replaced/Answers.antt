@@ -1,6 +1,4 @@
-use Rattle.std.proofs.lemmas.Str.{IsUtf8-string_bytes}
-use Rattle.std.proofs.lemmas.Iterator.{YieldsList-from_chars}
-use Rattle.std.proofs.lemmas.Iterator.Consumers.{YieldsList-end}
+use Rattle.snippet_shown.proofs.Common.{IsUtf8-string_bytes, YieldsList-from_chars, YieldsList-end}
 use Rattle.snippet_shown.proofs.LineFeedLemmas.{shown-spelled, shown-written}
 use Rattle.snippet_shown.proofs.as_set.line_feeds.replaced.Goals as goal
 

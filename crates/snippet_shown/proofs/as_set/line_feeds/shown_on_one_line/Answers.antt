@@ -1,6 +1,4 @@
-use Rattle.std.proofs.Common.{◌==◌, ◌∙◌, ap, chars, sym}
-use Rattle.std.specs.Cow.{cow_str_bytes}
-use Rattle.std.specs.List.{list_any}
+use Rattle.snippet_shown.proofs.Common.{◌==◌, ◌∙◌, ap, chars, sym, cow_str_bytes, list_any}
 use Rattle.snippet_shown.proofs.LineFeedLemmas.{shown-feedless}
 use Rattle.snippet_shown.proofs.as_set.line_feeds.shown_on_one_line.Goals as goal
 

@@ -1,4 +1,4 @@
-use Rattle.std.proofs.Common.{sym, chars}
+use Rattle.snippet_shown.proofs.Common.{sym, chars}
 use Rattle.snippet_shown.proofs.LineFeedLemmas.{shown-feedless}
 use Rattle.snippet_shown.proofs.as_set.line_feeds.with_line_feeds_shown.Goals as goal
 

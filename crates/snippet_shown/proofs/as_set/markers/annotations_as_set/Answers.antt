@@ -1,6 +1,4 @@
-use Rattle.std.proofs.Common.{◌<◌, length, arith}
-use Rattle.snippet_shown.specs.AsSet.{IsAnnotationAsSet}
-use Rattle.snippet_model.proofs.ZipLemmas.{all_zip_more}
+use Rattle.snippet_shown.proofs.Common.{◌<◌, length, arith, IsAnnotationAsSet, all_zip_more}
 use Rattle.snippet_shown.proofs.as_set.markers.annotations_as_set.Goals as goal
 
 pub loop-annotation-preserved : goal.loop-annotation-preserved

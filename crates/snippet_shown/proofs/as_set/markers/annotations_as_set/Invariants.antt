@@ -1,6 +1,4 @@
-use Rattle.std.proofs.Common.{take}
-use Rattle.std.specs.List.{AllZip}
-use Rattle.snippet_shown.specs.AsSet.{IsAnnotationAsSet}
+use Rattle.snippet_shown.proofs.Common.{take, AllZip, IsAnnotationAsSet}
 use Rattle.snippet_shown.proofs.as_set.markers.annotations_as_set.Given as goal
 
 abbrev pub invariant-loop-annotation : goal.invariant-loop-annotation

@@ -1,6 +1,4 @@
-use Rattle.std.proofs.Common.{◌<◌, length, arith}
-use Rattle.snippet_model.specs.Same.{SamePatch}
-use Rattle.snippet_model.proofs.ZipLemmas.{all_zip_more}
+use Rattle.snippet_shown.proofs.Common.{◌<◌, length, arith, SamePatch, all_zip_more}
 use Rattle.snippet_shown.proofs.as_set.markers.patches_lent.Goals as goal
 
 pub loop-patch-preserved : goal.loop-patch-preserved

@@ -1,12 +1,6 @@
-use Rattle.std.proofs.Common.{◌≡◌, ◌∙◌, ℕ, ◌++◌, Bool, false, List, [], ◌∷◌, Option, None, length, map, refl, sym, ap, append_assoc, append-nil, arith}
-use Rattle.std.specs.Vec.Iter.{into_iter_items}
-use Rattle.std.specs.declared.alloc.Global.{Global}
-use Rattle.std.specs.declared.borrow.CowStr.{CowStr}
-use Rattle.std.specs.declared.ops.Range.{Range}
-use Rattle.snippet_model.specs.declared.snippet.Annotation.{Annotation}
-use Rattle.snippet_model.specs.declared.snippet.AnnotationKind.{AnnotationKind}
-use Rattle.snippet_model.specs.declared.snippet.AnnotationKind.TheVariants.{Visible}
-use Rattle.snippet_shown.specs.Context.{visible_mark}
+use Rattle.snippet_shown.proofs.Common.{◌≡◌, ◌∙◌, ℕ, ◌++◌, Bool, false, List, [], ◌∷◌, Option, None, length, map, refl, sym, ap}
+use Rattle.snippet_shown.proofs.Common.{append_assoc, append-nil, arith, into_iter_items, Global, CowStr, Range, Annotation, AnnotationKind, Visible}
+use Rattle.snippet_shown.proofs.Common.{visible_mark}
 use Rattle.snippet_shown.proofs.context.snippets.add_visible.Goals as goal
 
 nothing_left : (xs : List (Range ℕ)) → length xs ≡ 0 → xs ≡ []

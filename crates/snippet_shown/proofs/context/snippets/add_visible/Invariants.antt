@@ -1,6 +1,4 @@
-use Rattle.std.proofs.Common.{◌≡◌, ◌++◌, length, map}
-use Rattle.std.specs.Vec.Iter.{into_iter_items, into_iter_len}
-use Rattle.snippet_shown.specs.Context.{visible_mark}
+use Rattle.snippet_shown.proofs.Common.{◌≡◌, ◌++◌, length, map, into_iter_items, into_iter_len, visible_mark}
 use Rattle.snippet_shown.proofs.context.snippets.add_visible.Given as goal
 
 -- the annotations so far, and after them those of the spans that are left

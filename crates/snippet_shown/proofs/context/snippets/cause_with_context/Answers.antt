@@ -1,8 +1,4 @@
-use Rattle.std.proofs.Common.{◌∙◌, ℕ, ◌++◌, All, List, map, refl, ap, subst}
-use Rattle.std.specs.Cow.{cow_str_bytes}
-use Rattle.std.specs.declared.ops.Range.{Range}
-use Rattle.snippet_shown.specs.Context.{visible_mark}
-use Rattle.snippet_shown.specs.WithContext.{HoldsSpan}
+use Rattle.snippet_shown.proofs.Common.{◌∙◌, ℕ, ◌++◌, All, List, map, refl, ap, subst, cow_str_bytes, Range, visible_mark, HoldsSpan}
 use Rattle.snippet_shown.proofs.WithLemmas.{unfolded-with}
 use Rattle.snippet_shown.proofs.context.snippets.cause_with_context.Goals as goal
 

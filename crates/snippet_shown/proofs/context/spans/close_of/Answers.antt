@@ -1,4 +1,4 @@
-use Rattle.std.proofs.Common.{arith}
+use Rattle.snippet_shown.proofs.Common.{arith}
 use Rattle.snippet_shown.proofs.SpanLemmas.{closes-inner, closes-last, start-some}
 use Rattle.snippet_shown.proofs.context.spans.close_of.Goals as goal
 

@@ -1,6 +1,4 @@
-use Rattle.std.proofs.Common.{◌≡◌, ◌∙◌, ℕ, ◌+◌, ◌-◌, min, List, length, ap, ap₂, arith}
-use Rattle.std.specs.declared.ops.Range.{Range}
-use Rattle.snippet_lines.specs.Lines.{source_lines, start_of}
+use Rattle.snippet_shown.proofs.Common.{◌≡◌, ◌∙◌, ℕ, ◌+◌, ◌-◌, min, List, length, ap, ap₂, arith, Range, source_lines, start_of}
 use Rattle.snippet_shown.specs.Context as spec
 use Rattle.snippet_shown.proofs.SpanLemmas.{line_starts-start_of, starts-length}
 use Rattle.snippet_shown.proofs.context.spans.span_around.Goals as goal

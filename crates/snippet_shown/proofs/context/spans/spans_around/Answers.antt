@@ -1,12 +1,5 @@
-use Rattle.std.proofs.Common.{ℕ, All, List, length, true, subst, sym}
-use Rattle.std.proofs.lemmas.Result.{IfOk-weaker}
-use Rattle.std.specs.Cow.{cow_str_bytes}
-use Rattle.std.specs.List.{list_any}
-use Rattle.std.specs.Str.{IsUtf8}
-use Rattle.snippet_lines.specs.Lines.{Source, source_lines}
-use Rattle.snippet_parts.proofs.KeptLemmas.{kept-within}
-use Rattle.snippet_parts.specs.Kept.{keeps, kept_lines}
-use Rattle.snippet_shown.specs.WithContext.{HoldsSpan}
+use Rattle.snippet_shown.proofs.Common.{ℕ, All, List, length, true, subst, sym, IfOk-weaker, cow_str_bytes, list_any, IsUtf8, Source, source_lines}
+use Rattle.snippet_shown.proofs.Common.{kept-within, keeps, kept_lines, HoldsSpan}
 use Rattle.snippet_shown.proofs.SpanLemmas.{around-parts}
 use Rattle.snippet_shown.proofs.context.spans.spans_around.Goals as goal
 

@@ -1,14 +1,6 @@
-use Rattle.std.proofs.Common.{◌≡◌, ◌∙◌, ℕ, ◌+◌, ◌-◌, ◌++◌, min, true, List, [], ◌∷◌, map, length, drop, get_or, ap, ap₂, arith, refl, sym, append_assoc}
-use Rattle.std.proofs.lemmas.List.{drop_more, length-drop, length-map, take_all}
-use Rattle.std.specs.Cow.{cow_str_bytes}
-use Rattle.std.specs.List.{list_any}
-use Rattle.std.specs.declared.ops.Range.{Range}
-use Rattle.snippet_lines.specs.Lines.{source_lines}
-use Rattle.snippet_parts.proofs.KeptLemmas.{kept-within}
-use Rattle.snippet_parts.specs.Annotated.{kept_line}
-use Rattle.snippet_parts.specs.OnLine.{seen_kept}
-use Rattle.snippet_parts.specs.Kept.{keeps, kept_lines}
-use Rattle.snippet_parts.specs.Numbered.{numbered_source}
+use Rattle.snippet_shown.proofs.Common.{◌≡◌, ◌∙◌, ℕ, ◌+◌, ◌-◌, ◌++◌, min, true, List, [], ◌∷◌, map, length, drop, get_or, ap}
+use Rattle.snippet_shown.proofs.Common.{ap₂, arith, refl, sym, append_assoc, drop_more, length-drop, length-map, take_all, cow_str_bytes, list_any, Range}
+use Rattle.snippet_shown.proofs.Common.{source_lines, kept-within, kept_line, seen_kept, keeps, kept_lines, numbered_source}
 use Rattle.snippet_shown.specs.Context as spec
 use Rattle.snippet_shown.proofs.SpanLemmas.{after-all, kept-number, reach-kept, starts-length}
 use Rattle.snippet_shown.proofs.context.spans.spans_of.Goals as goal

@@ -1,7 +1,4 @@
-use Rattle.std.proofs.Common.{◌≡◌, ◌++◌, ℕ, List, drop, true}
-use Rattle.std.specs.Cow.{cow_str_bytes}
-use Rattle.snippet_shown.specs.Context.{spans_around}
-use Rattle.snippet_parts.specs.Kept.{kept_lines}
+use Rattle.snippet_shown.proofs.Common.{◌≡◌, ◌++◌, ℕ, List, drop, true, cow_str_bytes, spans_around, kept_lines}
 use Rattle.snippet_shown.proofs.context.spans.spans_of.Given as goal
 
 -- the spans around the lines so far, and after them those around the others, are those around all

@@ -1,6 +1,4 @@
-use Rattle.std.proofs.lemmas.Iterator.Adapters.{YieldsList-from_vec}
-use Rattle.std.proofs.lemmas.Iterator.Consumers.{YieldsList-end}
-use Rattle.snippet_shown.specs.AsMasked.{IsAnnotationMasked}
+use Rattle.snippet_shown.proofs.Common.{YieldsList-from_vec, YieldsList-end, IsAnnotationMasked}
 use Rattle.snippet_shown.proofs.ReportLemmas.{zip_all, zip_more}
 use Rattle.snippet_shown.proofs.mask.markers.annotations_masked.Goals as goal
 

@@ -1,5 +1,4 @@
-use Rattle.std.specs.List.{AllZip}
-use Rattle.snippet_shown.specs.AsMasked.{IsAnnotationMasked}
+use Rattle.snippet_shown.proofs.Common.{AllZip, IsAnnotationMasked}
 use Rattle.snippet_shown.proofs.mask.markers.annotations_masked.Given as goal
 
 abbrev pub invariant-loop-annotation : goal.invariant-loop-annotation

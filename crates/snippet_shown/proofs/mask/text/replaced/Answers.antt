@@ -1,9 +1,5 @@
-use Rattle.std.proofs.Common.{◌≡◌, ◌∙◌, List, ℕ, ap, chars, encode_utf8_all, sym}
-use Rattle.std.proofs.lemmas.List.{map-id}
-use Rattle.std.proofs.lemmas.Str.{IsUtf8-string_bytes}
-use Rattle.std.proofs.lemmas.Iterator.{YieldsList-from_chars}
-use Rattle.std.proofs.lemmas.Iterator.Consumers.{YieldsList-end}
-use Rattle.snippet_shown.specs.Masked.{masked}
+use Rattle.snippet_shown.proofs.Common.{◌≡◌, ◌∙◌, List, ℕ, ap, chars, encode_utf8_all, sym, map-id, IsUtf8-string_bytes, YieldsList-from_chars}
+use Rattle.snippet_shown.proofs.Common.{YieldsList-end, masked}
 use Rattle.snippet_shown.proofs.MaskBytes.{aligned-spelled}
 use Rattle.snippet_shown.proofs.MaskLemmas.{masked-spelled, masked-written}
 use Rattle.snippet_shown.proofs.mask.text.replaced.Goals as goal

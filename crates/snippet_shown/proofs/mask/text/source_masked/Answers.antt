@@ -1,5 +1,4 @@
-use Rattle.std.proofs.Common.{◌∙◌, chars, sym}
-use Rattle.std.specs.Cow.{cow_str_bytes}
+use Rattle.snippet_shown.proofs.Common.{◌∙◌, chars, sym, cow_str_bytes}
 use Rattle.snippet_shown.proofs.MaskBytes.{aligned-own}
 use Rattle.snippet_shown.proofs.MaskLemmas.{masked-none}
 use Rattle.snippet_shown.proofs.mask.text.source_masked.Goals as goal

@@ -1,7 +1,4 @@
-use Rattle.std.proofs.Common.{◌∙◌, ap, chars, sym}
-use Rattle.std.specs.Cow.{cow_str_bytes}
-use Rattle.std.specs.List.{list_any}
-use Rattle.snippet_lines.specs.Controls.{is_masked}
+use Rattle.snippet_shown.proofs.Common.{◌∙◌, ap, chars, sym, cow_str_bytes, list_any, is_masked}
 use Rattle.snippet_shown.proofs.MaskBytes.{aligned-own}
 use Rattle.snippet_shown.proofs.MaskLemmas.{masked-none}
 use Rattle.snippet_shown.proofs.mask.text.text_masked.Goals as goal

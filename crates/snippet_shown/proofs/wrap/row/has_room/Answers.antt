@@ -1,5 +1,4 @@
-use Rattle.std.proofs.Common.{◌∙◌, sym}
-use Rattle.std.proofs.lemmas.Str.{IsUtf8-past_char, chars_past_char}
+use Rattle.snippet_shown.proofs.Common.{◌∙◌, sym, IsUtf8-past_char, chars_past_char}
 use Rattle.snippet_shown.proofs.StepLemmas.{ahead-all, ahead-ends, ahead-goes, ahead-none}
 use Rattle.snippet_shown.proofs.wrap.row.has_room.Goals as goal
 

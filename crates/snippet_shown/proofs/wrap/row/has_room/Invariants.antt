@@ -1,8 +1,5 @@
 -- Whether what is left has room is whether all has.
-use Rattle.std.proofs.Common.{◌≡◌, chars, false, nat_le}
-use Rattle.std.specs.Str.{IsUtf8}
-use Rattle.snippet_shown.specs.Letters.{letters}
-use Rattle.snippet_shown.specs.Wrapped.{columns_ahead}
+use Rattle.snippet_shown.proofs.Common.{◌≡◌, chars, false, nat_le, IsUtf8, letters, columns_ahead}
 use Rattle.snippet_shown.proofs.wrap.row.has_room.Given as goal
 
 abbrev pub invariant-loop-c : goal.invariant-loop-c

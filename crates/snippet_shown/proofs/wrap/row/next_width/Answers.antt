@@ -1,5 +1,4 @@
-use Rattle.std.proofs.Common.{◌∙◌, ℕ, Some, ap, sym}
-use Rattle.std.proofs.lemmas.Str.{IsUtf8-past_char, chars_past_char}
+use Rattle.snippet_shown.proofs.Common.{◌∙◌, ℕ, Some, ap, sym, IsUtf8-past_char, chars_past_char}
 use Rattle.snippet_shown.proofs.StepLemmas.{next-end, next-found, next-more, next-none}
 use Rattle.snippet_shown.proofs.wrap.row.next_width.Goals as goal
 

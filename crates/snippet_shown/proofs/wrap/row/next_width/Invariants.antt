@@ -1,8 +1,5 @@
 -- The next word of what is left is that of all.
-use Rattle.std.proofs.Common.{◌≡◌, chars}
-use Rattle.std.specs.Str.{IsUtf8}
-use Rattle.snippet_shown.specs.Letters.{letters}
-use Rattle.snippet_shown.specs.Wrapped.{next_width}
+use Rattle.snippet_shown.proofs.Common.{◌≡◌, chars, IsUtf8, letters, next_width}
 use Rattle.snippet_shown.proofs.wrap.row.next_width.Given as goal
 
 abbrev pub invariant-loop-c : goal.invariant-loop-c

@@ -1,4 +1,4 @@
-use Rattle.std.proofs.lemmas.Str.{IsUtf8-past_char, chars_past_char}
+use Rattle.snippet_shown.proofs.Common.{IsUtf8-past_char, chars_past_char}
 use Rattle.snippet_shown.proofs.StepLemmas.{fit-end, fit-more, fit-none}
 use Rattle.snippet_shown.proofs.wrap.text.fits.Goals as goal
 

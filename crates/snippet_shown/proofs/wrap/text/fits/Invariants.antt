@@ -1,8 +1,5 @@
 -- Whether all lines fit is whether the lines left fit.
-use Rattle.std.proofs.Common.{◌≡◌, chars}
-use Rattle.std.specs.Str.{IsUtf8}
-use Rattle.snippet_shown.specs.Letters.{letters, letters_of}
-use Rattle.snippet_shown.specs.Asked.{lines_fit}
+use Rattle.snippet_shown.proofs.Common.{◌≡◌, chars, IsUtf8, letters, letters_of, lines_fit}
 use Rattle.snippet_shown.proofs.wrap.text.fits.Given as goal
 
 abbrev pub invariant-loop-c : goal.invariant-loop-c

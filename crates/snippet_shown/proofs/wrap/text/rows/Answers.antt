@@ -1,7 +1,5 @@
-use Rattle.std.proofs.Common.{ℕ, List, arith, ap, chars, length, string_bytes, subst, sym}
-use Rattle.std.specs.Str.{IsUtf8}
-use Rattle.std.proofs.lemmas.Str.{IsUtf8-past_char, IsUtf8-string_bytes, chars_past_char}
-use Rattle.snippet_shown.specs.Wrapped.{wrapped}
+use Rattle.snippet_shown.proofs.Common.{ℕ, List, arith, ap, chars, length, string_bytes, subst, sym, IsUtf8, IsUtf8-past_char, IsUtf8-string_bytes}
+use Rattle.snippet_shown.proofs.Common.{chars_past_char, wrapped}
 use Rattle.snippet_shown.proofs.StepLemmas.{Writes, Writes-all, Writes-next}
 use Rattle.snippet_shown.proofs.WrapLemmas.{Writes-none}
 use Rattle.snippet_shown.proofs.wrap.text.rows.Goals as goal

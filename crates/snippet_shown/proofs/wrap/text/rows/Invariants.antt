@@ -1,7 +1,5 @@
 -- What is written so far, with what is shown of the characters that are left, is all.
-use Rattle.std.proofs.Common.{chars, length, string_bytes}
-use Rattle.std.specs.Str.{IsUtf8}
-use Rattle.snippet_shown.specs.Wrapped.{wrapped}
+use Rattle.snippet_shown.proofs.Common.{chars, length, string_bytes, IsUtf8, wrapped}
 use Rattle.snippet_shown.proofs.StepLemmas.{Writes}
 use Rattle.snippet_shown.proofs.wrap.text.rows.Given as goal
 

@@ -1,4 +1,4 @@
-use Rattle.std.proofs.Common.{◌∙◌, chars, sym}
+use Rattle.snippet_shown.proofs.Common.{◌∙◌, chars, sym}
 use Rattle.snippet_shown.proofs.WrapLemmas.{wrapped-same, wrapped-small}
 use Rattle.snippet_shown.proofs.wrap.text.stays.Goals as goal
 

@@ -1,7 +1,5 @@
-use Rattle.std.proofs.Common.{◌≡◌, ◌∙◌, ◌+◌, ◌-◌, ◌++◌, ◌∷◌, [], ap, arith, length, map, replicate, sym}
-use Rattle.std.proofs.lemmas.List.{append_assoc, append-nil, length-map, length_push, map-append, replicate_more}
-use Rattle.snippet_grid.specs.StyledChars.{cell_of}
-use Rattle.snippet_strokes.specs.CellRows.{cells_of}
+use Rattle.snippet_strokes.proofs.Common.{◌≡◌, ◌∙◌, ◌+◌, ◌-◌, ◌++◌, ◌∷◌, [], ap, arith, length, map, replicate, sym, append_assoc}
+use Rattle.snippet_strokes.proofs.Common.{append-nil, length-map, length_push, map-append, replicate_more, cell_of, cells_of}
 use Rattle.snippet_strokes.proofs.cell_rows.CellRows.add_rows.Goals as goal
 
 pub loop-init : goal.loop-init

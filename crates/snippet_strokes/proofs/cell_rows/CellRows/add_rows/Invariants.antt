@@ -1,6 +1,5 @@
 -- Rows are made up to this number.
-use Rattle.std.proofs.Common.{◌≡◌, ◌+◌, ◌++◌, ◌-◌, ◌≤◌, [], length, map, max, replicate}
-use Rattle.snippet_strokes.specs.CellRows.{cells_of}
+use Rattle.snippet_strokes.proofs.Common.{◌≡◌, ◌+◌, ◌++◌, ◌-◌, ◌≤◌, [], length, map, max, replicate, cells_of}
 use Rattle.snippet_strokes.proofs.cell_rows.CellRows.add_rows.Given as goal
 
 abbrev pub invariant-loop : goal.invariant-loop

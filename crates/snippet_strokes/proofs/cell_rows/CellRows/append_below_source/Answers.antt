@@ -1,7 +1,5 @@
-use Rattle.std.proofs.Common.{◌≡◌, ◌∙◌, ◌<◌, ◌-◌, ◌++◌, ap, arith, drop, length, map, take}
-use Rattle.std.proofs.lemmas.List.{length-drop, length-map, length-take}
-use Rattle.std.proofs.lemmas.Result.{on_ok_weaker}
-use Rattle.snippet_strokes.specs.CellRows.{cells_of}
+use Rattle.snippet_strokes.proofs.Common.{◌≡◌, ◌∙◌, ◌<◌, ◌-◌, ◌++◌, ap, arith, drop, length, map, take, length-drop, length-map}
+use Rattle.snippet_strokes.proofs.Common.{length-take, on_ok_weaker, cells_of}
 use Rattle.snippet_strokes.proofs.CellRowLemmas.{rows_from}
 use Rattle.snippet_strokes.proofs.cell_rows.CellRows.append_below_source.Goals as goal
 

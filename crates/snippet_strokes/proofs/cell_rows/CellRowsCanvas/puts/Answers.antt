@@ -1,5 +1,4 @@
-use Rattle.std.proofs.Common.{◌∙◌}
-use Rattle.std.proofs.lemmas.Result.{on_ok_weaker}
+use Rattle.snippet_strokes.proofs.Common.{◌∙◌, on_ok_weaker}
 use Rattle.snippet_strokes.proofs.CellRowLemmas.{row_written}
 use Rattle.snippet_strokes.proofs.cell_rows.CellRowsCanvas.puts.Goals as goal
 

@@ -1,8 +1,5 @@
-use Rattle.std.proofs.Common.{◌≡◌, ◌∙◌, ◌+◌, ◌≤◌, ℕ, List, ap, arith, length, sym, take}
-use Rattle.std.proofs.lemmas.List.{take_all}
-use Rattle.snippet_suggest.specs.declared.marks.PatchColumns.{PatchColumns}
-use Rattle.snippet_suggest.specs.Marks.{left_of}
-use Rattle.snippet_suggest.specs.Moves.{shift_of}
+use Rattle.snippet_suggest.proofs.Common.{◌≡◌, ◌∙◌, ◌+◌, ◌≤◌, ℕ, List, ap, arith, length, sym, take, take_all, PatchColumns, left_of}
+use Rattle.snippet_suggest.proofs.Common.{shift_of}
 use Rattle.snippet_suggest.proofs.MarksDrawn.{left_all, left_next, left_passed}
 use Rattle.snippet_suggest.proofs.marks.Moves.before.Goals as goal
 use Rattle.snippet_suggest.proofs.marks.Moves.before.Goals.{then-columns-start, else-columns-start}

@@ -1,6 +1,4 @@
-use Rattle.std.proofs.Common.{◌≡◌, take}
-use Rattle.snippet_suggest.specs.Marks.{left_of}
-use Rattle.snippet_suggest.specs.Moves.{shift_of}
+use Rattle.snippet_suggest.proofs.Common.{◌≡◌, take, left_of, shift_of}
 use Rattle.snippet_suggest.proofs.marks.Moves.before.Given as goal
 
 -- what those so far that end there or left of it move

@@ -1,7 +1,6 @@
-use Rattle.std.proofs.Common.{◌≡◌, ◌∙◌, ◌≤◌, ◌==◌, ℕ, ap, arith, chars, count_by, refl, subst, sym, take}
-use Rattle.snippet_splice.specs.EditStretches.{capped}
-use Rattle.snippet_suggest.specs.declared.roles.TabCursor.{TabCursor}
-use Rattle.snippet_suggest.specs.Cursor.{IsCursor}
+use Rattle.snippet_suggest.proofs.Common.{◌≡◌, ◌∙◌, ◌≤◌, ◌==◌, ℕ, ap, arith, count_by, refl, subst, sym, take, capped, TabCursor}
+use Rattle.snippet_suggest.proofs.Common.{IsCursor}
+use Rattle.std.proofs.Common.{chars}
 use Rattle.snippet_suggest.proofs.StretchRows.{cursor_ended, cursor_next, cursor_there}
 use Rattle.snippet_suggest.proofs.roles.TabCursor.before.Goals as goal
 use Rattle.snippet_suggest.proofs.roles.TabCursor.before.Goals.{then-character-self, else-character-self, else-loop-self-test, then-loop-self-test+in_default}

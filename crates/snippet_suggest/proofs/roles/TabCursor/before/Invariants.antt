@@ -1,5 +1,4 @@
-use Rattle.std.proofs.Common.{◌≡◌, ◌-◌, ◌≤◌}
-use Rattle.snippet_suggest.specs.Cursor.{IsCursor}
+use Rattle.snippet_suggest.proofs.Common.{◌≡◌, ◌-◌, ◌≤◌, IsCursor}
 use Rattle.snippet_suggest.proofs.roles.TabCursor.before.Given as goal
 
 -- the walk goes on in the line, and not past the character

@@ -1,4 +1,4 @@
-use Rattle.std.proofs.Common.{refl}
+use Rattle.snippet_suggest.proofs.Common.{refl}
 use Rattle.snippet_suggest.proofs.StretchRows.{cursor_begins}
 use Rattle.snippet_suggest.proofs.roles.TabCursor.new.Goals as goal
 

@@ -1,6 +1,5 @@
-use Rattle.std.proofs.Common.{◌∙◌, ap, chars, string_bytes}
-use Rattle.std.specs.Fmt.{decimal}
-use Rattle.std.proofs.lemmas.Str.{IsUtf8-string_bytes}
+use Rattle.snippet_text_form.proofs.Common.{◌∙◌, ap, string_bytes, decimal, IsUtf8-string_bytes}
+use Rattle.std.proofs.Common.{chars}
 use Rattle.snippet_text_form.proofs.FormSteps.{chars-number}
 use Rattle.snippet_text_form.proofs.MarkLemmas.{AreMarks-grown, BeginsWith-pushed, text_pushed-on_ok}
 use Rattle.snippet_text_form.proofs.form.TextForm.add_number.Goals as goal

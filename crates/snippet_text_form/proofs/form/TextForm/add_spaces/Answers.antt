@@ -1,7 +1,5 @@
-use Rattle.std.proofs.Common.{◌∙◌, ◌++◌, List, ℕ, ap, chars, replicate, string_bytes}
-use Rattle.std.proofs.lemmas.Result.{on_ok_weaker}
-use Rattle.std.proofs.lemmas.Str.{IsUtf8-string_bytes}
-use Rattle.snippet_text_form.specs.Form.{FormPiece, bare}
+use Rattle.snippet_text_form.proofs.Common.{◌∙◌, ◌++◌, List, ℕ, ap, replicate, string_bytes, on_ok_weaker, IsUtf8-string_bytes, FormPiece, bare}
+use Rattle.std.proofs.Common.{chars}
 use Rattle.snippet_text_form.proofs.FormSteps.{chars-spaces}
 use Rattle.snippet_text_form.proofs.MarkLemmas.{AreMarks-grown, pieces-text}
 use Rattle.snippet_text_form.proofs.form.TextForm.add_spaces.Goals as goal

@@ -1,5 +1,5 @@
-use Rattle.std.proofs.Common.{chars, refl, string_bytes}
-use Rattle.std.proofs.lemmas.Str.{IsUtf8-string_bytes}
+use Rattle.snippet_text_form.proofs.Common.{refl, string_bytes, IsUtf8-string_bytes}
+use Rattle.std.proofs.Common.{chars}
 use Rattle.snippet_text_form.proofs.MarkLemmas.{AreMarks-grown, BeginsWith-pushed, text_pushed-on_ok}
 use Rattle.snippet_text_form.proofs.form.TextForm.add_text.Goals as goal
 

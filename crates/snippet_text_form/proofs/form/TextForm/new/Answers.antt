@@ -1,4 +1,4 @@
-use Rattle.std.proofs.Common.{string_bytes}
+use Rattle.snippet_text_form.proofs.Common.{string_bytes}
 use Rattle.snippet_text_form.proofs.MarkLemmas.{AreMarks-none, pieces-none}
 use Rattle.snippet_text_form.proofs.form.TextForm.new.Goals as goal
 

@@ -1,11 +1,7 @@
-use Rattle.std.proofs.Common.{◌≡◌, ◌∙◌, ◌++◌, ◌∷◌, [], ◌+◌, List, ℕ, nat_lt, ap, chars, drop, get_or, subst, sym, string_bytes}
-use Rattle.std.specs.List.{flat_map}
-use Rattle.std.proofs.lemmas.List.{drop_all, drop_more}
-use Rattle.snippet_grid.specs.Woven.{IsWoven, piece_text}
-use Rattle.snippet_text_form.specs.Form.{form_bytes, form_text, woven_from}
-use Rattle.snippet_text_form.specs.FormMarks.{piece_of_kind}
-use Rattle.snippet_text_form.specs.FormLinks.{form_links}
-use Rattle.snippet_text_form.specs.declared.form.FormMark.{FormMark}
+use Rattle.snippet_text_form.proofs.Common.{◌≡◌, ◌∙◌, ◌++◌, ◌∷◌, [], ◌+◌, List, ℕ, nat_lt, ap, drop, get_or, subst, sym}
+use Rattle.snippet_text_form.proofs.Common.{string_bytes, flat_map, drop_all, drop_more, IsWoven, piece_text, form_bytes, form_text, woven_from, piece_of_kind}
+use Rattle.snippet_text_form.proofs.Common.{form_links, FormMark}
+use Rattle.std.proofs.Common.{chars}
 use Rattle.snippet_text_form.proofs.FormLaws.{form-woven}
 use Rattle.snippet_text_form.proofs.FormSteps.{IsRenderedTo, IsRenderedTo-all, IsRenderedTo-mark}
 use Rattle.snippet_text_form.proofs.MarkLemmas.{first_place, mark_here, no_mark, place_boundary}

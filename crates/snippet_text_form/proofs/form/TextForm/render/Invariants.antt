@@ -1,5 +1,5 @@
 -- The text is that of what stands before the marks that are left.
-use Rattle.std.proofs.Common.{drop, string_bytes}
+use Rattle.snippet_text_form.proofs.Common.{drop, string_bytes}
 use Rattle.snippet_text_form.proofs.FormSteps.{IsRenderedTo}
 use Rattle.snippet_text_form.proofs.form.TextForm.render.Given as goal
 

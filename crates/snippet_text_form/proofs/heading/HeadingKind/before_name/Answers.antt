@@ -1,4 +1,4 @@
-use Rattle.std.proofs.lemmas.Str.{chars-nil}
+use Rattle.snippet_text_form.proofs.Common.{chars-nil}
 use Rattle.snippet_text_form.proofs.TextLemmas.{chars-space}
 use Rattle.snippet_text_form.proofs.heading.HeadingKind.before_name.Goals as goal
 

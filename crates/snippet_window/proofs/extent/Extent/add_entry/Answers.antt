@@ -1,4 +1,4 @@
-use Rattle.std.proofs.Common.{◌∙◌, max, ap, sym}
+use Rattle.snippet_window.proofs.Common.{◌∙◌, max, ap, sym}
 use Rattle.snippet_window.proofs.ExtentLemmas.{bar_added, entry_added}
 use Rattle.snippet_window.proofs.extent.Extent.add_entry.Goals as goal
 

@@ -1,7 +1,5 @@
-use Rattle.std.proofs.Common.{◌≡◌, ◌∙◌, ◌++◌, ℕ, Option, Some, min, max, take, ap, subst, arith}
-use Rattle.std.specs.Option.{option_map_or}
-use Rattle.std.proofs.lemmas.List.{take_all}
-use Rattle.snippet_window.specs.Extent.{ReachesEntries, entries_of}
+use Rattle.snippet_window.proofs.Common.{◌≡◌, ◌∙◌, ◌++◌, ℕ, Option, Some, min, max, take, ap, subst, arith, option_map_or, take_all}
+use Rattle.snippet_window.proofs.Common.{ReachesEntries, entries_of}
 use Rattle.snippet_window.proofs.ExtentLemmas.{line_added}
 use Rattle.snippet_window.proofs.extent.Extent.add_line.Goals as goal
 

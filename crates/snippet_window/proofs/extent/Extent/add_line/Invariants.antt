@@ -1,6 +1,4 @@
-use Rattle.std.proofs.Common.{◌≡◌, ◌++◌, List, take}
-use Rattle.snippet_parts.specs.declared.entries.LineAnnotation.{LineAnnotation}
-use Rattle.snippet_window.specs.Extent.{ReachesEntries}
+use Rattle.snippet_window.proofs.Common.{◌≡◌, ◌++◌, List, take, LineAnnotation, ReachesEntries}
 use Rattle.snippet_window.proofs.extent.Extent.add_line.Given as goal
 
 -- the entries so far are taken in

@@ -1,6 +1,4 @@
-use Rattle.std.proofs.Common.{◌∙◌, [], ◌∷◌, ◌++◌, ap, cond, string_bytes}
-use Rattle.annotate_snippets.specs.declared.renderer.page.SheetPage.{SheetPage}
-use Rattle.annotate_snippets.specs.Walk.{is_first_group}
+use Rattle.annotate_snippets.proofs.Common.{◌∙◌, [], ◌∷◌, ◌++◌, ap, cond, string_bytes, SheetPage, is_first_group}
 use Rattle.annotate_snippets.proofs.WriteLemmas.{rows_added}
 use Rattle.annotate_snippets.proofs.renderer.page.SheetPagePageSink.add.Goals as goal
 

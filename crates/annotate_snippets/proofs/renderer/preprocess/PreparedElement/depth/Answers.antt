@@ -1,6 +1,4 @@
-use Rattle.std.proofs.Common.{arith, subst}
-use Rattle.annotate_snippets.specs.Gutter.{numbered_source}
-use Rattle.annotate_snippets.specs.PreparedReport.{IsElementPrepared}
+use Rattle.annotate_snippets.proofs.Common.{arith, subst, numbered_source, IsElementPrepared}
 use Rattle.annotate_snippets.proofs.PartsFacts.{deepest_few}
 use Rattle.annotate_snippets.proofs.renderer.preprocess.PreparedElement.depth.Goals as goal
 

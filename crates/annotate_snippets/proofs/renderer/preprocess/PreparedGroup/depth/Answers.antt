@@ -1,9 +1,5 @@
-use Rattle.std.proofs.Common.{◌∙◌, All, List, ap, arith, fold, map, subst, sym}
-use Rattle.std.proofs.lemmas.List.{take_all}
-use Rattle.std.proofs.lemmas.List.Elements.{All-same}
-use Rattle.annotate_snippets.specs.Gutter.{depth_of_element}
-use Rattle.annotate_snippets.specs.PreparedReport.{IsElementPrepared, element_of}
-use Rattle.annotate_snippets.specs.declared.renderer.preprocess.PreparedElement.{PreparedElement}
+use Rattle.annotate_snippets.proofs.Common.{◌∙◌, All, List, ap, arith, fold, map, subst, sym, take_all, All-same, depth_of_element, IsElementPrepared}
+use Rattle.annotate_snippets.proofs.Common.{element_of, PreparedElement}
 use Rattle.annotate_snippets.proofs.WidestLemmas.{depth-undrawn, greater, widest-more, widest-prepared}
 use Rattle.annotate_snippets.proofs.renderer.preprocess.PreparedGroup.depth.Goals as goal
 

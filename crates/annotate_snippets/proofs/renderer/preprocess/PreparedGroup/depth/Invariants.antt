@@ -1,7 +1,5 @@
 -- The depth so far is the greatest of those of the elements so far.
-use Rattle.std.proofs.Common.{◌≡◌, ◌<◌, ◌^◌, fold, map, take}
-use Rattle.annotate_snippets.specs.Gutter.{depth_of_element}
-use Rattle.annotate_snippets.specs.PreparedReport.{element_of}
+use Rattle.annotate_snippets.proofs.Common.{◌≡◌, ◌<◌, ◌^◌, fold, map, take, depth_of_element, element_of}
 use Rattle.annotate_snippets.proofs.WidestLemmas.{greater}
 use Rattle.annotate_snippets.proofs.renderer.preprocess.PreparedGroup.depth.Given as goal
 
