@@ -79,13 +79,13 @@ pub use Rattle.annotate_snippets.specs.declared.renderer.short.ShortForm.{ShortF
 pub use Rattle.annotate_snippets.specs.declared.renderer.to_writer.RenderToError.{RenderToError}
 pub use Rattle.annotate_snippets.specs.declared.renderer.to_writer.RenderToError.TheVariants.{Refused}
 pub use Rattle.snippet_grid.proofs.HtmlLaws.{made-append, chars_read, made_rows, rows_chars, says_rows}
-pub use Rattle.snippet_grid.proofs.HtmlLemmas.{adds_both, adds_piece, adds_three, text_html, adds_text}
+pub use Rattle.snippet_grid.proofs.HtmlReads.{adds_both, adds_piece, adds_three, text_html, adds_text}
 pub use Rattle.snippet_grid.proofs.HtmlReads.{html_says_pieces, is_made, piece_says, tags_are}
 pub use Rattle.snippet_grid.proofs.HtmlStands.{html_reads_pieces}
-pub use Rattle.snippet_grid.proofs.OutcomeLemmas.{on_ok_value}
+pub use Rattle.snippet_grid.proofs.RunLemmas.{on_ok_value}
 pub use Rattle.snippet_grid.proofs.PrintsOnce.{Prints-unique}
-pub use Rattle.snippet_grid.proofs.PrintsPieces.{Prints-from_pieces}
-pub use Rattle.snippet_grid.proofs.RowLemmas.{row_text-text_cells}
+pub use Rattle.snippet_grid.proofs.HtmlLaws.{Prints-from_pieces}
+pub use Rattle.snippet_grid.proofs.ReplaceLemmas.{row_text-text_cells}
 pub use Rattle.snippet_grid.proofs.WeaveLemmas.{some_same, Url, none≢some, further-append}
 pub use Rattle.snippet_grid.proofs.WovenLemmas.{plain_woven, IsWoven-from_prints, ended-append, links_of-unlinked}
 pub use Rattle.snippet_grid.specs.Calls.{WritesCells}
@@ -99,7 +99,7 @@ pub use Rattle.snippet_grid.specs.Weaving.{WeavesRows, PrintsFurther, PrintsRows
 pub use Rattle.snippet_grid.specs.Woven.{IsWoven, links_of, Prints, Char, Piece, piece_text, Reset, next_style, plain_piece, piece_link, IsOfSheet, LinkEnd}
 pub use Rattle.snippet_grid.specs.Woven.{LinkTo, PrintsCells, next_link, links_after}
 pub use Rattle.snippet_labels.proofs.CharLemmas.{is_empty-chars}
-pub use Rattle.snippet_labels.proofs.LabelWords.{label_text, placed_at, label_chars}
+pub use Rattle.snippet_labels.proofs.PlacedLemmas.{label_text, placed_at, label_chars}
 pub use Rattle.snippet_labels.proofs.PlacedLemmas.{entries_all, placed_of-at}
 pub use Rattle.snippet_labels.specs.PlacedEntries.{shifted, label_role, is_end_part}
 pub use Rattle.snippet_labels.specs.Placing.{HasPlace}
@@ -220,36 +220,36 @@ pub use Rattle.snippet_splice.specs.TrimmedEdits.{AreApart, trimmed_edit_of}
 pub use Rattle.snippet_splice.specs.declared.patches.TrimmedPatch.{TrimmedPatch}
 pub use Rattle.snippet_strokes.proofs.AmongLaws.{all_from_among, among_contains, contains_among, filter_map_cases}
 pub use Rattle.snippet_strokes.proofs.BarFacts.{BarBegins, start_corner, end_corner}
-pub use Rattle.snippet_strokes.proofs.BarLaws.{bar_past}
+pub use Rattle.snippet_strokes.proofs.BarRows.{bar_past}
 pub use Rattle.snippet_strokes.proofs.BarWrites.{All-connector_of, All-stretch_of}
 pub use Rattle.snippet_strokes.proofs.BegunLemmas.{same_front}
 pub use Rattle.snippet_strokes.proofs.CellLemmas.{above_zero}
 pub use Rattle.snippet_strokes.proofs.CrossedLaws.{line_clear}
 pub use Rattle.snippet_strokes.proofs.CutWords.{Stretch, cuts_of}
-pub use Rattle.snippet_strokes.proofs.Drawn.{drawn_mark, drawn_strokes, marks_of}
+pub use Rattle.snippet_strokes.proofs.CellLemmas.{drawn_mark, drawn_strokes, marks_of}
 pub use Rattle.snippet_strokes.proofs.DrawnCells.{StandsFrom}
-pub use Rattle.snippet_strokes.proofs.ElisionLemmas.{gap_drawn}
+pub use Rattle.snippet_strokes.proofs.SourceCellLaws.{gap_drawn}
 pub use Rattle.snippet_strokes.proofs.EndBarLaws.{bar_ends, elision_stands}
-pub use Rattle.snippet_strokes.proofs.LabelWrites.{All-label_of}
-pub use Rattle.snippet_strokes.proofs.LineFacts.{IsSourceRow, CanBeShown, ShowsLine, AreLineRows, AreOwnRows, StrokesPainted, IsHighlighted}
+pub use Rattle.snippet_strokes.proofs.WriteLaws.{All-label_of}
+pub use Rattle.snippet_strokes.proofs.WriteLaws.{IsSourceRow, CanBeShown, ShowsLine, AreLineRows, AreOwnRows, StrokesPainted, IsHighlighted}
 pub use Rattle.snippet_strokes.proofs.LineFromValue.{info_rows_show}
-pub use Rattle.snippet_strokes.proofs.MarkLemmas.{from_map}
+pub use Rattle.snippet_strokes.proofs.BegunLemmas.{from_map}
 pub use Rattle.snippet_strokes.proofs.MarkStrokeLemmas.{of_first}
 pub use Rattle.snippet_strokes.proofs.OpenLemmas.{room_below}
-pub use Rattle.snippet_strokes.proofs.PlainEntries.{IsEntryMark, are_plain, has_column, is_single, wide_entries, EntryCovers}
+pub use Rattle.snippet_strokes.proofs.SeenRows.{IsEntryMark, are_plain, has_column, is_single, wide_entries, EntryCovers}
 pub use Rattle.snippet_strokes.proofs.PositionLemmas.{line_positions_low, positions_sole, row_count_one}
 pub use Rattle.snippet_strokes.proofs.RowLemmas.{bare_row_left}
 pub use Rattle.snippet_strokes.proofs.SeenLabels.{IsLabelledAtEnd, IsLedTo, LabelsStand, PlacedLabel, StandsIn, is_cell_of}
-pub use Rattle.snippet_strokes.proofs.SeenLines.{line_seen, infos_free}
+pub use Rattle.snippet_strokes.proofs.SourceCellLaws.{line_seen, infos_free}
 pub use Rattle.snippet_strokes.proofs.SeenRows.{AreSeen, IsStrokeRow, ShowsMarks}
-pub use Rattle.snippet_strokes.proofs.SnippetLemmas.{highlighted_left, highlighted_text}
+pub use Rattle.snippet_strokes.proofs.CrossedLaws.{highlighted_left, highlighted_text}
 pub use Rattle.snippet_strokes.proofs.SourceCellLaws.{begins, gap_space, line_source}
-pub use Rattle.snippet_strokes.proofs.StemWrites.{All-stem_of, All-stems_of}
+pub use Rattle.snippet_strokes.proofs.BarWrites.{All-stem_of, All-stems_of}
 pub use Rattle.snippet_strokes.proofs.StrokeGlyphs.{of_foot}
-pub use Rattle.snippet_strokes.proofs.StrokeWords.{cut_row, bar_writes, begun_rows, corner_by, label_write, stem_write}
-pub use Rattle.snippet_strokes.proofs.StrokesInside.{stroke_rows-count}
+pub use Rattle.snippet_strokes.proofs.CellLemmas.{cut_row, bar_writes, begun_rows, corner_by, label_write, stem_write}
+pub use Rattle.snippet_strokes.proofs.StemCells.{stroke_rows-count}
 pub use Rattle.snippet_strokes.proofs.WholeLemmas.{left_none, window_cells-whole}
-pub use Rattle.snippet_strokes.proofs.WindowTextLemmas.{row_text-window_cells}
+pub use Rattle.snippet_strokes.proofs.StemCells.{row_text-window_cells}
 pub use Rattle.snippet_strokes.proofs.WriteLaws.{All-flat_map, painted-cell}
 pub use Rattle.snippet_strokes.specs.Bars.{Bar, ends_of_bars, open_past, bars_apart, bar_at}
 pub use Rattle.snippet_strokes.specs.Cuts.{overlapped}

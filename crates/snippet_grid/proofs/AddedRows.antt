@@ -7,12 +7,10 @@ use Rattle.snippet_grid.proofs.Common.{get_or-map-range_with_len, length-map-ran
 use Rattle.snippet_grid.proofs.Common.{FitIn, IsGrid, IsRow, IsRun, cells_to, grid_shown, run_cell, shown_cell, cell_of, ch_of, Run, StyledChar, Cell, SPACE}
 use Rattle.snippet_grid.proofs.Common.{MainHeaderMsg}
 use Rattle.snippet_grid.proofs.CopyLemmas.{shown_past}
-use Rattle.snippet_grid.proofs.GridChanged.{IsExchanged, IsGrid-put, put_elsewhere}
+use Rattle.snippet_grid.proofs.ReplacedRow.{IsExchanged, IsGrid-put, put_elsewhere}
 use Rattle.snippet_grid.proofs.GridShown.{count_shown, row_shown, same_row}
-use Rattle.snippet_grid.proofs.PutLemmas.{IsRow-added}
-use Rattle.snippet_grid.proofs.RowPut.{put_shows}
-use Rattle.snippet_grid.proofs.ShownLemmas.{AddsRun-pushed, All-IsRun-grown, cell_same, holds_before, holds_inside, painted-append}
-use Rattle.snippet_grid.proofs.ShownLemmas.{painted-grown, pick}
+use Rattle.snippet_grid.proofs.PutLemmas.{IsRow-added, put_shows}
+use Rattle.snippet_grid.proofs.ShownLemmas.{AddsRun-pushed, All-IsRun-grown, cell_same, holds_before, holds_inside, painted-append, painted-grown, pick}
 
 -- what the code reads past the last one, which it never does
 abbrev pub FIRST : StyledChar

@@ -5,8 +5,7 @@ use Rattle.snippet_grid.proofs.Common.{IsUtf8-take, IsUtf8-append, IsUtf8-from_i
 use Rattle.snippet_grid.proofs.Common.{take-take, length-append, length-take-le, length-drop, IsRun, IsPart, run_bytes, run_chars, Run, bytes_of}
 use Rattle.std.proofs.Common.{chars}
 use Rattle.std.proofs.Common.{IsUtf8}
-use Rattle.snippet_grid.proofs.StretchLemmas.{stretch, length-stretch_of}
-use Rattle.snippet_grid.proofs.RunLemmas.{IsUtf8-run_bytes}
+use Rattle.snippet_grid.proofs.RunLemmas.{stretch, length-stretch_of, IsUtf8-run_bytes}
 pub use Rattle.snippet_style.proofs.CutLemmas.{text_parts, cut_boundary, cut_front, cut_back, bytes-push, IsNext, take-next, drop-next, bytes_within}
 pub use Rattle.snippet_style.proofs.CutLemmas.{bytes_next}
 

@@ -1,15 +1,70 @@
 -- The rows of cells that runs show, and what a run over others writes there.
-use Rattle.snippet_grid.proofs.Common.{◌≡◌, ◌^◌, ℕ, ◌+◌, ◌-◌, ◌<◌, ◌≤◌, max, List, [], ◌∷◌, ◌++◌, length, map, take}
-use Rattle.snippet_grid.proofs.Common.{get_or, refl, sym, ap, ◌∙◌, arith, false, inl, inr, subst, All, None, Result, Ok, Err, OnErr, encode_utf8}
-use Rattle.snippet_grid.proofs.Common.{encode_utf8_all, append-nil, same_lists, get_or_default, get_or_past, nil_from_length, length-map-range_with_len}
-use Rattle.snippet_grid.proofs.Common.{get_or-map-range_with_len, cases_lt, cases_eq, encodes-chars, chars_from_encodes, range_with_len, option_copied, is_utf8}
-use Rattle.snippet_grid.proofs.Common.{IsUtf8, length-text_cells, slice_index_or-text_cells, row_at, cell_at, cells_written, WritesCells, Cell, SPACE}
-use Rattle.snippet_grid.proofs.Common.{text_cells, IsRun, BeginsWith, ShowsMore, FitIn, IsGrid, IsWord, IsWidened, run_bytes, run_chars, run_cell, holds}
-use Rattle.snippet_grid.proofs.Common.{painted_over, shown_cell, grid_shown, ElementStyle, Run}
+use Rattle.snippet_grid.proofs.Common.{◌≡◌, ◌≢◌, ℕ, ◌+◌, List, [], ◌∷◌, ◌++◌, length, refl, sym, ap, ◌∙◌, arith, inl, inr}
+use Rattle.snippet_grid.proofs.Common.{subst, get_or_past, get_or_push, cases_lt, length-written, slice_index_or-written_before, slice_index_or-written_inside}
+use Rattle.snippet_grid.proofs.Common.{slice_index_or-written_after, written_end, written_last, Cell, SPACE, written, row_at, cells_written, WritesCells}
+use Rattle.snippet_grid.proofs.Common.{◌^◌, ◌-◌, ◌<◌, ◌≤◌, max, map, take, get_or, false, All, None, Result, Ok, Err, OnErr, encode_utf8}
+use Rattle.snippet_grid.proofs.Common.{encode_utf8_all, append-nil, same_lists, get_or_default, nil_from_length, length-map-range_with_len}
+use Rattle.snippet_grid.proofs.Common.{get_or-map-range_with_len, cases_eq, encodes-chars, chars_from_encodes, range_with_len, option_copied, is_utf8, IsUtf8}
+use Rattle.snippet_grid.proofs.Common.{length-text_cells, slice_index_or-text_cells, cell_at, text_cells, IsRun, BeginsWith, ShowsMore, FitIn, IsGrid, IsWord}
+use Rattle.snippet_grid.proofs.Common.{IsWidened, run_bytes, run_chars, run_cell, holds, painted_over, shown_cell, grid_shown, ElementStyle, Run, Stored}
+use Rattle.snippet_grid.proofs.Common.{stored}
+use Rattle.std.specs.List.{slice_index_or}
 use Rattle.std.specs.Str.{chars}
-use Rattle.snippet_grid.proofs.GridLemmas.{WritesCells-cells_written}
-use Rattle.snippet_grid.proofs.StretchLemmas.{stretch, stretch_added, BeginsWith-append, BeginsWith-le, IsUtf8-stretch, front_grown, is_utf8-end}
+use Rattle.snippet_grid.proofs.RunLemmas.{stretch, stretch_added, BeginsWith-append, BeginsWith-le, IsUtf8-stretch, front_grown, is_utf8-end}
 use Rattle.snippet_grid.proofs.ShownLemmas.{All-tail, pick, cell_same, painted-grown, All-IsRun-grown, holds_inside, holds_elsewhere, holds_before, holds-after}
+
+-- Rows that are written.
+-- writing below all rows appends one
+pub cells_written_below : (rows : List (List Cell)) (at : ℕ) (cells : List Cell)
+    → cells_written rows (length rows) at cells ≡ rows ++ written SPACE [] at cells ∷ []
+cells_written_below rows at cells =
+    ap (λ row. written [] rows (length rows) (written SPACE row at cells ∷ [])) (get_or_past rows (length rows) [] (omega arith))
+    ∙ written_end [] rows (written SPACE [] at cells ∷ [])
+
+-- writing in the last row
+pub cells_written_last : (rows : List (List Cell)) (row : List Cell) (at : ℕ) (cells : List Cell)
+    → cells_written (rows ++ row ∷ []) (length rows) at cells ≡ rows ++ written SPACE row at cells ∷ []
+cells_written_last rows row at cells =
+    ap (λ r. written [] (rows ++ row ∷ []) (length rows) (written SPACE r at cells ∷ [])) (get_or_push rows row [] (length rows) refl)
+    ∙ written_last [] rows row (written SPACE row at cells)
+
+-- the row that was written
+pub row_at-cells_written_same : (rows : List (List Cell)) (row at : ℕ) (cells : List Cell)
+    → row_at (cells_written rows row at cells) row ≡ written SPACE (row_at rows row) at cells
+row_at-cells_written_same rows row at cells =
+    let new = written SPACE (row_at rows row) at cells in
+    let here : row + 0 ≡ row = omega arith in
+    ap (λ r. row_at (cells_written rows row at cells) r) (sym here) ∙ slice_index_or-written_inside [] rows row (new ∷ []) 0 [] (omega arith)
+
+-- the other rows
+pub row_at-cells_written_other : (rows : List (List Cell)) (row at : ℕ) (cells : List Cell) (r : ℕ) → r ≢ row
+    → row_at (cells_written rows row at cells) r ≡ row_at rows r
+row_at-cells_written_other rows row at cells r other =
+    let new : List (List Cell) = written SPACE (row_at rows row) at cells ∷ [] in
+    elim (cases_lt r row) [
+      | inl above ↦ slice_index_or-written_before [] rows row new r above
+      | inr below ↦ slice_index_or-written_after [] rows row new r [] (omega arith)
+    ]
+
+-- a write, read cell by cell
+pub WritesCells-cells_written : (rows : List (List Cell)) (row at : ℕ) (cells : List Cell) → WritesCells rows (cells_written rows row at cells) row at cells
+WritesCells-cells_written rows row at cells =
+    let old = row_at rows row in
+    let same = row_at-cells_written_same rows row at cells in
+    record {
+      inside = λ k h. ap (λ r. slice_index_or r (at + k) SPACE) same ∙ slice_index_or-written_inside SPACE old at cells k SPACE h;
+      before = λ c h. ap (λ r. slice_index_or r c SPACE) same ∙ slice_index_or-written_before SPACE old at cells c h;
+      after = λ c h. ap (λ r. slice_index_or r c SPACE) same ∙ slice_index_or-written_after SPACE old at cells c SPACE h;
+      others = row_at-cells_written_other rows row at cells;
+      width = ap length same ∙ length-written SPACE old at cells;
+      count = length-written [] rows row (written SPACE old at cells ∷ []);
+    }
+
+-- the same of a grid that is known to be the one after the write
+pub WritesCells-from_equal : (old new : List (List Cell)) (row at : ℕ) (cells : List Cell) → new ≡ cells_written old row at cells
+    → WritesCells old new row at cells
+WritesCells-from_equal old new row at cells is =
+    subst (λ rows. WritesCells old rows row at cells) (sym is) (WritesCells-cells_written old row at cells)
 
 -- a shown grid has a row for each width
 pub count_shown : (text : List ℕ) (runs : List Run) (widths : List ℕ) → length (grid_shown text runs widths) ≡ length widths
@@ -259,3 +314,19 @@ chars_added old new cs utf8_old utf8_new added grows =
 pub one_char : (ch : ℕ) (text : List ℕ) → IsUtf8 text → text ≡ encode_utf8 ch → chars text ≡ ch ∷ []
 one_char ch text utf8 is =
     sym (chars_from_encodes (ch ∷ []) text utf8 (append-nil (encode_utf8 ch) ∙ sym is))
+
+-- What is stored after a call that was refused, or that wrote.
+-- rows, and a number of runs
+abbrev kept : List (List Cell) → ℕ → Stored
+kept rows n = record { rows = rows; num_runs = n }
+
+-- the same rows shown by as many runs are the same
+pub stored_same : (old new : List ℕ) (runs now : List Run) (w v : List ℕ) → grid_shown new now v ≡ grid_shown old runs w → length now ≡ length runs
+    → stored new now v ≡ stored old runs w
+stored_same old new runs now w v rows count = ap (λ (r : List (List Cell)). kept r (length now)) rows ∙ ap (λ n. kept (grid_shown old runs w) n) count
+
+-- a text that has grown stores the same by the same runs
+pub stored_grown : (old new : List ℕ) (runs now : List Run) (w v : List ℕ) → BeginsWith old new → now ≡ runs → v ≡ w → IsGrid old runs w
+    → stored new now v ≡ stored old runs w
+stored_grown old new runs now w v grows same widths grid =
+    stored_same old new runs now w v (grid_grown old new runs now w v grows same widths grid) (ap (λ (l : List Run). length l) same)

@@ -2,7 +2,7 @@
 use Rattle.snippet_grid.proofs.Common.{◌≡◌, ℕ, zero, suc, ◌<◌, List, [], ◌∷◌, ◌++◌, length, replicate, Option, None, Some, refl, sym, ap}
 use Rattle.snippet_grid.proofs.Common.{◌∙◌, subst, string_bytes, encode_utf8_all, append_assoc, append-nil, AddsCells, Goes, IsPrinted, PrintsStretch}
 use Rattle.snippet_grid.proofs.Common.{WeavesRow, PrintedRow, Cell, SPACE, reset, style_of, NoStyle, Style, Stylesheet}
-use Rattle.snippet_grid.proofs.StretchPrinted.{alike, stretch_printed}
+use Rattle.snippet_grid.proofs.ReplaceLemmas.{alike, stretch_printed}
 use Rattle.snippet_grid.proofs.WeaveLemmas.{row_closed}
 
 -- a word in a role was added: its style is open

@@ -6,12 +6,11 @@ use Rattle.snippet_grid.proofs.Common.{All-cons, All-nil, cases_lt, cases_eq, tr
 use Rattle.snippet_grid.proofs.Common.{EndsBy, Precedes, Differ, Continues, Touches, IsClear, IsJoined, AreTouchedRuns, IsFront, IsBack, ArePieces, IsPut}
 use Rattle.snippet_grid.proofs.Common.{run_chars, run_cell, holds, painted_over, shown_cell, Run}
 use Rattle.snippet_grid.proofs.ShownLemmas.{painted-append, run_cell-grown, ShowsMore-joined, AddsRun-joined, pick, cell_same, holds_inside, holds_elsewhere}
-use Rattle.snippet_grid.proofs.ShownLemmas.{AddsRun-pushed, ShowsMore-pushed}
-use Rattle.snippet_grid.proofs.ShownLemmas.{holds_before, holds-after}
+use Rattle.snippet_grid.proofs.ShownLemmas.{AddsRun-pushed, ShowsMore-pushed, holds_before, holds-after}
 use Rattle.snippet_grid.proofs.CopyLemmas.{shown_past}
 use Rattle.snippet_grid.proofs.PutLemmas.{AreOrdered, AreApart, IsRow-added, painted_elsewhere}
 use Rattle.snippet_grid.proofs.RowWoven.{painted_unheld}
-use Rattle.snippet_grid.proofs.StretchLemmas.{stretch, below_take}
+use Rattle.snippet_grid.proofs.RunLemmas.{stretch, below_take}
 use Rattle.snippet_grid.proofs.TouchLemmas.{cases_held, touched_stretch, IsPut-touched}
 
 -- a part of a run shows what the run shows where it holds the same

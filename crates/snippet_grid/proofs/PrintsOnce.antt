@@ -2,7 +2,7 @@
 use Rattle.snippet_grid.proofs.Common.{◌≡◌, ℕ, List, [], ◌∷◌, ◌++◌, Option, None, Some, refl, sym, ap, ◌∙◌, inl, inr, subst, flat_map}
 use Rattle.snippet_grid.proofs.Common.{Cell, Piece, Char, Opening, Reset, LinkTo, LinkEnd, piece_text, next_style, next_link, PrintsCells, PrintsRow, Prints}
 use Rattle.snippet_grid.proofs.Common.{PrintsFurther, PrintsRows, LevelInner, Style, Stylesheet}
-use Rattle.snippet_grid.proofs.PrintsPieces.{PrintsPieces-from_prints}
+use Rattle.snippet_grid.proofs.HtmlLaws.{PrintsPieces-from_prints}
 use Rattle.snippet_grid.proofs.WeaveLemmas.{Url, none≢some, some_same}
 use Rattle.snippet_grid.proofs.WovenLemmas.{nil≢cons}
 

@@ -1,10 +1,118 @@
 -- Lemmas on grids in which a stretch of a row gave its place to other cells.
-use Rattle.snippet_grid.proofs.Common.{◌≡◌, ◌≢◌, ℕ, ◌+◌, ◌-◌, ◌<◌, ◌≤◌, List, [], ◌++◌, length, take, drop, set, sym, ap}
-use Rattle.snippet_grid.proofs.Common.{◌∙◌, arith, inl, inr, subst, places, get_or_past, set-get_or, cases_lt, row_at, replaced_within, cells_replaced}
-use Rattle.snippet_grid.proofs.Common.{ReplacesCells, Cell, SPACE}
+use Rattle.snippet_grid.proofs.Common.{◌≡◌, ◌≢◌, ℕ, ◌+◌, ◌-◌, ◌<◌, ◌≤◌, max, min, List, [], ◌++◌, length, map, take, drop}
+use Rattle.snippet_grid.proofs.Common.{set, get_or, sym, ap, ◌∙◌, arith, inl, inr, subst, places, same_lists, get_or-map, get_or_past, get_or-set_same}
+use Rattle.snippet_grid.proofs.Common.{get_or-set_other, set-get_or, length-map, length-set, cases_lt, cases_eq, row_at, changed_within, cells_changed}
+use Rattle.snippet_grid.proofs.Common.{ChangesCells, Cell, SPACE, replaced_within, cells_replaced, ReplacesCells, ◌∷◌, replicate, refl, DecorStyle}
+use Rattle.snippet_grid.proofs.Common.{ElementStyle, LineNumber, text_cells, written, separator_of, separator_row, length-chars_le, written-nil, cells_written}
+use Rattle.snippet_grid.proofs.Common.{row_text, zero, suc, Option, Some, encode_utf8, encode_utf8_all, append_assoc, append-nil, replicate-append-replicate}
+use Rattle.snippet_grid.proofs.Common.{flat_map, opening, reset, PrintsStretch, Opening, Reset, piece_text, style_of, LevelInner, Style, Stylesheet}
 use Rattle.std.specs.List.{slice_index_or}
-use Rattle.snippet_grid.proofs.ChangeLemmas.{changed_within_one, changed_within_none, slice_index_or-changed_within_inside}
-use Rattle.snippet_grid.proofs.ChangeLemmas.{slice_index_or-changed_within_before, slice_index_or-changed_within_after, length-changed_within}
+use Rattle.std.proofs.Common.{chars}
+use Rattle.snippet_grid.proofs.GridShown.{cells_written_below, cells_written_last}
+use Rattle.snippet_grid.proofs.WeaveLemmas.{Url, Goes, cell_printed}
+
+-- Lemmas on lists and grids in which some elements were changed.
+-- a list keeps its length
+pub length-changed_within : {X : Type 0} (f : X → X) (start end : ℕ) (xs : List X) → length (changed_within f start end xs) ≡ length xs
+unfolding changed_within
+length-changed_within f start end xs = grind (arith, places, length-map)
+
+-- what stands in, before and after the change
+pub slice_index_or-changed_within_inside : {X : Type 0} (f : X → X) (start end : ℕ) (xs : List X) (k : ℕ) (d : X) → start ≤ k → k < end → k < length xs
+    → slice_index_or (changed_within f start end xs) k d ≡ f (slice_index_or xs k d)
+unfolding changed_within
+slice_index_or-changed_within_inside f start end xs k d from before within =
+    let mid = take (end - start) (drop start xs) in
+    let inside : k - start < length mid = grind (arith, places) in
+    let read : slice_index_or (take start xs ++ map f mid ++ drop (max start end) xs) k d
+    ≡ get_or (map f mid) (k - start) d = grind (arith, places, length-map) in
+    let same : get_or mid (k - start) d ≡ get_or xs k d = grind (arith, places) in
+    read ∙ get_or-map f mid (k - start) d d inside ∙ ap f same
+
+-- an element left of the stretch that is changed stays
+pub slice_index_or-changed_within_before : {X : Type 0} (f : X → X) (start end : ℕ) (xs : List X) (k : ℕ) (d : X) → k < start
+    → slice_index_or (changed_within f start end xs) k d ≡ slice_index_or xs k d
+unfolding changed_within
+slice_index_or-changed_within_before f start end xs k d before = grind (arith, places, length-map, get_or_past)
+
+-- an element right of the stretch that is changed stays
+pub slice_index_or-changed_within_after : {X : Type 0} (f : X → X) (start end : ℕ) (xs : List X) (k : ℕ) (d : X) → end ≤ k
+    → slice_index_or (changed_within f start end xs) k d ≡ slice_index_or xs k d
+unfolding changed_within
+slice_index_or-changed_within_after f start end xs k d after = grind (arith, places, length-map, get_or_past, cases_lt k start)
+
+-- nothing is changed where the list has no element
+pub changed_within_none : {X : Type 0} (f : X → X) (start end : ℕ) (xs : List X) → min end (length xs) ≤ start → changed_within f start end xs ≡ xs
+changed_within_none f start end xs none =
+    same_lists _ _ (length-changed_within f start end xs) (λ k d h. elim (cases_lt k start) [
+      | inl before ↦ slice_index_or-changed_within_before f start end xs k d before
+      | inr not_before ↦ slice_index_or-changed_within_after f start end xs k d (omega (arith, h, length-changed_within f start end xs))
+    ])
+
+-- one element is changed
+pub changed_within_one : {X : Type 0} (f : X → X) (i : ℕ) (xs : List X) (d : X) → i < length xs
+    → changed_within f i (i + 1) xs ≡ set xs i (f (slice_index_or xs i d))
+changed_within_one f i xs d within =
+    same_lists _ _ (length-changed_within f i (i + 1) xs ∙ sym (length-set xs i _)) (λ k e h. elim (cases_eq k i) [
+      | inl here ↦ grind (arith, places, slice_index_or-changed_within_inside, get_or-set_same)
+      | inr other ↦ grind (arith, places, slice_index_or-changed_within_before, slice_index_or-changed_within_after, get_or-set_other, cases_lt k i)
+    ])
+
+-- the row that was changed
+pub row_at-cells_changed_same : (f : Cell → Cell) (rows : List (List Cell)) (row start end : ℕ)
+    → row_at (cells_changed f rows row start end) row ≡ changed_within f start end (row_at rows row)
+row_at-cells_changed_same f rows row start end =
+    let change = changed_within f start end in
+    elim (cases_lt row (length rows)) [
+      | inl there ↦ slice_index_or-changed_within_inside change row (row + 1) rows row [] (omega arith) (omega arith) there
+      | inr past ↦
+          let no_cells : length (row_at rows row) ≡ 0 = ap length (get_or_past rows row [] past) in
+          ap (λ rs. row_at rs row) (changed_within_none change row (row + 1) rows (omega arith))
+          ∙ sym (changed_within_none f start end (row_at rows row) (omega arith))
+    ]
+
+-- the other rows
+pub row_at-cells_changed_other : (f : Cell → Cell) (rows : List (List Cell)) (row start end : ℕ) (r : ℕ) → r ≢ row
+    → row_at (cells_changed f rows row start end) r ≡ row_at rows r
+row_at-cells_changed_other f rows row start end r other =
+    let change = changed_within f start end in
+    elim (cases_lt r row) [
+      | inl above ↦ slice_index_or-changed_within_before change row (row + 1) rows r [] above
+      | inr below ↦ slice_index_or-changed_within_after change row (row + 1) rows r [] (omega arith)
+    ]
+
+-- a grid with no cell there stays as it was
+pub cells_changed_none : (f : Cell → Cell) (rows : List (List Cell)) (row start end : ℕ) → min end (length (row_at rows row)) ≤ start
+    → cells_changed f rows row start end ≡ rows
+cells_changed_none f rows row start end none =
+    let change = changed_within f start end in
+    let kept : change (row_at rows row) ≡ row_at rows row = changed_within_none f start end (row_at rows row) none in
+    elim (cases_lt row (length rows)) [
+      | inl there ↦ changed_within_one change row rows [] there ∙ ap (set rows row) kept ∙ set-get_or rows row []
+      | inr past ↦ changed_within_none change row (row + 1) rows (omega arith)
+    ]
+
+-- the change, read cell by cell
+pub ChangesCells-cells_changed : (f : Cell → Cell) (rows : List (List Cell)) (row start end : ℕ)
+    → ChangesCells f rows (cells_changed f rows row start end) row start end
+ChangesCells-cells_changed f rows row start end =
+    let old = row_at rows row in
+    let same = row_at-cells_changed_same f rows row start end in
+    record {
+      inside = λ c from before within. ap (λ r. slice_index_or r c SPACE) same
+          ∙ slice_index_or-changed_within_inside f start end old c SPACE from before within;
+      before = λ c h. ap (λ r. slice_index_or r c SPACE) same ∙ slice_index_or-changed_within_before f start end old c SPACE h;
+      after = λ c h. ap (λ r. slice_index_or r c SPACE) same ∙ slice_index_or-changed_within_after f start end old c SPACE h;
+      others = row_at-cells_changed_other f rows row start end;
+      width = ap length same ∙ length-changed_within f start end old;
+      count = length-changed_within (changed_within f start end) row (row + 1) rows;
+    }
+
+-- the same of a grid that is known to be the one after the change
+pub ChangesCells-from_equal : (f : Cell → Cell) (old new : List (List Cell)) (row start end : ℕ) → new ≡ cells_changed f old row start end
+    → ChangesCells f old new row start end
+ChangesCells-from_equal f old new row start end is =
+    subst (λ rows. ChangesCells f old rows row start end) (sym is) (ChangesCells-cells_changed f old row start end)
 
 -- a stretch that is there is replaced
 pub replaced_there : {X : Type 0} (start end : ℕ) (new xs : List X) → start < end → end ≤ length xs
@@ -119,3 +227,106 @@ pub ReplacesCells-from_equal : (old new : List (List Cell)) (row start end : ℕ
     → ReplacesCells old new row start end cells
 ReplacesCells-from_equal old new row start end cells is =
     subst (λ rows. ReplacesCells old rows row start end cells) (sym is) (ReplacesCells-cells_replaced old row start end cells)
+
+-- What writes make of the rows of a grid: a row that is begun, and the last row written into.
+-- a row that is begun by some cells alone
+pub begun_by : (old new : List (List Cell)) (row at : ℕ) (cells : List Cell) → row ≡ length old → new ≡ cells_written old row at cells
+    → new ≡ old ++ (replicate at SPACE ++ cells) ∷ []
+begun_by old new row at cells below writes =
+    writes ∙ ap (λ r. cells_written old r at cells) below ∙ cells_written_below old at cells ∙ ap (λ r. old ++ r ∷ []) (written-nil at cells)
+
+-- a row that is begun by a text
+pub begun_by_text : (old new : List (List Cell)) (row at : ℕ) (text chs : List ℕ) → row ≡ length old → chars text ≡ chs → 0 < length chs
+    → (0 < length text → new ≡ cells_written old row at (text_cells LineNumber (chars text)))
+    → new ≡ old ++ (replicate at SPACE ++ text_cells LineNumber chs) ∷ []
+begun_by_text old new row at text chs below is some writes =
+    begun_by old new row at (text_cells LineNumber chs) below (writes (omega (arith, length-chars_le text, ap length is, some))
+    ∙ ap (λ cs. cells_written old row at (text_cells LineNumber cs)) is)
+
+-- a row that is begun by the separator alone
+pub separator_row-begun : (old new : List (List Cell)) (row gutter stroke : ℕ) (decor : DecorStyle) → row ≡ length old → stroke ≡ separator_of decor
+    → new ≡ cells_written old row (gutter + 1) (text_cells LineNumber (stroke ∷ [])) → new ≡ old ++ separator_row decor gutter ∷ []
+separator_row-begun old new row gutter stroke decor below is writes =
+    begun_by old new row (gutter + 1) (text_cells LineNumber (separator_of decor ∷ [])) below
+    (writes ∙ ap (λ s. cells_written old row (gutter + 1) (text_cells LineNumber (s ∷ []))) is)
+
+-- a row after a text was put into it: one with no bytes leaves it as it was
+abbrev pub texted : List ℕ → List Cell → ℕ → List Cell → List Cell
+texted [] row at cells = row
+texted (b ∷ bs) row at cells = written SPACE row at cells
+
+-- a text that was put into the last row
+pub text_put : (above mid new : List (List Cell)) (row : List Cell) (r at : ℕ) (bytes : List ℕ) (cells : List Cell) → mid ≡ above ++ row ∷ [] → r ≡ length above
+    → (0 < length bytes → new ≡ cells_written mid r at cells) → (bytes ≡ [] → new ≡ mid) → new ≡ above ++ texted bytes row at cells ∷ []
+text_put above mid new row r at [] cells before last writes stays = stays refl ∙ before
+text_put above mid new row r at (b ∷ bs) cells before last writes stays =
+    writes (omega arith) ∙ ap (λ rows. cells_written rows r at cells) before ∙ ap (λ i. cells_written (above ++ row ∷ []) i at cells) last
+    ∙ cells_written_last above row at cells
+
+-- the characters of cells that are drawn
+pub row_text-text_cells : (role : ElementStyle) (cs : List ℕ) → row_text (text_cells role cs) ≡ cs
+row_text-text_cells role [] = refl
+row_text-text_cells role (c ∷ cs) = ap (λ t. c ∷ t) (row_text-text_cells role cs)
+
+-- Cells of one role and one link are printed by their text alone.
+-- the cells of these characters, in one role, with one link
+abbrev pub alike : ElementStyle → Option Url → List ℕ → List Cell
+alike role link word = map (λ ch. (let cell : Cell = record { ch = ch; role = role; link = link } in cell)) word
+
+-- the codes between two styles
+pub codes_added : (last next : Style) (old mid new code : List ℕ) → code ≡ encode_utf8_all (reset last) → mid ≡ old ++ code
+    → new ≡ mid ++ encode_utf8_all (opening next) → new ≡ old ++ flat_map piece_text (Reset last ∷ Opening next ∷ [])
+codes_added last next old mid new code is reset_added opened =
+    let before = encode_utf8_all (reset last) in
+    let after = encode_utf8_all (opening next) in
+    opened ∙ ap (λ (t : List ℕ). t ++ after) (reset_added ∙ ap (λ (t : List ℕ). old ++ t) is) ∙ append_assoc old before after
+    ∙ ap (λ (t : List ℕ). old ++ (before ++ t)) (sym (append-nil after))
+
+-- spaces after spaces
+pub more_spaces : (old mid new : List ℕ) (a b n : ℕ) → a + b ≡ n → mid ≡ old ++ replicate a 32 → new ≡ mid ++ replicate b 32 → new ≡ old ++ replicate n 32
+more_spaces old mid new a b n sum first second =
+    second ∙ ap (λ (t : List ℕ). t ++ replicate b 32) first ∙ append_assoc old (replicate a 32) (replicate b 32)
+    ∙ ap (λ (t : List ℕ). old ++ t) (replicate-append-replicate a b 32 ∙ ap (λ k. replicate k 32) sum)
+
+-- after a cell of the same style and link the text is enough
+pub more_printed : (sheet : Stylesheet) (level : LevelInner) (style : Style) (role : ElementStyle) (link : Option Url) (word : List ℕ)
+    (done : List Cell) (old now : List ℕ) → style ≡ style_of sheet level role → Goes sheet level (Some style) link done old now
+    → Goes sheet level (Some style) link (done ++ alike role link word) old (now ++ encode_utf8_all word)
+more_printed sheet level style role link [] done old now is goes =
+    subst (λ (cells : List Cell). Goes sheet level (Some style) link cells old (now ++ [])) (sym (append-nil done))
+    (subst (λ (t : List ℕ). Goes sheet level (Some style) link done old t) (sym (append-nil now)) goes)
+more_printed sheet level style role link (ch ∷ word) done old now is goes =
+    let cell : Cell = record { ch = ch; role = role; link = link } in
+    let one : Goes sheet level (Some style) link (done ++ cell ∷ []) old (now ++ encode_utf8 ch) =
+    cell_printed sheet level style style link done old now now now now (now ++ encode_utf8 ch) cell is (λ h. refl) (λ h. refl)
+    (λ there differs. absurd (differs refl)) (λ h. refl) (λ differs. absurd (differs refl)) (λ h. refl) (λ h. refl)
+    (λ url is_url differs. absurd (differs is_url)) refl goes in
+    let rest = more_printed sheet level style role link word (done ++ cell ∷ []) old (now ++ encode_utf8 ch) is one in
+    subst (λ (cells : List Cell). Goes sheet level (Some style) link cells old (now ++ encode_utf8_all (ch ∷ word)))
+    (append_assoc done (cell ∷ []) (alike role link word))
+    (subst (λ (t : List ℕ). Goes sheet level (Some style) link ((done ++ cell ∷ []) ++ alike role link word)
+    old t) (append_assoc now (encode_utf8 ch) (encode_utf8_all word)) rest)
+
+-- a stretch after cells of another style or link
+pub stretch_printed : (sheet : Stylesheet) (level : LevelInner) (last next : Style) (role : ElementStyle) (last_link next_link : Option Url)
+    (word : List ℕ) (done : List Cell) (old now new : List ℕ) → 0 < length word → next ≡ style_of sheet level role
+    → PrintsStretch word last next last_link next_link now new → Goes sheet level (Some last) last_link done old now
+    → Goes sheet level (Some next) next_link (done ++ alike role next_link word) old new
+stretch_printed sheet level last next role last_link next_link [] done old now new some is prints goes = absurd (omega arith)
+stretch_printed sheet level last next role last_link next_link (ch ∷ word) done old now new some is prints goes =
+    let cell : Cell = record { ch = ch; role = role; link = next_link } in
+    let first : List ℕ = prints.begun ++ encode_utf8 ch in
+    let one : Goes sheet level (Some next) next_link (done ++ cell ∷ []) old first =
+    cell_printed sheet level last next last_link done old now prints.ended prints.changed prints.begun first cell is prints.link_continues
+    prints.link_absent prints.link_ends prints.style_continues prints.style_changes prints.same_link prints.no_link prints.link_begins refl
+    goes in
+    let rest = more_printed sheet level next role next_link word (done ++ cell ∷ []) old first is one in
+    let bytes : first ++ encode_utf8_all word ≡ new = append_assoc prints.begun (encode_utf8 ch) (encode_utf8_all word) ∙ sym prints.text_is in
+    subst (λ (cells : List Cell). Goes sheet level (Some next) next_link cells old new) (append_assoc done (cell ∷ []) (alike role next_link word))
+    (subst (λ (t : List ℕ). Goes sheet level (Some next) next_link ((done ++ cell ∷ []) ++ alike role next_link word) old t) bytes rest)
+
+-- the bytes of spaces
+pub space_bytes : (n : ℕ) → encode_utf8_all (replicate n 32) ≡ replicate n 32
+unfolding lib.Utf8.encode
+space_bytes zero = refl
+space_bytes (suc n) = ap (λ (t : List ℕ). 32 ∷ t) (space_bytes n)

@@ -4,7 +4,7 @@ use Rattle.snippet_grid.proofs.Common.{get_or, sym, ap, ◌∙◌, arith, true, 
 use Rattle.snippet_grid.proofs.Common.{get_or-drop, length-append, length-drop, All-take, All-drop, All-append, All-cons, cases_lt, cases_eq, AllPairs, Cell}
 use Rattle.snippet_grid.proofs.Common.{SPACE, IsRun, BeginsWith, ShowsMore, AddsRun, Precedes, Differ, BeginsAfter, BeginsBy, IsClear, Touches, AreTouchedRuns}
 use Rattle.snippet_grid.proofs.Common.{ArePieces, IsPut, EndsBy, run_cell, holds, painted_over, shown_cell, Run}
-use Rattle.snippet_grid.proofs.StretchLemmas.{stretch, below_take, get_or-stretch}
+use Rattle.snippet_grid.proofs.RunLemmas.{stretch, below_take, get_or-stretch}
 use Rattle.snippet_grid.proofs.ShownLemmas.{All-IsRun-grown, painted-append, painted-grown, pick, holds_inside, holds_elsewhere, holds_before, holds-after}
 use Rattle.snippet_grid.proofs.PutLemmas.{AreOrdered, AreApart, AllPairs-append, AllPairs-take, AllPairs-drop, split_three, IsRow-stretch, fit-put}
 use Rattle.snippet_grid.proofs.RowWoven.{painted_unheld}

@@ -11,7 +11,7 @@ use Rattle.snippet_grid.proofs.Common.{LineNumber, UnderlinePrimary, LabelPrimar
 use Rattle.snippet_grid.proofs.Common.{Error, Warning, Info, Note, Help, Style, Stylesheet}
 use Rattle.std.specs.List.{slice_index_or}
 use lib.Pointwise.{pointwise}
-use Rattle.snippet_grid.proofs.PrintsPieces.{Prints-from_pieces, PrintsPieces-from_prints}
+use Rattle.snippet_grid.proofs.HtmlLaws.{Prints-from_pieces, PrintsPieces-from_prints}
 use Rattle.snippet_grid.proofs.WeaveLemmas.{Url, none≢some, some_same, is_there}
 
 -- the plain pieces are the cells' characters

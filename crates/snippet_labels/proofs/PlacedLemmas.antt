@@ -1,13 +1,48 @@
 -- How the entries of a line are placed, one position after another.
-use Rattle.snippet_labels.proofs.Common.{◌≡◌, ℕ, suc, ◌+◌, ◌<◌, ◌≤◌, ◌^◌, ◌==◌, ◌&&◌, ◌||◌, cond, nat_lt, not, None, Some}
-use Rattle.snippet_labels.proofs.Common.{Bool, true, false, List, [], ◌∷◌, ◌++◌, length, map, drop, take, set, get_or, refl, sym, ap, ◌∙◌}
-use Rattle.snippet_labels.proofs.Common.{subst, arith, All, zero, list_all, list_any, position, position_or_len, zip, lt-ltb, nat_tests, map-map, append_assoc}
-use Rattle.snippet_labels.proofs.Common.{append-nil, drop_more, drop_all, take_more, take_more_set, take_all, length-map, map_push, get_or-map, list_all-map}
-use Rattle.snippet_labels.proofs.Common.{IsPermutation, All-permutation, IsPermutation-map, ordered_by, LineAnnotation, PlacedEntry, do_overlap, ends_no_later}
-use Rattle.snippet_labels.proofs.Common.{has_label, takes_space, are_starts, crosses, position_at, position_after, positions, line_positions, ArePlaced}
+use Rattle.snippet_labels.proofs.Common.{◌+◌, ◌-◌, ◌&&◌, ◌||◌, Bool, List, Option, map, not, ℕ, option_map_or, normalized_chars}
+use Rattle.snippet_labels.proofs.Common.{LineAnnotation, greatest, PlacedEntry, blocks, has_label, is_start_part, reaches, ◌≡◌, suc, ◌<◌, ◌≤◌}
+use Rattle.snippet_labels.proofs.Common.{◌^◌, ◌==◌, cond, nat_lt, None, Some, true, false, [], ◌∷◌, ◌++◌, length, drop, take, set, get_or}
+use Rattle.snippet_labels.proofs.Common.{refl, sym, ap, ◌∙◌, subst, arith, All, zero, list_all, list_any, position, position_or_len, zip, lt-ltb}
+use Rattle.snippet_labels.proofs.Common.{nat_tests, map-map, append_assoc, append-nil, drop_more, drop_all, take_more, take_more_set, take_all, length-map}
+use Rattle.snippet_labels.proofs.Common.{map_push, get_or-map, list_all-map, IsPermutation, All-permutation, IsPermutation-map, ordered_by, do_overlap}
+use Rattle.snippet_labels.proofs.Common.{ends_no_later, takes_space, are_starts, crosses, position_at, position_after, positions, line_positions, ArePlaced}
 use Rattle.snippet_labels.proofs.Common.{IsFromRight, HasItsBytes, HasItsLabel, asks, unplaced, is_placed_before, look_counts, looked_after, placed_of}
 use Rattle.snippet_labels.proofs.Common.{list_any-map, All-map, shifted}
-use Rattle.snippet_labels.proofs.LabelWords.{crowds, flipped, is_start, labelled, placed_at, up_to}
+use Rattle.std.proofs.Common.{encode_utf8_all}
+
+-- Words for parts of where labels stand, which proofs cite.
+-- the characters that a label shows: normalised, and none where there is no label
+abbrev pub label_chars : Option (List ℕ) → List ℕ
+label_chars label = normalized_chars label
+
+-- those that the label of an entry shows
+abbrev pub label_text : LineAnnotation → List ℕ
+label_text e = normalized_chars e.label
+
+-- whether another entry needs a row below that of this entry, which has position p
+abbrev pub crowds : ℕ → PlacedEntry → PlacedEntry → Bool
+crowds p e other = blocks e other || reaches p e other
+
+-- up to this place, it counted, of so many; all where there is none
+abbrev pub up_to : Option ℕ → ℕ → ℕ
+up_to place all = option_map_or (λ k. k + 1) place all
+
+-- whether an entry is the start of a span of several lines, and has no label that shows anything
+abbrev pub is_start : PlacedEntry → Bool
+is_start e = is_start_part e.entry.annotation_type && not (has_label e)
+
+-- positions flipped: the greatest becomes 0, and 0 the greatest
+abbrev pub flipped : List ℕ → List ℕ
+flipped ps = map (λ p. greatest ps - p) ps
+
+-- an entry with its label, at this position, for which so many were looked at
+abbrev pub placed_at : LineAnnotation × (ℕ × ℕ) → PlacedEntry
+placed_at found =
+    record { entry = found.0; label = encode_utf8_all (label_text found.0); position = found.1.0; looked = found.1.1 }
+
+-- entries with their labels, none of which is placed yet
+abbrev pub labelled : List LineAnnotation → List PlacedEntry
+labelled es = map (λ e. placed_at (e, (0, 0))) es
 
 -- the position of an entry whose label could stand after its mark: where a mark is in the way, and where none is
 pub position_at-crossed : (p : ℕ) (e : PlacedEntry) (others : List PlacedEntry) → p ≤ 0 → has_label e ≡ true → list_any (crosses e) others ≡ true

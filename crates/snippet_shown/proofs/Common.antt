@@ -1,5 +1,5 @@
 -- What most proofs of this crate cite, given on from one place.
-pub use Rattle.snippet_grid.proofs.RowLemmas.{row_text-text_cells}
+pub use Rattle.snippet_grid.proofs.ReplaceLemmas.{row_text-text_cells}
 pub use Rattle.snippet_grid.specs.Layout.{separator_cell}
 pub use Rattle.snippet_grid.specs.Print.{row_text}
 pub use Rattle.snippet_lines.proofs.BoundsLemmas.{IsCharBoundary-start_of, line_bytes-slice}

@@ -1,14 +1,14 @@
 -- Rows with bars: what drawing them one side after another makes.
-use Rattle.snippet_strokes.proofs.Common.{◌≡◌, ℕ, zero, suc, ◌+◌, ◌-◌, ◌<◌, ◌≤◌, List, [], ◌∷◌, ◌++◌, length, map, take}
-use Rattle.snippet_strokes.proofs.Common.{drop, replicate, get_or, refl, sym, ap, ◌∙◌, subst, arith, inl, inr, cases_lt, cases_eq, drop_all, ext_get_or}
-use Rattle.snippet_strokes.proofs.Common.{get_or_append_left, get_or-append_right, get_or-drop, get_or-map, get_or-replicate, get_or-take, length-append}
-use Rattle.snippet_strokes.proofs.Common.{length-drop, length-map, length-replicate, length-take-le, take_all, take_more, fold-append, cells_written, row_at}
-use Rattle.snippet_strokes.proofs.Common.{row_at-cells_written_other, row_at-cells_written_same, WritesCells-cells_written, Cell, SPACE, unlinked_cell, written}
-use Rattle.snippet_strokes.proofs.Common.{underline_role, length-written, slice_index_or-written_after, slice_index_or-written_before}
-use Rattle.snippet_strokes.proofs.Common.{slice_index_or-written_inside, Layout, BarStroke, OpenBar, StandsBeside, bar_glyph, bar_cell_part, barred}
-use Rattle.snippet_strokes.proofs.Common.{changed_from}
-use Rattle.snippet_strokes.proofs.BarParts.{with_parts}
-use Rattle.snippet_strokes.proofs.OneStep.{with_bar}
+use Rattle.snippet_strokes.proofs.Common.{◌≡◌, ◌≢◌, ℕ, zero, suc, ◌+◌, ◌<◌, Bool, List, [], ◌∷◌, length, get_or, sym, ap, ◌∙◌}
+use Rattle.snippet_strokes.proofs.Common.{arith, inl, inr, Contains, cases_eq, cases_lt, get_or-map, length-map, All-head, All-tail, cell_at, row_at, Cell}
+use Rattle.snippet_strokes.proofs.Common.{SPACE, slice_index_or-written_after, slice_index_or-written_before, slice_index_or-written_inside, LineAnnotation}
+use Rattle.snippet_strokes.proofs.Common.{BarStroke, Solid, OpenBar, Layout, bars_apart, ends_of_bars, HasOwnDepth, bar_cell_part, ◌-◌, ◌≤◌, ◌++◌}
+use Rattle.snippet_strokes.proofs.Common.{map, take, drop, replicate, refl, subst, drop_all, ext_get_or, get_or_append_left, get_or-append_right, get_or-drop}
+use Rattle.snippet_strokes.proofs.Common.{get_or-replicate, get_or-take, length-append, length-drop, length-replicate, length-take-le, take_all, take_more}
+use Rattle.snippet_strokes.proofs.Common.{fold-append, cells_written, row_at-cells_written_other, row_at-cells_written_same, WritesCells-cells_written}
+use Rattle.snippet_strokes.proofs.Common.{unlinked_cell, written, underline_role, length-written, StandsBeside, bar_glyph, barred, changed_from}
+use Rattle.snippet_strokes.proofs.CellLemmas.{with_parts, with_bar}
+use Rattle.snippet_strokes.proofs.WriteLaws.{AreLineRows}
 
 -- ---- rows that were changed by a rule
 
@@ -215,3 +215,65 @@ module _ (layout : Layout) (stroke : BarStroke) where
       (replicate k (bar_cell_part layout stroke first))) (sym many)
       ∙ side_more bars from n first row (omega (arith, within, end)) (λ k d low. beside k d (omega (arith, low, many)))
       ∙ ap (λ k. with_parts layout stroke (take k bars) row) end
+
+-- Laws of the bars beside the rows of a line.
+module _ (layout : Layout) (stroke : BarStroke) (bar : OpenBar) where
+  -- the cell of the bar's depth, in a row
+  abbrev there : List Cell → Cell
+  there row = get_or row (layout.gutter + 2 + bar.depth) SPACE
+
+  abbrev part : OpenBar → Cell
+  part b = bar_cell_part layout stroke b
+
+  drawn_there : (row : List Cell) → there (with_bar layout stroke row bar) ≡ part bar
+  drawn_there row =
+      let at : ℕ = layout.gutter + 2 + bar.depth in
+      let same : at + 0 ≡ at = omega arith in
+      ap (λ c. get_or (with_bar layout stroke row bar) c SPACE) (sym same) ∙ slice_index_or-written_inside SPACE row at (part bar ∷ []) 0 SPACE (omega arith)
+
+  -- a bar of another depth leaves it
+  pub drawn_beside : (b : OpenBar) (row : List Cell) → b.depth ≢ bar.depth → there (with_bar layout stroke row b) ≡ there row
+  drawn_beside b row other =
+      let at : ℕ = layout.gutter + 2 + bar.depth in
+      let cell : ℕ = layout.gutter + 2 + b.depth in
+      elim (cases_lt at cell) [
+        | inl left ↦ slice_index_or-written_before SPACE row cell (part b ∷ []) at left
+        | inr past ↦ slice_index_or-written_after SPACE row cell (part b ∷ []) at SPACE (elim (cases_eq b.depth bar.depth) [
+          | inl same ↦ absurd (other same)
+          | inr apart ↦ omega (arith, past, apart)
+        ])
+      ]
+
+  -- so it stays below bars of other depths
+  stays : (bars : List OpenBar) (row : List Cell) → HasOwnDepth bar bars → there row ≡ part bar → there (with_parts layout stroke bars row) ≡ part bar
+  stays [] row alone before = before
+  stays (b ∷ bars) row alone before =
+      let Q : OpenBar → Type 0 = λ x. x.depth ≡ bar.depth → x ≡ bar in
+      stays bars (with_bar layout stroke row b) (All-tail Q b bars alone) (elim (cases_eq b.depth bar.depth) [
+        | inl same ↦ ap (λ x. there (with_bar layout stroke row x)) (All-head Q b bars alone same) ∙ drawn_there row
+        | inr other ↦ drawn_beside b row other ∙ before
+      ])
+
+  -- one of some bars stands in the cell of its depth, in a row over which they are drawn, where no other has that depth
+  pub bar_stands : (bars : List OpenBar) (row : List Cell) → HasOwnDepth bar bars → Contains bars bar → there (with_parts layout stroke bars row) ≡ part bar
+  bar_stands [] row alone (k, within, same) = absurd (omega arith)
+  bar_stands (b ∷ bars) row alone (zero, within, same) =
+      stays bars (with_bar layout stroke row b) (All-tail (λ x. x.depth ≡ bar.depth → x ≡ bar) b bars alone)
+      (ap (λ x. there (with_bar layout stroke row x)) same ∙ drawn_there row)
+  bar_stands (b ∷ bars) row alone (suc k, within, same) =
+      bar_stands bars (with_bar layout stroke row b) (All-tail (λ x. x.depth ≡ bar.depth → x ≡ bar) b bars alone) (k, omega arith, same)
+
+module _ (layout : Layout) (room : ℕ) (closes : Bool) (text : List ℕ) (dropped : ℕ) (open_bars : List OpenBar) (es : List LineAnnotation) (source : List Cell)
+    (rows : List (List Cell)) where
+  -- the bars that are open above a line and go on past it
+  abbrev past : List OpenBar
+  past = bars_apart open_bars (ends_of_bars es)
+
+  -- so each of these stands beside each of the line's rows, in the cell of its depth, where no other has that depth
+  pub bar_past : AreLineRows layout room closes text dropped open_bars es source rows → (bar : OpenBar) → Contains past bar → HasOwnDepth bar past → (i : ℕ)
+      → i < length rows → cell_at rows i (layout.gutter + 2 + bar.depth) ≡ bar_cell_part layout Solid bar
+  bar_past drawn bar among alone i within =
+      let rule : List Cell → List Cell = with_parts layout Solid past in
+      let inside : i < length drawn.own = omega (arith, within, ap length drawn.rows_are, length-map drawn.own rule) in
+      let row : row_at rows i ≡ rule (row_at drawn.own i) = ap (λ rs. row_at rs i) drawn.rows_are ∙ get_or-map rule drawn.own i [] [] inside in
+      ap (λ cells. get_or cells (layout.gutter + 2 + bar.depth) SPACE) row ∙ bar_stands layout Solid bar past (row_at drawn.own i) alone among

@@ -7,12 +7,71 @@ use Rattle.snippet_strokes.proofs.Common.{get_or-replicate, ext_get_or, append-n
 use Rattle.snippet_strokes.proofs.Common.{and-false, and-true, drop-append_seam, All-get_or, Contains-permutation, IsPermutation-map, IsPermutation-trans}
 use Rattle.snippet_strokes.proofs.Common.{sum_by-IsPermutation, AllPass-from_list_all, LineAnnotation, is_wide_entry, placeholder_of, DecorStyle, row_at, Cell}
 use Rattle.snippet_strokes.proofs.Common.{SPACE, written, take-written_past, drop-written, Layout, PlacedEntry, IsBarCell, IsFreeCell, IsFree, row_count}
-use Rattle.snippet_strokes.proofs.Common.{HasRows, bare_row, separator_row, painting_order, ArePlaced}
-use Rattle.snippet_strokes.proofs.PlainEntries.{are_plain, has_column, is_single, wide_entries}
-use Rattle.snippet_strokes.proofs.SeenRows.{IsCut, IsStrokeRow}
-use Rattle.snippet_strokes.proofs.PlainMarks.{IsPlainEntry}
-use Rattle.snippet_strokes.proofs.PositionLemmas.{HasRows-row_count, row_count_some}
+use Rattle.snippet_strokes.proofs.Common.{HasRows, bare_row, separator_row, painting_order, ArePlaced, cases_Bool, get_or-map, length-map, Contains-get_or}
+use Rattle.snippet_strokes.proofs.Common.{IsPermutation-sym, AnnotationKind, Primary, Context, Visible, IsMarkGlyph, underline_role, cell_at, IsMarkCell}
+use Rattle.snippet_strokes.proofs.Common.{entry_width, is_primary, ◌||◌, LineAnnotationType, Singleline, MultilineStart, MultilineEnd, MultilineLine}
+use Rattle.snippet_strokes.proofs.Common.{is_single_part, has_stem, takes_space, strokes_of, unlinked_cell, is_end_part, mark_end, not, All-nil, All-cons}
+use Rattle.snippet_strokes.proofs.Common.{length_permutation, label_text, has_label, positions, line_positions, entries_all}
+use Rattle.snippet_strokes.proofs.SeenRows.{are_plain, has_column, is_single, wide_entries, IsCut, IsStrokeRow, EntryCovers, IsEntryMark}
+use Rattle.snippet_strokes.proofs.PositionLemmas.{HasRows-row_count, row_count_some, line_positions_low, of_positions, positions_sole}
 use Rattle.snippet_strokes.proofs.PaintOrder.{IsPermutation-painting_order}
+use Rattle.snippet_strokes.proofs.PaintedMarks.{CoversOver, AreMarked, IsPaintedAt, mark_cell}
+
+-- The marks of entries that stand for whole spans.
+-- a mark cell of an entry that stands for a whole span is one of its kind
+stroke_is : (decor : DecorStyle) (kind : AnnotationKind) (start stem : Bool)
+    → IsMarkCell decor kind (unlinked_cell (underline_role (is_primary kind))
+    (cond start (cond stem (strokes_of decor (is_primary kind)).label_start (strokes_of decor (is_primary kind)).underline)
+    (strokes_of decor (is_primary kind)).underline))
+stroke_is decor kind true true = (inr refl, refl)
+stroke_is decor kind true false = (inl refl, refl)
+stroke_is decor kind false stem = (inl refl, refl)
+
+-- the cell of a mark is one that a mark of that kind may have
+pub IsMarkCell-mark_cell : (layout : Layout) (e : PlacedEntry) (c : ℕ) → takes_space e ≡ false → IsMarkCell layout.decor e.entry.kind (mark_cell layout e c)
+IsMarkCell-mark_cell layout e c flat =
+    let primary = is_primary e.entry.kind in
+    let corner = cond (has_stem e) (strokes_of layout.decor primary).end_down (strokes_of layout.decor primary).end_flat in
+    let own = cond (has_stem e) (strokes_of layout.decor primary).label_start (strokes_of layout.decor primary).underline in
+    subst (λ b. IsMarkCell layout.decor e.entry.kind
+    (unlinked_cell (underline_role primary)
+    (cond (c == layout.code + e.entry.start.display) (cond b corner own) (strokes_of layout.decor primary).underline))) (sym flat)
+    (stroke_is layout.decor e.entry.kind (c == layout.code + e.entry.start.display) (has_stem e))
+
+-- an entry that stands for a whole span takes no space, and one that covers a column is painted at its columns alone
+abbrev pub IsPlainEntry : LineAnnotation → Type 0
+IsPlainEntry e = (is_single e ≡ true) × (e.start.display < e.end.display)
+
+-- a plain entry takes no space
+pub spaceless : (e : PlacedEntry) → IsPlainEntry e.entry → takes_space e ≡ false
+spaceless e plain = by_type e.entry.annotation_type plain.0
+  where
+    by_type : (part : LineAnnotationType) → is_single_part part ≡ true → is_end_part part ≡ false
+    by_type Singleline is = refl
+    by_type (MultilineStart depth) is = cc is
+    by_type (MultilineEnd depth) is = cc is
+    by_type (MultilineLine depth) is = refl
+
+-- the mark of a plain entry ends where the entry does
+pub mark_end_plain : (e : PlacedEntry) → IsPlainEntry e.entry → mark_end e ≡ e.entry.end.display
+mark_end_plain e plain =
+    ap (λ b. cond (b && (takes_space e || has_stem e)) (e.entry.end.display + 1) e.entry.end.display) (apart e.entry.start.display e.entry.end.display plain.1)
+  where
+    apart : (m n : ℕ) → m < n → (m == n) ≡ false
+    apart m n less = grind (arith, nat_tests, less)
+
+-- a column that an entry covers is painted for it
+pub painted_covered : (e : PlacedEntry) (p : ℕ) → EntryCovers e.entry p → IsPaintedAt e p
+painted_covered e p covers =
+    (covers.0, omega (arith, covers.1, no_less (e.entry.start.display == e.entry.end.display && (takes_space e || has_stem e)) e.entry.end.display))
+  where
+    no_less : (b : Bool) (n : ℕ) → n ≤ cond b (n + 1) n
+    no_less true n = omega arith
+    no_less false n = omega arith
+
+-- a column that is painted for a plain entry is covered by it
+pub covered_painted : (e : PlacedEntry) (p : ℕ) → IsPlainEntry e.entry → IsPaintedAt e p → EntryCovers e.entry p
+covered_painted e p plain painted = (painted.0, omega (arith, painted.1, mark_end_plain e plain))
 
 -- a row that was begun
 pub begun_row : (layout : Layout) (closes : Bool) (old begun : List (List Cell)) (count k : ℕ)
@@ -173,3 +232,99 @@ pub rows_ready : (placed : List PlacedEntry) (old begun : List (List Cell)) (sep
     → row ≡ length old → begun ≡ old ++ replicate (count - 1) sep ++ end ∷ [] → long ≡ length begun → All (HasRows row long) placed
 rows_ready placed old begun sep end count row long is last begins same =
     HasRows-row_count row long placed (omega (arith, same, rows_begun old begun sep end count (omega (arith, is, row_count_some placed)) begins, last, is))
+
+-- What entries that were painted in order show below each column.
+-- a kind that is drawn as primary is Primary
+primary_only : (kind : AnnotationKind) → is_primary kind ≡ true → kind ≡ Primary
+primary_only Primary is = refl
+primary_only Context is = cc
+primary_only Visible is = cc
+
+-- two kinds that are drawn alike have the same mark cells
+same_mark : (decor : DecorStyle) (kind other : AnnotationKind) (cell : Cell) → is_primary other ≡ is_primary kind → IsMarkCell decor other cell
+    → IsMarkCell decor kind cell
+same_mark decor kind other cell alike is =
+    subst (λ (primary : Bool). IsMarkGlyph decor primary cell.ch × (cell.role ≡ underline_role primary)) alike is
+
+-- an entry that stands in front of the mark's entry, and covers the column too, is drawn as the mark is
+drawn_alike : (es : List LineAnnotation) (p : ℕ) (kind : AnnotationKind) (mark : IsEntryMark es p kind) (top : LineAnnotation) → Contains es top
+    → EntryCovers top p → CoversOver mark.entry top → is_primary top.kind ≡ is_primary kind
+drawn_alike es p kind mark top among covers over =
+    let least = mark.least top among covers in
+    let same : entry_width top ≡ entry_width mark.entry = omega (arith, over.narrower, least) in
+    let own : is_primary mark.entry.kind ≡ is_primary kind = ap is_primary mark.is in
+    elim (cases_Bool (is_primary kind)) [
+      | inl primary ↦ over.primary same (own ∙ primary) ∙ sym primary
+      | inr context ↦
+          elim (cases_Bool (is_primary top.kind)) [
+            | inl top_primary ↦
+                let wider = mark.primary_wins context top among covers (primary_only top.kind top_primary) in
+                absurd (omega (arith, wider, over.narrower))
+            | inr top_context ↦ top_context ∙ sym context
+          ]
+    ]
+
+-- what a mapped list contains comes from an element
+pub from_map : {X Y : Type 0} (f : X → Y) (xs : List X) (y : Y) → Contains (map f xs) y → (x : X) × Contains xs x × (f x ≡ y)
+from_map f [] y (k, within, same) = absurd (omega arith)
+from_map f (x ∷ xs) y (k, within, same) =
+    let at : ℕ = k in
+    let inside : at < length (x ∷ xs) = omega (arith, within, length-map (x ∷ xs) f) in
+    (get_or (x ∷ xs) at x, Contains-get_or (x ∷ xs) at x inside, sym (get_or-map f (x ∷ xs) at x y inside) ∙ same)
+
+-- the cell below a column with a mark holds it
+pub mark_shown : (layout : Layout) (es : List LineAnnotation) (placed : List PlacedEntry) (row : ℕ) (old new : List (List Cell)) → All IsPlainEntry es
+    → IsPermutation es (map (λ (e : PlacedEntry). e.entry) placed) → AreMarked layout placed row old new → (p : ℕ) (kind : AnnotationKind)
+    → IsEntryMark es p kind → IsMarkCell layout.decor kind (cell_at new row (layout.code + p))
+mark_shown layout es placed row old new plain same marked p kind mark =
+    let f : PlacedEntry → LineAnnotation = λ e. e.entry in
+    let order : List PlacedEntry = marked.order in
+    let sorted : List LineAnnotation = map f order in
+    let all : IsPermutation es sorted = IsPermutation-trans es (map f placed) sorted same (IsPermutation-map f placed order marked.same) in
+    let found = from_map f order mark.entry (Contains-permutation es sorted mark.entry all mark.among) in
+    let x : PlacedEntry = found.0 in
+    let k : ℕ = found.1.0 in
+    let here : get_or order k x ≡ x = found.1.2 in
+    let is : (get_or order k x).entry ≡ mark.entry = ap f here ∙ found.2 in
+    let shows = marked.painted.marked k p x found.1.1 (painted_covered (get_or order k x) p (subst (λ e. EntryCovers e p) (sym is) mark.covers)) in
+    let top : PlacedEntry = get_or order shows.at x in
+    let read : (j : ℕ) → j < length order → get_or sorted j mark.entry ≡ (get_or order j x).entry = λ j within. get_or-map f order j x mark.entry within in
+    let inside : shows.at < length sorted = omega (arith, shows.within, length-map order f) in
+    let among : Contains es top.entry = Contains-permutation sorted es top.entry (IsPermutation-sym es sorted all)
+    (subst (Contains sorted) (read shows.at shows.within) (Contains-get_or sorted shows.at mark.entry inside)) in
+    let over : CoversOver mark.entry top.entry = subst (λ e. CoversOver e top.entry) (read k found.1.1 ∙ is)
+    (subst (CoversOver (get_or sorted k mark.entry)) (read shows.at shows.within) (marked.ordered k shows.at mark.entry shows.later inside)) in
+    let top_plain : IsPlainEntry top.entry = subst IsPlainEntry among.2 (plain among.0 top.entry among.1) in
+    let alike = drawn_alike es p kind mark top.entry among (covered_painted top p top_plain shows.covers) over in
+    same_mark layout.decor kind top.entry.kind (cell_at new row (layout.code + p)) alike
+    (subst (IsMarkCell layout.decor top.entry.kind) (sym shows.holds) (IsMarkCell-mark_cell layout top (layout.code + p) (spaceless top top_plain)))
+
+-- The entries of a line as they are placed: the one entry of a line, and lines that take one row.
+module _ (es : List LineAnnotation) (placed : List PlacedEntry) (is : ArePlaced es placed) where
+  abbrev f : PlacedEntry → LineAnnotation
+  f e = e.entry
+
+  -- where no entry has a label to show, none has one placed
+  pub unlabelled : All (λ e. label_text e ≡ []) es → All (λ e. has_label e ≡ false) placed
+  unlabelled none =
+      λ k d within.
+      let own : label_text (get_or placed k d).entry ≡ [] = entries_all (λ e. label_text e ≡ []) es placed is.same none k d within in
+      ap (λ (cs : List ℕ). not (length cs == 0)) (is.labels k d within ∙ own)
+
+  -- where positions are 0 in their order, so are those of the line
+  highest : All (λ q. q ≤ 0) (positions 0 placed) → All (λ (x : PlacedEntry). x.position ≤ 0) placed
+  highest all = of_positions (λ q. q ≤ 0) placed (line_positions placed) is.positions_are (line_positions_low 0 placed all)
+
+  -- the one entry of a line, as it is placed
+  pub lone_placed : (e : LineAnnotation) → es ≡ e ∷ [] → (q : PlacedEntry) × (placed ≡ q ∷ []) × (q.entry ≡ e) × (q.position ≡ 0)
+  lone_placed e one =
+      let long : length placed ≡ 1 = sym (length-map placed f) ∙ length_permutation es (map f placed) is.same ∙ ap length one in
+      let found = sole placed long in
+      let q : PlacedEntry = found.0 in
+      let entry : q.entry ≡ e = sole_same e q.entry (subst (λ xs. IsPermutation xs (q.entry ∷ [])) one
+      (subst (λ ps. IsPermutation es (map f ps)) found.1 is.same)) in
+      let at : All (λ (x : PlacedEntry). x.position ≤ 0) placed = highest
+      (subst (λ ps. All (λ q. q ≤ 0) (positions 0 ps)) (sym found.1)
+      (subst (All (λ q. q ≤ 0)) (sym (positions_sole q)) (All-cons (λ q. q ≤ 0) 0 [] (omega arith) (All-nil (λ q. q ≤ 0))))) in
+      let first : q.position ≤ 0 = subst (All (λ (x : PlacedEntry). x.position ≤ 0)) found.1 at 0 q (omega arith) in
+      (q, found.1, entry, omega (arith, first))

@@ -6,13 +6,11 @@ use Rattle.snippet_strokes.proofs.Common.{text_cells, separator_of, length-text_
 use Rattle.snippet_strokes.proofs.Common.{slice_index_or-written_before, slice_index_or-written_inside, cells_written, Layout, bar_cell, separator_row-begun}
 use Rattle.snippet_strokes.proofs.Common.{BarStroke, Top, Solid, OpenBar, bars_apart, HasBarRoom, bar_cell_part, barred, has_depth, with_cells, highlighted_row}
 use Rattle.std.proofs.Common.{chars}
-use Rattle.snippet_strokes.proofs.OneStep.{with_bar}
-use Rattle.snippet_strokes.proofs.BarParts.{with_parts}
-use Rattle.snippet_strokes.proofs.StrokeWords.{role_in_source}
+use Rattle.snippet_strokes.proofs.CellLemmas.{with_bar, with_parts, role_in_source}
 use Rattle.snippet_strokes.proofs.BarLemmas.{BarsDrawn-with_parts}
 use Rattle.snippet_strokes.proofs.BarRows.{barred-below}
 use Rattle.snippet_strokes.proofs.LineFromValue.{highlighted_row_is}
-use Rattle.snippet_strokes.proofs.SnippetLemmas.{highlighted_left}
+use Rattle.snippet_strokes.proofs.CrossedLaws.{highlighted_left}
 use Rattle.snippet_strokes.proofs.SourceRowLemmas.{front, number_written}
 use Rattle.snippet_strokes.proofs.SwapLemmas.{cells-swap, written-swap}
 

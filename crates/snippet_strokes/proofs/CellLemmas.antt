@@ -5,8 +5,15 @@ use Rattle.snippet_strokes.proofs.Common.{cond-false, cond-true, places, same_li
 use Rattle.snippet_strokes.proofs.Common.{Margin, nat_tests, width_of, reaching, fitting, window_left, window_right, inner_part, covered_columns}
 use Rattle.snippet_strokes.proofs.Common.{uncovered_part, covered_end, DecorStyle, Ascii, Unicode, ElementStyle, LineNumber, Quotation, placeholder_of}
 use Rattle.snippet_strokes.proofs.Common.{cells_written, Cell, SPACE, text_cells, written, cells_written_last, length-text_cells, length-written, is_listed}
-use Rattle.snippet_strokes.proofs.Common.{norm, IsFree, window_cells, with_cells, begun_cells, ended_cells, free_drawn, free_written, chars_some}
+use Rattle.snippet_strokes.proofs.Common.{norm, IsFree, window_cells, with_cells, begun_cells, ended_cells, free_drawn, free_written, chars_some, Layout}
+use Rattle.snippet_strokes.proofs.Common.{with_bars, part_glyph, BarStroke, OpenBar, bar_cell, bar_cell_part, Write, if◌then◌else◌, flat_map, code_cell}
+use Rattle.snippet_strokes.proofs.Common.{PlacedEntry, is_primary, strokes_of, stroke_role, stems_of, connector_of, corner_of, label_of, first_glyph, mark_end}
+use Rattle.snippet_strokes.proofs.Common.{connectors_of, corners_of, labels_of, glyph_at, stretch_of, Bool, ◌&&◌, option_map_or, inner_cell, label_role}
+use Rattle.snippet_strokes.proofs.Common.{label_text, is_start_part, label_place, LineAnnotationType, gives_way, separator_row, bar_at, foot_glyph, bare_row}
+use Rattle.snippet_strokes.proofs.Common.{column_of, list_any, LineAnnotation, UnderlinePrimary, UnderlineSecondary, highlights, replaced_within}
 use Rattle.std.proofs.Common.{chars}
+use Rattle.std.specs.Prelude.{replicate, fold}
+use Rattle.snippet_strokes.proofs.CutWords.{Stretch}
 
 -- the cells that are written from a cell on, after those that stand there
 abbrev pub put : ℕ → List Cell → List Cell → List Cell
@@ -226,3 +233,102 @@ pub nothing_shown : (line : List ℕ) → length line ≡ 0 → norm (chars line
 unfolding norm
 nothing_shown [] none = ap norm chars-nil
 nothing_shown (c ∷ cs) none = absurd (omega (arith, none))
+
+-- Words for the parts of the strokes of a line, which proofs cite.
+-- the label of an entry
+abbrev pub label_write : Layout → ℕ → PlacedEntry → Write
+label_write layout row e =
+    record { row = row + (label_place e).0; cell = code_cell layout (label_place e).1; text = label_text e.entry; role = label_role e.entry.kind }
+
+-- the stem of an entry, so many rows below the row of the marks
+abbrev pub stem_write : Layout → ℕ → PlacedEntry → ℕ → Write
+stem_write layout row e below =
+    glyph_at (row + below) (code_cell layout e.entry.start.display)
+    (if below == e.position then foot_glyph layout.decor e else (strokes_of layout.decor (is_primary e.entry.kind)).stem) (stroke_role e)
+
+-- the line from the bar of this depth to before the start of an entry
+abbrev pub line_to : Layout → ℕ → PlacedEntry → ℕ → List Write
+line_to layout row e depth =
+    stretch_of (row + e.position) (inner_cell layout + depth) (code_cell layout e.entry.start.display)
+    (strokes_of layout.decor (is_primary e.entry.kind)).connector (stroke_role e)
+
+-- the line to the bar of an entry that stands for this part of a span
+abbrev pub connector_by : Layout → ℕ → PlacedEntry → LineAnnotationType → List Write
+connector_by layout row e part = option_map_or (λ bar. line_to layout row e bar.depth) (bar_at part (is_primary e.entry.kind)) []
+
+-- a bar in the rows from one to before another
+abbrev pub bar_writes : Layout → PlacedEntry → ℕ → ℕ → ℕ → List Write
+bar_writes layout e depth start end =
+    column_of start end (bar_cell layout depth) (strokes_of layout.decor (is_primary e.entry.kind)).bar (stroke_role e)
+
+-- the bar of an entry that stands for this part of a span, with its corner
+abbrev pub corner_by : Layout → ℕ → ℕ → PlacedEntry → LineAnnotationType → List Write
+corner_by layout row count e part =
+    let strokes = strokes_of layout.decor (is_primary e.entry.kind) in
+    let corner = row + 1 + e.position in
+    let drawn : ℕ → List Write = λ depth. if is_start_part part
+    then glyph_at corner (bar_cell layout depth) strokes.bar_top (stroke_role e) ∷ bar_writes layout e depth (corner + 1) count
+    else bar_writes layout e depth row corner ++ glyph_at corner (bar_cell layout depth) strokes.bar_bottom (stroke_role e) ∷ [] in
+    option_map_or (λ bar. drawn bar.depth) (bar_at part (is_primary e.entry.kind)) []
+
+-- what of it stands in the source row
+abbrev pub top_by : Layout → ℕ → PlacedEntry → LineAnnotationType → List Write
+top_by layout row e part =
+    let strokes = strokes_of layout.decor (is_primary e.entry.kind) in
+    let drawn : ℕ → List Write = λ depth. if is_start_part part then [] else glyph_at row (bar_cell layout depth) strokes.bar (stroke_role e) ∷ [] in
+    option_map_or (λ bar. drawn bar.depth) (bar_at part (is_primary e.entry.kind)) []
+
+-- the source row of a line with the rows of its strokes below it, before they are drawn
+abbrev pub begun_rows : Layout → Bool → ℕ → List Cell → List (List Cell)
+begun_rows layout closes count source =
+    source ∷ (replicate (count - 1) (separator_row layout.decor layout.gutter) ++ bare_row layout.decor layout.gutter closes ∷ [])
+
+-- the role of a cell of a source row, one which has this role, with what entries highlight: that of primary marks where a
+-- primary entry asks for it, else that of marks for context where an entry asks and the cell's role gives way
+abbrev pub role_in_source : ℕ → ℕ → List LineAnnotation → ℕ → ElementStyle → ElementStyle
+role_in_source code dropped es c role =
+    if list_any (λ e. is_primary e.kind && highlights code dropped c e) es then UnderlinePrimary else
+    (if list_any (highlights code dropped c) es && gives_way role then UnderlineSecondary else role)
+
+-- a row with the placeholder in place of these stretches; one that the row doesn't hold stays
+abbrev pub cut_row : DecorStyle → List Stretch → List Cell → List Cell
+cut_row decor cuts row = fold (λ cells cut. replaced_within cut.from cut.to (text_cells LineNumber (placeholder_of decor)) cells) row cuts
+
+-- Strokes as the code draws them: marks from their first glyph on, and no stem that the next one's covers.
+-- the mark of an entry, if it takes any cell: its first glyph, and the underline after it
+abbrev pub drawn_mark : Layout → ℕ → PlacedEntry → List Write
+drawn_mark layout row e =
+    let from = code_cell layout e.entry.start.display in
+    let to = code_cell layout (mark_end e) in
+    if nat_lt from to then glyph_at row from (first_glyph layout.decor e) (stroke_role e) ∷ stretch_of row (from + 1) to
+    (strokes_of layout.decor (is_primary e.entry.kind)).underline (stroke_role e) else []
+
+-- the marks of some entries, in the order in which they are painted
+abbrev pub marks_of : Layout → ℕ → List PlacedEntry → List Write
+marks_of layout row order = flat_map (drawn_mark layout row) order
+
+-- the strokes of a line but its marks
+abbrev pub drawn_under_marks : Layout → ℕ → ℕ → List PlacedEntry → List Write
+drawn_under_marks layout row count placed =
+    connectors_of layout (row + 1) placed ++ corners_of layout row count placed ++ stems_of layout (row + 1) placed ++ labels_of layout (row + 1) placed
+
+-- all of them
+abbrev pub drawn_strokes : Layout → ℕ → ℕ → List PlacedEntry → List PlacedEntry → List Write
+drawn_strokes layout row count placed order =
+    flat_map (connector_of layout (row + 1)) placed ++ flat_map (corner_of layout row count) placed ++ stems_of layout (row + 1) placed
+    ++ flat_map (label_of layout (row + 1)) placed ++ flat_map (drawn_mark layout (row + 1)) order
+
+-- One bar that is drawn into a row, and one write into rows: what `with_parts` and `painted` do at each step.
+-- a row with a part of a bar in the cell of its depth
+abbrev pub with_bar : Layout → BarStroke → List Cell → OpenBar → List Cell
+with_bar layout stroke row bar =
+    written SPACE row (bar_cell layout bar.depth) (bar_cell_part layout stroke bar ∷ [])
+
+-- rows after one write
+abbrev pub written_by : List (List Cell) → Write → List (List Cell)
+written_by rows w = cells_written rows w.row w.cell (text_cells w.role w.text)
+
+-- Parts of bars beside a row, as the code draws them.
+-- a row with a part of each of some bars
+abbrev pub with_parts : Layout → BarStroke → List OpenBar → List Cell → List Cell
+with_parts layout stroke bars row = with_bars layout (part_glyph stroke) bars row

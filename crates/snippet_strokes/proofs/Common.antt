@@ -1,12 +1,12 @@
 -- What most proofs of this crate cite, given on from one place.
-pub use Rattle.snippet_grid.proofs.ChangeLemmas.{length-changed_within, slice_index_or-changed_within_after, slice_index_or-changed_within_before}
-pub use Rattle.snippet_grid.proofs.ChangeLemmas.{slice_index_or-changed_within_inside, changed_within_one}
-pub use Rattle.snippet_grid.proofs.GridLemmas.{row_at-cells_written_same, WritesCells-cells_written, row_at-cells_written_other, cells_written_last}
-pub use Rattle.snippet_grid.proofs.GridLemmas.{WritesCells-from_equal}
+pub use Rattle.snippet_grid.proofs.ReplaceLemmas.{length-changed_within, slice_index_or-changed_within_after, slice_index_or-changed_within_before}
+pub use Rattle.snippet_grid.proofs.ReplaceLemmas.{slice_index_or-changed_within_inside, changed_within_one}
+pub use Rattle.snippet_grid.proofs.GridShown.{row_at-cells_written_same, WritesCells-cells_written, row_at-cells_written_other, cells_written_last}
+pub use Rattle.snippet_grid.proofs.GridShown.{WritesCells-from_equal}
 pub use Rattle.snippet_grid.proofs.GridShown.{chars_some}
-pub use Rattle.snippet_grid.proofs.OutcomeLemmas.{on_ok_two, if_ok_weaker, on_ok_value}
+pub use Rattle.snippet_grid.proofs.RunLemmas.{on_ok_two, if_ok_weaker, on_ok_value}
 pub use Rattle.snippet_grid.proofs.ReplaceLemmas.{replaced_there, replaced_empty, replaced_past}
-pub use Rattle.snippet_grid.proofs.RowLemmas.{row_text-text_cells, begun_by_text, texted, text_put, separator_row-begun}
+pub use Rattle.snippet_grid.proofs.ReplaceLemmas.{row_text-text_cells, begun_by_text, texted, text_put, separator_row-begun}
 pub use Rattle.snippet_grid.specs.Calls.{WritesCells, cells_replaced, cells_restyled, cells_changed}
 pub use Rattle.snippet_grid.specs.Grid.{row_at, cell_at, cells_written, restyled}
 unfoldable pub use Rattle.snippet_grid.specs.Grid.{changed_within, replaced_within}
@@ -16,8 +16,8 @@ pub use Rattle.snippet_grid.specs.Print.{row_text}
 pub use Rattle.snippet_grid.specs.StyledChars.{cell_of}
 pub use Rattle.snippet_grid.specs.declared.styled_char.StyledChar.{StyledChar}
 pub use Rattle.snippet_labels.proofs.CharLemmas.{norm_short, is_empty-chars}
-pub use Rattle.snippet_labels.proofs.LabelWords.{label_text, crowds, flipped, is_start, label_chars, labelled, placed_at, up_to}
-pub use Rattle.snippet_labels.proofs.OrderLemmas.{sorted_same, stable_same}
+pub use Rattle.snippet_labels.proofs.PlacedLemmas.{label_text, crowds, flipped, is_start, label_chars, labelled, placed_at, up_to}
+pub use Rattle.snippet_labels.proofs.RowLemmas.{sorted_same, stable_same}
 pub use Rattle.snippet_labels.proofs.PlacedLemmas.{entries_all, placed_of-at, length-positions, ArePlaced-from, length-line_positions, line_positions-changed}
 pub use Rattle.snippet_labels.proofs.PlacedLemmas.{look_counts-changed}
 pub use Rattle.snippet_labels.specs.PlacedEntries.{shifted, label_role, is_end_part, entry_width}

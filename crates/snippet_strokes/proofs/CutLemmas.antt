@@ -9,13 +9,9 @@ use Rattle.snippet_strokes.proofs.Common.{PlacedEntry, IsFreeCell, is_wide_at, r
 use Rattle.snippet_strokes.proofs.Common.{placed_of, stroke_rows, painted}
 use Rattle.std.specs.Prelude.{◌&&◌, max, not}
 use Rattle.snippet_strokes.proofs.CutWords.{Stretch, cut_of, cut_rows, cuts_of}
-use Rattle.snippet_strokes.proofs.StrokeWords.{cut_row}
-use Rattle.snippet_strokes.proofs.PlainEntries.{wide_entries}
-use Rattle.snippet_strokes.proofs.SeenRows.{IsCut}
-use Rattle.snippet_strokes.proofs.CellLemmas.{free_placeholder}
-use Rattle.snippet_strokes.proofs.Drawn.{drawn_strokes}
-use Rattle.snippet_strokes.proofs.StrokeWords.{begun_rows}
-use Rattle.snippet_strokes.proofs.EveryStroke.{strokes_painted}
+use Rattle.snippet_strokes.proofs.CellLemmas.{cut_row, free_placeholder, drawn_strokes, begun_rows}
+use Rattle.snippet_strokes.proofs.SeenRows.{wide_entries, IsCut}
+use Rattle.snippet_strokes.proofs.EveryMark.{strokes_painted}
 
 -- the cells of the middle of an entry
 abbrev pub middle_of : Layout → ℕ → LineAnnotation → Stretch

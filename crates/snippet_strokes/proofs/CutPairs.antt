@@ -6,7 +6,7 @@ use Rattle.snippet_strokes.proofs.Common.{PlacedEntry, is_wide_entry, Cell, text
 use Rattle.std.specs.Prelude.{◌&&◌, not}
 use Rattle.snippet_strokes.proofs.CutLemmas.{cut_each, cut_one, middle_of}
 use Rattle.snippet_strokes.proofs.CutWords.{Stretch, cut_of, cut_rows, cuts_of}
-use Rattle.snippet_strokes.proofs.StrokeWords.{cut_row}
+use Rattle.snippet_strokes.proofs.CellLemmas.{cut_row}
 
 -- ---- elements of a list that are changed
 

@@ -9,15 +9,12 @@ use Rattle.snippet_strokes.proofs.Common.{list_any-map, Layout, PlacedEntry, shi
 use Rattle.snippet_strokes.proofs.Common.{Solid, Top, Bar, bar_at, bars_apart, ends_of_bars, is_beside, HasOwnDepth, bar_of, has_depth, is_whole_line}
 use Rattle.snippet_strokes.proofs.Common.{bar_cell_part, row_count, HasRows, BarEnds}
 use Rattle.std.specs.List.{filter}
-use Rattle.snippet_strokes.proofs.OneStep.{with_bar}
-use Rattle.snippet_strokes.proofs.BarParts.{with_parts}
+use Rattle.snippet_strokes.proofs.CellLemmas.{with_bar, with_parts, begun_rows, corner_by, drawn_strokes}
 use Rattle.snippet_strokes.proofs.BarFacts.{BarBegins, BeginsBelow}
-use Rattle.snippet_strokes.proofs.LineFacts.{AreLineRows, StrokesPainted}
-use Rattle.snippet_strokes.proofs.StrokeWords.{begun_rows, corner_by}
-use Rattle.snippet_strokes.proofs.Drawn.{drawn_strokes}
-use Rattle.snippet_strokes.proofs.LineRowLemmas.{rows_cut}
+use Rattle.snippet_strokes.proofs.WriteLaws.{AreLineRows, StrokesPainted}
+use Rattle.snippet_strokes.proofs.LineFromValue.{rows_cut}
 use Rattle.snippet_strokes.proofs.AmongLaws.{all_from_among, among_contains, contains_among, filter_map_cases}
-use Rattle.snippet_strokes.proofs.BarLaws.{bar_stands, drawn_beside}
+use Rattle.snippet_strokes.proofs.BarRows.{bar_stands, drawn_beside}
 use Rattle.snippet_strokes.proofs.PositionLemmas.{HasRows-row_count}
 use Rattle.snippet_strokes.proofs.EntryBarLaws.{end_drawn, is_at, last_passing, last_stands, start_drawn}
 

@@ -3,10 +3,11 @@ use Rattle.snippet_strokes.proofs.Common.{◌≡◌, ℕ, suc, ◌+◌, ◌-◌,
 use Rattle.snippet_strokes.proofs.Common.{false, List, [], ◌∷◌, ◌++◌, replicate, inl, inr, refl, sym, ap, ◌∙◌, arith, flat_map, cases_Bool}
 use Rattle.snippet_strokes.proofs.Common.{cases_lt, or_parts, nat_tests, places, same_lists, row_at-cells_written_same, cells_written, row_at, Layout}
 use Rattle.snippet_strokes.proofs.Common.{PlacedEntry, has_stem, takes_space, is_primary, Cell, SPACE, text_cells, written, strokes_of, Strokes, ElementStyle}
-use Rattle.snippet_strokes.proofs.Common.{mark_of, stroke_role, first_glyph, mark_end, Write, glyph_at, painted, stretch_of}
-use Rattle.snippet_strokes.proofs.Drawn.{drawn_mark}
-use Rattle.snippet_strokes.proofs.EveryStem.{rewritten}
-use Rattle.snippet_strokes.proofs.WriteLemmas.{drawn_mark-none, less, painted-append, stretch_of-none}
+use Rattle.snippet_strokes.proofs.Common.{mark_of, stroke_role, first_glyph, mark_end, Write, glyph_at, painted, stretch_of, connector_of, corner_of, label_of}
+use Rattle.snippet_strokes.proofs.Common.{line_strokes, stem_of, connectors_of, corners_of, labels_of, strokes_under_marks, stems_of}
+use Rattle.snippet_strokes.proofs.CellLemmas.{drawn_mark, drawn_strokes, drawn_under_marks}
+use Rattle.snippet_strokes.proofs.EveryStem.{rewritten, stems_painted}
+use Rattle.snippet_strokes.proofs.WriteLaws.{drawn_mark-none, less, painted-append, stretch_of-none}
 
 -- ---- cells of one row, written one after another
 
@@ -197,3 +198,29 @@ every_mark layout row (e ∷ es) rows =
     ∙ ap (painted (flat_map (mark_of layout row) es)) (mark_same layout row e rows)
     ∙ every_mark layout row es (painted (drawn_mark layout row e) rows)
     ∙ sym (painted-append (drawn_mark layout row e) (flat_map (drawn_mark layout row) es) rows)
+
+-- The strokes of a line, as the rule names them, are those that the code draws.
+pub strokes_painted : (layout : Layout) (row count : ℕ) (placed order : List PlacedEntry) (rows : List (List Cell))
+    → painted (line_strokes layout row count placed order) rows ≡ painted (drawn_strokes layout row count placed order) rows
+strokes_painted layout row count placed order rows =
+    let bars : List Write = flat_map (connector_of layout (row + 1)) placed ++ flat_map (corner_of layout row count) placed in
+    let all : List Write = flat_map (stem_of layout (row + 1)) placed in
+    let drawn : List Write = stems_of layout (row + 1) placed in
+    let labels : List Write = flat_map (label_of layout (row + 1)) placed in
+    let marks : List Write = flat_map (mark_of layout (row + 1)) order in
+    painted-append (bars ++ all ++ labels) marks rows
+    ∙ ap (painted marks) (painted-append (bars ++ all) labels rows ∙ ap (painted labels) (painted-append bars all rows
+    ∙ stems_painted layout (row + 1) placed (painted bars rows) ∙ sym (painted-append bars drawn rows)) ∙ sym (painted-append (bars ++ drawn) labels rows))
+    ∙ every_mark layout (row + 1) order (painted (bars ++ drawn ++ labels) rows)
+    ∙ sym (painted-append (bars ++ drawn ++ labels) (flat_map (drawn_mark layout (row + 1)) order) rows)
+
+-- so are those but the marks
+pub under_marks_painted : (layout : Layout) (row count : ℕ) (placed : List PlacedEntry) (rows : List (List Cell))
+    → painted (strokes_under_marks layout row count placed) rows ≡ painted (drawn_under_marks layout row count placed) rows
+under_marks_painted layout row count placed rows =
+    let bars : List Write = connectors_of layout (row + 1) placed ++ corners_of layout row count placed in
+    let all : List Write = flat_map (stem_of layout (row + 1)) placed in
+    let drawn : List Write = stems_of layout (row + 1) placed in
+    let labels : List Write = labels_of layout (row + 1) placed in
+    painted-append (bars ++ all) labels rows ∙ ap (painted labels) (painted-append bars all rows
+    ∙ stems_painted layout (row + 1) placed (painted bars rows) ∙ sym (painted-append bars drawn rows)) ∙ sym (painted-append (bars ++ drawn) labels rows)

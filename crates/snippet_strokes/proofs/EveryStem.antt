@@ -4,10 +4,9 @@ use Rattle.snippet_strokes.proofs.Common.{◌∷◌, ◌++◌, map, inl, inr, re
 use Rattle.snippet_strokes.proofs.Common.{cases_Bool, eqb-true, leb-true, places, same_lists, All-cons, All-nil, row_at-cells_written_same, cells_written}
 use Rattle.snippet_strokes.proofs.Common.{row_at, Layout, code_cell, PlacedEntry, has_stem, is_primary, Cell, SPACE, text_cells, written, strokes_of}
 use Rattle.snippet_strokes.proofs.Common.{ElementStyle, is_stem_covered, stems_of, stem_of, foot_glyph, stroke_role, Write, glyph_at, painted}
-use Rattle.snippet_strokes.proofs.OneStep.{written_by}
+use Rattle.snippet_strokes.proofs.CellLemmas.{written_by, stem_write}
 use Rattle.snippet_strokes.proofs.RowsSwapped.{move_rows}
-use Rattle.snippet_strokes.proofs.StrokeWords.{stem_write}
-use Rattle.snippet_strokes.proofs.WriteLemmas.{painted-append}
+use Rattle.snippet_strokes.proofs.WriteLaws.{painted-append}
 
 -- ---- a stem
 

@@ -4,7 +4,7 @@ use Rattle.snippet_strokes.proofs.Common.{AnnotationKind, Primary, Context, repl
 use Rattle.snippet_strokes.proofs.Common.{Quotation, LineAnnotation, Singleline, PlacedEntry, overlapped, stroke_glyphs, painting_order, is_placed_before}
 use Rattle.snippet_strokes.proofs.Common.{Layout}
 use Rattle.snippet_strokes.proofs.CutWords.{cut_of}
-use Rattle.snippet_strokes.proofs.StrokeWords.{cut_row}
+use Rattle.snippet_strokes.proofs.CellLemmas.{cut_row}
 
 -- an entry of these columns, each of one character
 abbrev pub entry : AnnotationKind → ℕ → ℕ → LineAnnotation

@@ -7,7 +7,7 @@ use Rattle.snippet_strokes.proofs.Common.{take_more, filter-append, list_any-app
 use Rattle.snippet_strokes.proofs.Common.{length-changed_within, slice_index_or-changed_within_after, slice_index_or-changed_within_before}
 use Rattle.snippet_strokes.proofs.Common.{slice_index_or-changed_within_inside, is_end_part, is_primary, LineAnnotation, Cell, SPACE, gives_way, underline_role}
 use Rattle.snippet_strokes.proofs.Common.{UnderlinePrimary, UnderlineSecondary, highlighted_row, highlights}
-use Rattle.snippet_strokes.proofs.StrokeWords.{role_in_source}
+use Rattle.snippet_strokes.proofs.CellLemmas.{role_in_source}
 use Rattle.snippet_strokes.proofs.LineFromValue.{highlighted_row_is}
 
 -- ---- lists of which a stretch is changed

@@ -5,11 +5,11 @@ use Rattle.snippet_strokes.proofs.Common.{shown_number, AnnotatedLineInfo, LineA
 use Rattle.snippet_strokes.proofs.Common.{Solid, Top, OpenBar, LineView, bars_apart, ends_of_bars, own_rows, gap_rows, info_rows, infos_rows, HasBarRoom}
 use Rattle.snippet_strokes.proofs.Common.{barred, is_whole_line, open_below, source_row, window_cells, highlighted_row}
 use Rattle.std.proofs.Common.{chars}
-use Rattle.snippet_strokes.proofs.BarParts.{with_parts}
+use Rattle.snippet_strokes.proofs.CellLemmas.{with_parts}
 use Rattle.snippet_strokes.proofs.BarRows.{barred-below}
 use Rattle.snippet_strokes.proofs.BesideLemmas.{lit_bars}
 use Rattle.snippet_strokes.proofs.HighlightLaws.{asking, changed_last}
-use Rattle.snippet_strokes.proofs.LineRowLemmas.{own_whole}
+use Rattle.snippet_strokes.proofs.LineFromValue.{own_whole}
 
 -- the row that was added last
 pub row_added : (old new : List (List Cell)) (row : List Cell) (r : ℕ) → r ≡ length old → new ≡ old ++ row ∷ [] → row_at new r ≡ row

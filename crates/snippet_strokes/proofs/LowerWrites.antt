@@ -5,10 +5,8 @@ use Rattle.snippet_strokes.proofs.Common.{flat_map-cons, row_at, is_primary, Cel
 use Rattle.snippet_strokes.proofs.Common.{Singleline, MultilineStart, MultilineEnd, MultilineLine, Layout, PlacedEntry, stroke_role, has_label, has_stem}
 use Rattle.snippet_strokes.proofs.Common.{label_place, connector_of, corner_of, label_of, stem_of, column_of, first_glyph, mark_end, foot_glyph, connectors_of}
 use Rattle.snippet_strokes.proofs.Common.{corners_of, labels_of, is_stem_covered, stems_of, Write, glyph_at, painted, stretch_of}
-use Rattle.snippet_strokes.proofs.StrokeWords.{bar_writes, connector_by, corner_by}
-use Rattle.snippet_strokes.proofs.Drawn.{drawn_mark, drawn_strokes, marks_of}
-use Rattle.snippet_strokes.proofs.StrokeWords.{label_write, line_to, stem_write}
-use Rattle.snippet_strokes.proofs.OneStep.{written_by}
+use Rattle.snippet_strokes.proofs.CellLemmas.{bar_writes, connector_by, corner_by, drawn_mark, drawn_strokes, marks_of, label_write, line_to, stem_write}
+use Rattle.snippet_strokes.proofs.CellLemmas.{written_by}
 
 -- a write so many rows farther down
 abbrev pub lowered : ℕ → Write → Write

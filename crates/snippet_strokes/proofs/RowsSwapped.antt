@@ -2,7 +2,7 @@
 use Rattle.snippet_strokes.proofs.Common.{◌≡◌, ◌≢◌, ℕ, ◌<◌, List, [], ◌∷◌, inl, inr, refl, sym, ap, ◌∙◌, arith, All, cases_eq}
 use Rattle.snippet_strokes.proofs.Common.{ext_get_or, All-head, All-tail, row_at-cells_written_other, row_at-cells_written_same, cells_written, row_at}
 use Rattle.snippet_strokes.proofs.Common.{length-written, Cell, SPACE, text_cells, written, Write, painted}
-use Rattle.snippet_strokes.proofs.OneStep.{written_by}
+use Rattle.snippet_strokes.proofs.CellLemmas.{written_by}
 
 -- cells of two rows may be written in either order
 pub rows-swap : (rows : List (List Cell)) (r q at from : ℕ) (xs ys : List Cell) → r ≢ q

@@ -1,11 +1,44 @@
 -- What is seen of the rows of a line: of its source row, with what stands in it, and of the rows of its strokes below it.
-use Rattle.std.specs.Prelude.{◌≡◌, ℕ, ◌+◌, ◌<◌, ◌≤◌, ◌==◌, ◌&&◌, Bool, true, false, List, [], ◌∷◌, All, length, take, drop}
-use Rattle.snippet_strokes.proofs.Common.{slice_index_or, AnnotationKind, LineAnnotation, AreReplaced, DecorStyle, placeholder_of, row_text, row_at, Cell}
-use Rattle.snippet_strokes.proofs.Common.{SPACE, text_cells, Layout, inner_cell, space_cell, IsMarkCell, IsBarCell, is_mark_role, label_role, label_text}
-use Rattle.snippet_strokes.proofs.Common.{IsFree, bare_row, is_uncut}
-use Rattle.snippet_strokes.proofs.PlainEntries.{EntryCovers, IsEntryMark, are_plain, wide_entries}
+use Rattle.std.specs.Prelude.{◌≡◌, ℕ, ◌<◌, ◌≤◌, ◌==◌, ◌&&◌, nat_lt, Bool, false, List, Contains, length, count_by, ◌+◌, true, []}
+use Rattle.std.specs.Prelude.{◌∷◌, All, take, drop}
+use Rattle.snippet_strokes.proofs.Common.{list_all, is_primary, AnnotationKind, Primary, LineAnnotation, is_single_part, DecorStyle, entry_width, is_wide_entry}
+use Rattle.snippet_strokes.proofs.Common.{placeholder_of, slice_index_or, AreReplaced, row_text, row_at, Cell, SPACE, text_cells, Layout, inner_cell}
+use Rattle.snippet_strokes.proofs.Common.{space_cell, IsMarkCell, IsBarCell, is_mark_role, label_role, label_text, IsFree, bare_row, is_uncut}
 use Rattle.snippet_strokes.proofs.SeenLabels.{IsLabelledAtEnd, LabelsStand}
 use Rattle.snippet_strokes.proofs.DrawnCells.{StandsFrom}
+
+-- Entries that stand for whole spans, and the marks that they leave below columns.
+-- how many entries of a line are wide, in a room of so many columns
+abbrev pub wide_entries : ℕ → DecorStyle → List LineAnnotation → ℕ
+wide_entries room decor es = count_by (is_wide_entry room (length (placeholder_of decor))) es
+
+-- the entry covers this column
+abbrev pub EntryCovers : LineAnnotation → ℕ → Type 0
+EntryCovers e p = (e.start.display ≤ p) × (p < e.end.display)
+
+-- whether an entry stands for a whole span
+abbrev pub is_single : LineAnnotation → Bool
+is_single e = is_single_part e.annotation_type
+
+-- whether an entry covers a column
+abbrev pub has_column : LineAnnotation → Bool
+has_column e = nat_lt e.start.display e.end.display
+
+-- whether the marks of a line are promised: each of its entries stands for a whole span and covers a column, and none is
+-- wide
+abbrev pub are_plain : ℕ → DecorStyle → List LineAnnotation → Bool
+are_plain room decor es = list_all is_single es && (list_all has_column es && wide_entries room decor es == 0)
+
+-- the mark of column p has this kind: that of an entry which is among the narrowest that cover the column; where it
+-- isn't primary, each primary entry there is wider, so that a primary one wins where both kinds have the least width
+pub record IsEntryMark (es : List LineAnnotation) (p : ℕ) (kind : AnnotationKind) : Type 0 where
+  pub entry : LineAnnotation
+  pub among : Contains es entry
+  pub covers : EntryCovers entry p
+  pub is : entry.kind ≡ kind
+  pub least : (other : LineAnnotation) → Contains es other → EntryCovers other p → entry_width entry ≤ entry_width other
+  pub primary_wins : is_primary kind ≡ false → (other : LineAnnotation) → Contains es other → EntryCovers other p → other.kind ≡ Primary
+      → entry_width entry < entry_width other
 
 -- below each column that has a mark the row holds it, and below each column that no entry covers no cell is in the role of
 -- marks. Where no entry has a label that shows anything, a space stands there; after the mark of a line's one entry stand

@@ -1,25 +1,86 @@
 -- Laws of the cells of bars beside a line and beside lines that are left out: where no bar has its place the row stays as it is.
-use Rattle.snippet_strokes.proofs.Common.{◌≡◌, ◌≢◌, ℕ, ◌+◌, ◌<◌, Bool, false, not, Some, List, [], ◌∷◌, ◌++◌, ◌==◌, All}
-use Rattle.snippet_strokes.proofs.Common.{Contains, map, length, get_or, ap, ◌∙◌, refl, arith, inl, inr, cases_Bool, false_from_ne_true, eqb-true}
-use Rattle.snippet_strokes.proofs.Common.{get_or-map, get_or_past, length-map, All-append, All-cons, All-filter, All-map, All-nil, Cell, SPACE, strokes_of}
-use Rattle.snippet_strokes.proofs.Common.{cell_at, row_at, is_primary, LineAnnotation, LineAnnotationType, Singleline, MultilineStart, MultilineEnd}
-use Rattle.snippet_strokes.proofs.Common.{MultilineLine, all_among, among_filter_map, Layout, PlacedEntry, shifted, painting_order, stroke_role, Write}
-use Rattle.snippet_strokes.proofs.Common.{glyph_at, painted, entries_all, Dotted, Solid, Top, Bar, bar_at, bars_apart, ends_of_bars, row_count}
-use Rattle.snippet_strokes.proofs.Common.{bare_elision_row, gap_row, column_of, connector_of, corner_of, connectors_of, corners_of, labels_of, HasOwnDepth}
-use Rattle.snippet_strokes.proofs.Common.{bar_of, has_depth, is_whole_line, stems_of}
-use Rattle.snippet_strokes.proofs.BarParts.{with_parts}
+use Rattle.snippet_strokes.proofs.Common.{◌≡◌, ℕ, ◌+◌, ◌<◌, ◌≤◌, ◌∷◌, ◌++◌, [], List, length, replicate, get_or, All, refl, ap}
+use Rattle.snippet_strokes.proofs.Common.{◌∙◌, arith, get_or_past, each_fails, length-text_cells, DecorStyle, Ascii, Unicode, LineNumber, elision_of}
+use Rattle.snippet_strokes.proofs.Common.{Cell, SPACE, text_cells, is_listed, Layout, OpenBar, Dotted, HasBarRoom, barred, gap_row, IsFree, IsElisionRow}
+use Rattle.snippet_strokes.proofs.Common.{bare_elision_row, free_drawn, ◌==◌, ◌&&◌, cond, nat_lt, Bool, true, false, None, map, sym, subst, inl, inr}
+use Rattle.snippet_strokes.proofs.Common.{slice_index_or, cases_Bool, cases_lt, false≢true, All-append, All-cons, All-from_get_or, All-get_or, All-head}
+use Rattle.snippet_strokes.proofs.Common.{All-nil, All-same, All-tail, LineNumbers, shown_number, AnnotatedLineInfo, LineAnnotation, ElementStyle, separator_of}
+use Rattle.snippet_strokes.proofs.Common.{gives_way, unlinked_cell, norm, IsFreeCell, Margin, shifted, Solid, Top, bars_apart, ends_of_bars, AreDrawable}
+use Rattle.snippet_strokes.proofs.Common.{LineView, gap_rows, info_rows, infos_rows, is_whole_line, open_below, window_cells, ◌≢◌, not, Some, Contains}
+use Rattle.snippet_strokes.proofs.Common.{false_from_ne_true, eqb-true, get_or-map, length-map, All-filter, All-map, strokes_of, cell_at, row_at, is_primary}
+use Rattle.snippet_strokes.proofs.Common.{LineAnnotationType, Singleline, MultilineStart, MultilineEnd, MultilineLine, all_among, among_filter_map, PlacedEntry}
+use Rattle.snippet_strokes.proofs.Common.{painting_order, stroke_role, Write, glyph_at, painted, entries_all, Bar, bar_at, row_count, column_of, connector_of}
+use Rattle.snippet_strokes.proofs.Common.{corner_of, connectors_of, corners_of, labels_of, HasOwnDepth, bar_of, has_depth, stems_of}
+use Rattle.snippet_strokes.proofs.BarRows.{barred-below}
+use Rattle.snippet_strokes.proofs.BarLemmas.{BarsDrawn-with_parts, bar_space, AreSeen-drawn, whole_seen}
+use Rattle.snippet_strokes.proofs.RowLemmas.{free_led, length-led}
+use Rattle.std.proofs.Common.{chars}
+use Rattle.snippet_strokes.proofs.CellLemmas.{with_parts, begun_rows, corner_by, drawn_strokes, marks_of}
+use Rattle.snippet_strokes.proofs.WriteLaws.{AreLineRows, AreOwnRows, CanBeShown, IsHighlighted, IsSourceRow, ShowsLine, StrokesPainted, All-flat_map}
+use Rattle.snippet_strokes.proofs.WriteLaws.{painted-untouched}
+use Rattle.snippet_strokes.proofs.LineFromValue.{info_rows_show, rows_cut}
+use Rattle.snippet_strokes.proofs.LabelPlaces.{none_seen}
+use Rattle.snippet_strokes.proofs.OpenLemmas.{room_apart, room_below, room_ends}
+use Rattle.snippet_strokes.proofs.SplitRows.{painted_seen}
+use Rattle.snippet_strokes.proofs.SeenRows.{AreSeen, HasNoBars}
+use Rattle.snippet_strokes.proofs.ShiftLemmas.{shifted_bars, shifted_places}
 use Rattle.snippet_strokes.proofs.BarFacts.{BarBegins}
-use Rattle.snippet_strokes.proofs.LineFacts.{AreLineRows, AreOwnRows, StrokesPainted}
-use Rattle.snippet_strokes.proofs.LineRowLemmas.{rows_cut}
 use Rattle.snippet_strokes.proofs.Reach.{Reaches}
-use Rattle.snippet_strokes.proofs.StrokeWords.{begun_rows, corner_by}
-use Rattle.snippet_strokes.proofs.Drawn.{drawn_strokes, marks_of}
 use Rattle.snippet_strokes.proofs.AmongLaws.{all_from_among}
 use Rattle.snippet_strokes.proofs.BarWrites.{All-column_of, All-connector_of, All-stretch_of}
-use Rattle.snippet_strokes.proofs.ElisionLemmas.{bare_elision_short}
 use Rattle.snippet_strokes.proofs.EntryBarLaws.{is_at, labels_right, marks_right, part_leaves, stems_right}
 use Rattle.snippet_strokes.proofs.EndBarLaws.{bar_begins, left_same, passed_by, past_apart, some_entries}
-use Rattle.snippet_strokes.proofs.WriteLaws.{All-flat_map, painted-untouched}
+
+-- The row that stands for lines that are left out.
+-- the cell from which the sign stands
+abbrev pub elision_cell : DecorStyle → ℕ → ℕ
+elision_cell Ascii gutter = 0
+elision_cell Unicode gutter = gutter + 1
+
+-- spaces and the glyph for lines that are left out are its bare row
+pub bare_elision_is : (decor : DecorStyle) (gutter : ℕ)
+    → replicate (elision_cell decor gutter) SPACE ++ text_cells LineNumber (elision_of decor) ≡ bare_elision_row decor gutter
+bare_elision_is Ascii gutter = refl
+bare_elision_is Unicode gutter = refl
+
+-- the glyph for lines that are left out has a character
+pub elision_some : (decor : DecorStyle) → 0 < length (elision_of decor)
+elision_some Ascii = omega arith
+elision_some Unicode = omega arith
+
+-- it is short
+pub bare_elision_short : (decor : DecorStyle) (gutter : ℕ) → length (bare_elision_row decor gutter) ≤ gutter + 3
+bare_elision_short Ascii gutter = omega (arith, length-text_cells LineNumber (elision_of Ascii))
+bare_elision_short Unicode gutter = omega (arith, length-led (gutter + 1) (elision_of Unicode))
+
+-- and holds no listed character
+free_bare_elision : (decor : DecorStyle) (gutter : ℕ) → IsFree (bare_elision_row decor gutter)
+free_bare_elision Ascii gutter = free_drawn LineNumber (elision_of Ascii) (each_fails is_listed (elision_of Ascii) refl)
+free_bare_elision Unicode gutter = free_led (gutter + 1) (elision_of Unicode) (each_fails is_listed (elision_of Unicode) refl)
+
+-- the row with its bars stands for lines that are left out
+pub gap_drawn : (layout : Layout) (open_bars : List OpenBar) → layout.gutter + 3 ≤ layout.code → All (HasBarRoom layout) open_bars
+    → IsElisionRow layout (gap_row layout open_bars)
+gap_drawn layout open_bars place room =
+    let bare = bare_elision_row layout.decor layout.gutter in
+    let drawn = BarsDrawn-with_parts layout Dotted open_bars bare room in
+    let few = bare_elision_short layout.decor layout.gutter in
+    record {
+      left = drawn.left;
+      bar_cells = λ c from to. drawn.bar_cells c (bar_space layout.decor (get_or bare c SPACE)
+          (ap (λ (cell : Cell). cell.ch) (get_or_past bare c SPACE (omega (arith, few, from))))
+          (ap (λ (cell : Cell). cell.link) (get_or_past bare c SPACE (omega (arith, few, from)))));
+      ends = omega (arith, drawn.short, few, place);
+      free = drawn.free (free_bare_elision layout.decor layout.gutter);
+    }
+
+-- the bare row with its bars was added
+pub gap_added : (layout : Layout) (open_bars : List OpenBar) (old begun new : List (List Cell)) (row : ℕ) → row ≡ length old
+    → begun ≡ old ++ bare_elision_row layout.decor layout.gutter ∷ [] → new ≡ barred layout Dotted open_bars row begun
+    → new ≡ old ++ gap_row layout open_bars ∷ []
+gap_added layout open_bars old begun new row last begins value =
+    value ∙ ap (λ r. barred layout Dotted open_bars r begun) last ∙ ap (barred layout Dotted open_bars (length old)) begins
+    ∙ barred-below layout Dotted open_bars old (bare_elision_row layout.decor layout.gutter ∷ [])
 
 -- where no bar of a line has this depth no start and no end has it
 pub none_has : (depth : ℕ) (es : List LineAnnotation) → All (λ b. b.depth ≢ depth) (ends_of_bars es)
@@ -167,3 +228,133 @@ module _ (layout : Layout) (bar : Bar) (room : layout.gutter + 2 + bar.depth < l
       ap (λ cells. get_or cells (layout.gutter + 2 + bar.depth) SPACE) row
       ∙ passed_by layout bar room Solid past (row_at drawn.own 0) (past_apart layout bar room es among alone open_bars)
       ∙ painted_source layout bar.depth room width closes dropped es source drawn.own none strokes ∙ blank)
+
+-- What is seen of the rows of lines, which are a value: what stands in their source rows, and in the rows of their strokes.
+-- highlighting puts no other character into a row
+highlighted_free : (code dropped : ℕ) (es : List LineAnnotation) (plain row : List Cell) → IsHighlighted code dropped es plain row → IsFree plain → IsFree row
+highlighted_free code dropped es plain row is free =
+    let P : Cell → Type 0 = IsFreeCell in
+    All-from_get_or P row SPACE (λ c within.
+    let inside : c < length plain = omega (arith, is.width, within) in
+    subst P (sym (is.cells c inside)) (All-get_or P plain c SPACE inside free))
+
+-- a cell in the role of line numbers is no space
+not_space : (role : ElementStyle) → gives_way role ≡ false → (ch : ℕ) → unlinked_cell role ch ≡ SPACE → ⊥
+not_space role keeps ch same =
+    false≢true (sym keeps ∙ ap (λ (cell : Cell). gives_way cell.role) same)
+
+-- the source row of a line reaches to the separator, and spaces stand in the place of bars
+source_row_long : (layout : Layout) (shown : List ℕ) (cells row : List Cell) → IsSourceRow layout shown cells row → layout.gutter + 2 ≤ length row
+source_row_long layout shown cells row is =
+    elim (cases_lt (layout.gutter + 1) (length row)) [
+      | inl reaches ↦ omega (arith, reaches)
+      | inr short ↦ absurd (not_space LineNumber refl (separator_of layout.decor) (sym is.separator ∙ get_or_past row (layout.gutter + 1) SPACE short))
+    ]
+
+-- highlighting changes roles alone
+highlighted_cell : (code dropped : ℕ) (es : List LineAnnotation) (plain row : List Cell) → IsHighlighted code dropped es plain row → (c : ℕ)
+    → slice_index_or plain c SPACE ≡ SPACE → ((slice_index_or row c SPACE).ch ≡ 32) × ((slice_index_or row c SPACE).link ≡ None)
+highlighted_cell code dropped es plain row is c space =
+    elim (cases_lt c (length plain)) [
+      | inl inside ↦ (
+        ap (λ (cell : Cell). cell.ch) (is.cells c inside) ∙ ap (λ (cell : Cell). cell.ch) space,
+        ap (λ (cell : Cell). cell.link) (is.cells c inside) ∙ ap (λ (cell : Cell). cell.link) space,
+      )
+      | inr past ↦
+          let outside : slice_index_or row c SPACE ≡ SPACE = get_or_past row c SPACE (omega (arith, past, is.width)) in (
+            ap (λ (cell : Cell). cell.ch) outside,
+            ap (λ (cell : Cell). cell.link) outside,
+          )
+    ]
+
+no_bars : (layout : Layout) (shown : List ℕ) (cells : List Cell) (dropped : ℕ) (es : List LineAnnotation) (plain row : List Cell)
+    → IsSourceRow layout shown cells plain → length shown ≤ layout.gutter + 1 → IsHighlighted layout.code dropped es plain row → HasNoBars layout row
+no_bars layout shown cells dropped es plain row source short is = (
+  omega (arith, is.width, source_row_long layout shown cells plain source),
+  λ c from to.
+      let cell = highlighted_cell layout.code dropped es plain row is c (source.blank c (omega (arith, short, from)) (λ same. omega (arith, same, from)) to) in
+      bar_space layout.decor (slice_index_or row c SPACE) cell.0 cell.1,
+)
+
+module _ (layout : Layout) (room : ℕ) (closes : Bool) (text : List ℕ) (dropped : ℕ) (source : List Cell) (place : layout.gutter + 3 ≤ layout.code)
+    (bare : HasNoBars layout source) where
+  abbrev Seen : List LineAnnotation → List (List Cell) → Type 0
+  Seen es rows = AreSeen layout room (map (shifted dropped) es) closes source rows
+
+  -- what is seen of the rows that a line has by its own entries
+  own_seen : (es : List LineAnnotation) (rows : List (List Cell)) → AreDrawable layout es → AreOwnRows layout room closes text dropped es source rows
+      → Seen es rows
+  own_seen [] rows drawable are = subst (Seen []) (sym (are.none refl)) (none_seen layout room closes source place bare)
+  own_seen (e ∷ es) rows drawable are =
+      let all : List LineAnnotation = e ∷ es in
+      elim (cases_Bool (is_whole_line text all)) [
+        | inl whole ↦
+            subst (Seen all) (sym (are.whole whole)) (AreSeen-drawn layout room (map (shifted dropped) all) closes source (source ∷ [])
+            (with_parts layout Top (ends_of_bars all)) bare.0
+            (λ cells. BarsDrawn-with_parts layout Top (ends_of_bars all) cells (room_ends layout all drawable.bar_cells))
+            (whole_seen layout text room dropped closes all source whole bare))
+        | inr other ↦
+            painted_seen layout room closes (map (shifted dropped) all) source rows place (shifted_places dropped all drawable.columns)
+            (shifted_bars layout dropped all drawable.bar_cells) bare (are.strokes other (omega arith))
+      ]
+
+  -- and of all its rows, beside which bars run past
+  rows_seen : (open_bars : List OpenBar) (es : List LineAnnotation) (rows : List (List Cell)) → All (HasBarRoom layout) open_bars → AreDrawable layout es
+      → AreLineRows layout room closes text dropped open_bars es source rows → Seen es rows
+  rows_seen open_bars es rows fit drawable are =
+      let past : List OpenBar = bars_apart open_bars (ends_of_bars es) in
+      subst (Seen es) (sym are.rows_are) (AreSeen-drawn layout room (map (shifted dropped) es) closes source are.own (with_parts layout Solid past) bare.0
+      (λ cells. BarsDrawn-with_parts layout Solid past cells (room_apart layout open_bars (ends_of_bars es) fit))
+      (own_seen es are.own drawable are.are))
+
+-- no row of them holds a listed character
+seen_free : (layout : Layout) (room : ℕ) (es : List LineAnnotation) (closes : Bool) (plain : List Cell) (rows : List (List Cell))
+    → AreSeen layout room es closes plain rows → IsFree plain → All IsFree rows
+seen_free layout room es closes plain rows seen free =
+    All-same IsFree rows (seen.source ∷ seen.below) seen.rows_are (All-cons IsFree seen.source seen.below (seen.beside.free free)
+    (All-from_get_or IsFree seen.below [] (λ k within. (seen.strokes.are k within).free)))
+
+-- the row for lines that are left out holds no listed character
+free_gap : (layout : Layout) (open_bars : List OpenBar) (number : ℕ) (infos : List AnnotatedLineInfo) → layout.gutter + 3 ≤ layout.code
+    → All (HasBarRoom layout) open_bars → All IsFree (gap_rows layout open_bars number infos)
+free_gap layout open_bars number [] place room = All-nil IsFree
+free_gap layout open_bars number (next ∷ infos) place room =
+    let gap : List Cell = gap_row layout open_bars in
+    elim (nat_lt (number + 1) next.line_index) as (λ b. All IsFree (cond b (gap ∷ []) [])) [
+      | true ↦ All-cons IsFree gap [] (gap_drawn layout open_bars place room).free (All-nil IsFree)
+      | false ↦ All-nil IsFree
+    ]
+
+module _ (layout : Layout) (margin : Margin) (numbers : LineNumbers) (place : layout.gutter + 3 ≤ layout.code) where
+  -- what is seen of the rows that show a line
+  pub line_seen : (closes : Bool) (open_bars : List OpenBar) (info : AnnotatedLineInfo) (rows : List (List Cell)) → All (HasBarRoom layout) open_bars
+      → length (shown_number numbers layout.gutter info.line_index) ≤ layout.gutter + 1 → AreDrawable layout info.annotations.items
+      → (shows : ShowsLine layout margin numbers closes open_bars info rows)
+      → AreSeen layout margin.term_width (map (shifted shows.dropped) info.annotations.items) closes shows.highlighted rows
+  line_seen closes open_bars info rows fit short drawable shows =
+      let text = norm (chars info.line.now) in
+      rows_seen layout margin.term_width closes text shows.dropped shows.highlighted place
+      (no_bars layout (shown_number numbers layout.gutter info.line_index) (window_cells layout.decor margin text) shows.dropped _ shows.plain
+      shows.highlighted shows.shows short shows.highlights) open_bars info.annotations.items rows fit drawable shows.drawn
+
+-- no row of lines that can be shown holds a listed character
+pub infos_free : (layout : Layout) (view : LineView) (open_bars : List OpenBar) (infos : List AnnotatedLineInfo) → layout.gutter + 3 ≤ layout.code
+    → All (HasBarRoom layout) open_bars → All (CanBeShown layout view.margin view.numbers) infos → All IsFree (infos_rows layout view open_bars infos)
+infos_free layout view open_bars [] place fit all = All-nil IsFree
+infos_free layout view open_bars (info ∷ infos) place fit all =
+    let Can : AnnotatedLineInfo → Type 0 = CanBeShown layout view.margin view.numbers in
+    let es = info.annotations.items in
+    let can : Can info = All-head Can info infos all in
+    let own : LineView = record view { closes = view.closes && length infos == 0 } in
+    let below : List OpenBar = open_below open_bars es in
+    let below_fit : All (HasBarRoom layout) below = room_below layout open_bars es fit can.entries.bar_cells in
+    let first : List (List Cell) = info_rows layout own open_bars info in
+    let shows : ShowsLine layout view.margin view.numbers own.closes open_bars info first = info_rows_show layout own open_bars info place can in
+    let seen = line_seen layout view.margin view.numbers place own.closes open_bars info first fit can.number can.entries shows in
+    let free = highlighted_free layout.code shows.dropped _ shows.plain shows.highlighted shows.highlights shows.shows.free in
+    let between : List (List Cell) = gap_rows layout below info.line_index infos in
+    let rest : List (List Cell) = infos_rows layout view below infos in
+    All-append IsFree first (between ++ rest)
+    (seen_free layout view.margin.term_width (map (shifted shows.dropped) es) own.closes shows.highlighted first seen free)
+    (All-append IsFree between rest (free_gap layout below info.line_index infos place below_fit)
+    (infos_free layout view below infos place below_fit (All-tail Can info infos all)))

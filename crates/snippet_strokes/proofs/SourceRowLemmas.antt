@@ -7,8 +7,8 @@ use Rattle.snippet_strokes.proofs.Common.{text_cells, unlinked_cell, written, le
 use Rattle.snippet_strokes.proofs.Common.{slice_index_or-written_before, slice_index_or-written_after, is_listed, IsFreeCell, IsFree, free_drawn, Layout}
 use Rattle.snippet_strokes.proofs.Common.{source_row, with_cells, separator_row, texted, text_put, free_separator_row, free_written}
 use Rattle.std.proofs.Common.{chars}
-use Rattle.snippet_strokes.proofs.LineFacts.{IsSourceRow}
-use Rattle.snippet_grid.proofs.RowLemmas.{separator_row-begun as begun}
+use Rattle.snippet_strokes.proofs.WriteLaws.{IsSourceRow}
+use Rattle.snippet_grid.proofs.ReplaceLemmas.{separator_row-begun as begun}
 
 -- writing from a list's start on
 written_start : (xs new : List Cell) → written SPACE xs 0 new ≡ new ++ drop (length new) xs

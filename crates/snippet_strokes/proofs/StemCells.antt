@@ -5,18 +5,23 @@ use Rattle.snippet_strokes.proofs.Common.{list_any, range_with_len, and_parts, c
 use Rattle.snippet_strokes.proofs.Common.{get_or-map-range_with_len, length-map-range_with_len, cell_at, is_primary, Cell, unlinked_cell, strokes_of}
 use Rattle.snippet_strokes.proofs.Common.{underline_role, DecorStyle, Layout, PlacedEntry, stroke_role, has_label, has_stem, takes_space, Write, glyph_at}
 use Rattle.snippet_strokes.proofs.Common.{painted, stretch_of, IsStemCell, stem_glyphs, label_of, stem_of, first_glyph, mark_end, foot_glyph, connectors_of}
-use Rattle.snippet_strokes.proofs.Common.{corners_of, labels_of, is_stem_covered, stems_of}
+use Rattle.snippet_strokes.proofs.Common.{corners_of, labels_of, is_stem_covered, stems_of, take, drop, replicate, ◌∙◌, cases_eq, eq-eqb, length-append}
+use Rattle.snippet_strokes.proofs.Common.{length-map, length-replicate, take-append-drop, All-append, All-map, get_or-range_with_len, length-range_with_len}
+use Rattle.snippet_strokes.proofs.Common.{bar_cell, code_cell, inner_cell, separator_row, ElementStyle, LineAnnotation, LineAnnotationType, MultilineEnd}
+use Rattle.snippet_strokes.proofs.Common.{MultilineLine, MultilineStart, Singleline, label_place, placed_of, overlapped, row_count, HasRows, painting_order}
+use Rattle.snippet_strokes.proofs.Common.{bare_row, column_of, connector_of, corner_of, stroke_rows, Option, None, Some, option_map_or, map-append, take-map}
+use Rattle.snippet_strokes.proofs.Common.{drop-map, Margin, inner_part, covered_columns, uncovered_part, covered_end, window, LineNumber, Quotation}
+use Rattle.snippet_strokes.proofs.Common.{placeholder_of, SPACE, text_cells, written, row_text, window_cells, begun_cells, ended_cells, row_text-text_cells}
 use Rattle.snippet_strokes.proofs.StrokeGlyphs.{of_foot, stems_among}
-use Rattle.snippet_strokes.proofs.OneStep.{written_by}
-use Rattle.snippet_strokes.proofs.WriteLemmas.{painted-append}
+use Rattle.snippet_strokes.proofs.CellLemmas.{written_by, drawn_mark, drawn_strokes, marks_of, stem_write, cut_row, bar_writes, begun_rows, corner_by}
+use Rattle.snippet_strokes.proofs.CellLemmas.{above_zero}
+use Rattle.snippet_strokes.proofs.WriteLaws.{painted-append, All-label_of, All-flat_map, cell-written, painted-cell, painted-count}
 use Rattle.snippet_strokes.proofs.Reach.{Reaches, cell_of_write}
-use Rattle.snippet_strokes.proofs.Drawn.{drawn_mark, drawn_strokes, marks_of}
-use Rattle.snippet_strokes.proofs.StrokeWords.{stem_write}
-use Rattle.snippet_strokes.proofs.BarWrites.{All-stretch_of}
-use Rattle.snippet_strokes.proofs.LabelWrites.{All-label_of}
-use Rattle.snippet_strokes.proofs.StemWrites.{All-stem_of, All-stems_of, stems_next, stems_skip}
+use Rattle.snippet_strokes.proofs.BarWrites.{All-stretch_of, All-stem_of, All-stems_of, stems_next, stems_skip, All-connector_of}
 use Rattle.snippet_strokes.proofs.StrokeCells.{BesideLabels}
-use Rattle.snippet_strokes.proofs.WriteLaws.{All-flat_map, cell-written, painted-cell}
+use Rattle.snippet_strokes.proofs.CutWords.{cuts_of}
+use Rattle.snippet_strokes.proofs.PositionLemmas.{HasRows-row_count, row_count_some}
+use Rattle.snippet_strokes.proofs.CutLemmas.{stroke_rows-cut}
 
 -- ---- glyphs
 
@@ -185,3 +190,163 @@ pub all_hung : (layout : Layout) (row count : ℕ) (placed order : List PlacedEn
 all_hung layout row count placed order rows k d within has b some low beside =
     stem_of_strokes layout (row + 1 + b) (layout.code + (get_or placed k d).entry.start.display) row count placed order rows k b d within has some low refl
     refl beside
+
+-- Strokes stay in the rows that there are, so a line has as many rows as its entries ask for, and its source row.
+module _ (layout : Layout) (count : ℕ) where
+  -- a write into one of so many rows
+  abbrev Inside : Write → Type 0
+  Inside w = w.row < count
+
+  column_inside : (start end cell glyph : ℕ) (role : ElementStyle) → end ≤ count → All Inside (column_of start end cell glyph role)
+  column_inside start end cell glyph role low =
+      All-map Inside (λ row. glyph_at row cell glyph role) (range_with_len start (end - start)) (λ k d within.
+      let inside : k < end - start = omega (arith, within, length-range_with_len start (end - start)) in
+      omega (arith, low, inside, get_or-range_with_len start (end - start) k d inside))
+
+  corner_inside : (e : PlacedEntry) → 1 + e.position < count → All Inside (corner_of layout 0 count e)
+  corner_inside e mark = by_part e.entry.annotation_type
+    where
+      by_part : (part : LineAnnotationType) → All Inside (corner_by layout 0 count e part)
+      by_part Singleline = All-nil Inside
+      by_part (MultilineStart depth) =
+          let corner : ℕ = 0 + 1 + e.position in
+          All-cons Inside (glyph_at corner (bar_cell layout depth) (strokes_of layout.decor (is_primary e.entry.kind)).bar_top (stroke_role e))
+          (bar_writes layout e depth (corner + 1) count) (omega (arith, mark))
+          (column_inside (corner + 1) count (bar_cell layout depth) (strokes_of layout.decor (is_primary e.entry.kind)).bar (stroke_role e) (omega arith))
+      by_part (MultilineEnd depth) =
+          let corner : ℕ = 0 + 1 + e.position in
+          let foot : Write = glyph_at corner (bar_cell layout depth) (strokes_of layout.decor (is_primary e.entry.kind)).bar_bottom (stroke_role e) in
+          All-append Inside (bar_writes layout e depth 0 corner) (foot ∷ [])
+          (column_inside 0 corner (bar_cell layout depth) (strokes_of layout.decor (is_primary e.entry.kind)).bar (stroke_role e) (omega (arith, mark)))
+          (All-cons Inside foot [] (omega (arith, mark)) (All-nil Inside))
+      by_part (MultilineLine depth) = All-nil Inside
+
+  label_inside : (e : PlacedEntry) → HasRows 1 count e → has_label e ≡ true → 1 + (label_place e).0 < count
+  label_inside e rows has =
+      elim (cases_eq e.position 0) [
+        | inl beside ↦ rw (eq-eqb e.position 0 beside) (omega (arith, rows.mark, beside))
+        | inr some ↦
+            let hung : 0 < e.position = omega (arith, some) in
+            rw (above_zero e.position hung) (omega (arith, rows.label hung has))
+      ]
+
+  mark_inside : (e : PlacedEntry) → 1 < count → All Inside (drawn_mark layout 1 e)
+  mark_inside e some =
+      let from : ℕ = code_cell layout e.entry.start.display in
+      let to : ℕ = code_cell layout (mark_end e) in
+      let first : Write = glyph_at 1 from (first_glyph layout.decor e) (stroke_role e) in
+      let rest : List Write = stretch_of 1 (from + 1) to (strokes_of layout.decor (is_primary e.entry.kind)).underline (stroke_role e) in
+      elim (nat_lt from to) as (λ b. All Inside (cond b (first ∷ rest) [])) [
+        | true ↦ All-cons Inside first rest some
+            (All-stretch_of Inside 1 (from + 1) to (strokes_of layout.decor (is_primary e.entry.kind)).underline (stroke_role e) some)
+        | false ↦ All-nil Inside
+      ]
+
+  pub strokes_inside : (placed order : List PlacedEntry) → 1 < count → All (HasRows 1 count) placed → All Inside (drawn_strokes layout 0 count placed order)
+  strokes_inside placed order some rows =
+      let connectors : All Inside (connectors_of layout 1 placed) = All-flat_map Inside (connector_of layout 1) placed (λ k d within.
+      let e : PlacedEntry = get_or placed k d in
+      All-connector_of Inside layout 1 e (λ depth. All-stretch_of Inside (1 + e.position) (inner_cell layout + depth) (code_cell layout e.entry.start.display)
+      (strokes_of layout.decor (is_primary e.entry.kind)).connector (stroke_role e) (rows k d within).mark)) in
+      let corners : All Inside (corners_of layout 0 count placed) = All-flat_map Inside (corner_of layout 0 count) placed (λ k d within.
+      corner_inside (get_or placed k d) (rows k d within).mark) in
+      let stems : All Inside (stems_of layout 1 placed) = All-stems_of Inside layout 1 placed (λ k d within.
+      All-stem_of Inside layout 1 (get_or placed k d) (λ b low. omega (arith, (rows k d within).mark, low))) in
+      let labels : All Inside (labels_of layout 1 placed) = All-flat_map Inside (label_of layout 1) placed (λ k d within.
+      All-label_of Inside layout 1 (get_or placed k d) (label_inside (get_or placed k d) (rows k d within))) in
+      let marks : All Inside (marks_of layout 1 order) = All-flat_map Inside (drawn_mark layout 1) order (λ k d within.
+      mark_inside (get_or order k d) some) in
+      All-append Inside (connectors_of layout 1 placed ++ corners_of layout 0 count placed ++ stems_of layout 1 placed ++ labels_of layout 1 placed)
+      (marks_of layout 1 order)
+      (All-append Inside (connectors_of layout 1 placed ++ corners_of layout 0 count placed ++ stems_of layout 1 placed) (labels_of layout 1 placed)
+      (All-append Inside (connectors_of layout 1 placed ++ corners_of layout 0 count placed) (stems_of layout 1 placed)
+      (All-append Inside (connectors_of layout 1 placed) (corners_of layout 0 count placed) connectors corners) stems) labels) marks
+
+-- the rows over which strokes are painted stay as many
+pub painted_rows-count : (layout : Layout) (closes : Bool) (placed order : List PlacedEntry) (source : List Cell)
+    → length (painted (drawn_strokes layout 0 (row_count placed + 1) placed order) (begun_rows layout closes (row_count placed) source)) ≡ row_count placed + 1
+painted_rows-count layout closes placed order source =
+    let count : ℕ = row_count placed in
+    let seps : List (List Cell) = replicate (count - 1) (separator_row layout.decor layout.gutter) in
+    let last : List Cell = bare_row layout.decor layout.gutter closes in
+    let some : 0 < count = row_count_some placed in
+    let bare : count + 1 ≡ length (begun_rows layout closes count source) = omega (
+      arith,
+      some,
+      length-append seps (last ∷ []),
+      length-replicate (count - 1) (separator_row layout.decor layout.gutter),
+    ) in
+    let rows : All (HasRows 1 (count + 1)) placed = HasRows-row_count 1 (count + 1) placed (omega arith) in
+    painted-count (drawn_strokes layout 0 (count + 1) placed order) (begun_rows layout closes count source) (count + 1) bare
+    (strokes_inside layout (count + 1) placed order (omega (arith, some)) rows)
+
+-- so there are as many rows of strokes as the entries ask for, and the source row
+pub stroke_rows-count : (layout : Layout) (room : ℕ) (closes : Bool) (es : List LineAnnotation) (source : List Cell)
+    → length (stroke_rows layout room closes es source) ≡ row_count (placed_of es) + 1
+stroke_rows-count layout room closes es source =
+    let placed : List PlacedEntry = placed_of es in
+    let order : List PlacedEntry = painting_order placed in
+    let whole : List (List Cell) = painted (drawn_strokes layout 0 (row_count placed + 1) placed order) (begun_rows layout closes (row_count placed) source) in
+    let cut : List Cell → List Cell = cut_row layout.decor (cuts_of layout room order (overlapped placed)) in
+    ap length (stroke_rows-cut layout room closes es source)
+    ∙ length-append (map cut (take 2 whole)) (drop 2 whole) ∙ ap (λ n. n + length (drop 2 whole)) (length-map (take 2 whole) cut)
+    ∙ sym (length-append (take 2 whole) (drop 2 whole)) ∙ ap length (take-append-drop 2 whole) ∙ painted_rows-count layout closes placed order source
+
+-- The text that the cells of a window print.
+-- the characters of cells that were written
+map-replicate : {X Y : Type 0} (f : X → Y) (n : ℕ) (x : X) → map f (replicate n x) ≡ replicate n (f x)
+map-replicate f zero x = refl
+map-replicate f (suc n) x = ap (λ ys. f x ∷ ys) (map-replicate f n x)
+
+row_text-written : (cells : List Cell) (at : ℕ) (new : List Cell) → row_text (written SPACE cells at new) ≡ written 32 (row_text cells) at (row_text new)
+unfolding written
+row_text-written cells at new =
+    let f : Cell → ℕ = λ c. c.ch in
+    let pad : map f (replicate (at - length cells) SPACE) ≡ replicate (at - length (map f cells)) 32 = map-replicate f (at - length cells) SPACE
+    ∙ ap (λ n. replicate (at - n) 32) (sym (length-map cells f)) in
+    let front : map f (take at (cells ++ replicate (at - length cells) SPACE)) ≡ take at (map f cells ++ replicate (at - length (map f cells)) 32) =
+    sym (take-map f at (cells ++ replicate (at - length cells) SPACE))
+    ∙ ap (take at) (map-append f cells (replicate (at - length cells) SPACE) ∙ ap (λ p. map f cells ++ p) pad) in
+    let back : map f (drop (at + length new) cells) ≡ drop (at + length (map f new)) (map f cells) = sym (drop-map f (at + length new) cells)
+    ∙ ap (λ n. drop (at + n) (map f cells)) (sym (length-map new f)) in
+    map-append f (take at (cells ++ replicate (at - length cells) SPACE) ++ new) (drop (at + length new) cells)
+    ∙ ap (λ xs. xs ++ map f (drop (at + length new) cells))
+    (map-append f (take at (cells ++ replicate (at - length cells) SPACE)) new ∙ ap (λ xs. xs ++ map f new) front)
+    ∙ ap (λ xs. (take at (map f cells ++ replicate (at - length (map f cells)) 32) ++ map f new) ++ xs) back
+
+-- a text, which stands after as many columns, if lines are cut on the left, with the placeholder at their beginning, and with the
+-- placeholder over its end, from this cell on
+abbrev begun_with : List ℕ → Option ℕ → List ℕ → List ℕ
+begun_with placeholder start text = option_map_or (λ columns. cond (length text == 0) placeholder (written 32 placeholder columns text)) start text
+
+abbrev ended_with : List ℕ → Option ℕ → List ℕ → List ℕ
+ended_with placeholder end text = option_map_or (λ at. written 32 text at placeholder) end text
+
+row_text-begun : (decor : DecorStyle) (start : Option ℕ) (text : List ℕ)
+    → row_text (begun_cells decor start text) ≡ begun_with (placeholder_of decor) start text
+row_text-begun decor None text = row_text-text_cells Quotation text
+row_text-begun decor (Some columns) [] = row_text-text_cells LineNumber (placeholder_of decor)
+row_text-begun decor (Some columns) (c ∷ cs) =
+    row_text-written (text_cells LineNumber (placeholder_of decor)) columns (text_cells Quotation (c ∷ cs))
+    ∙ ap (λ p. written 32 p columns (row_text (text_cells Quotation (c ∷ cs)))) (row_text-text_cells LineNumber (placeholder_of decor))
+    ∙ ap (written 32 (placeholder_of decor) columns) (row_text-text_cells Quotation (c ∷ cs))
+    ∙ ap (λ b. cond b (placeholder_of decor) (written 32 (placeholder_of decor) columns (c ∷ cs))) (sym (above_zero (length (c ∷ cs)) (omega arith)))
+
+row_text-ended : (decor : DecorStyle) (end : Option ℕ) (cells : List Cell) (text : List ℕ) → row_text cells ≡ text
+    → row_text (ended_cells decor end cells) ≡ ended_with (placeholder_of decor) end text
+row_text-ended decor None cells text is = is
+row_text-ended decor (Some at) cells text is =
+    row_text-written cells at (text_cells LineNumber (placeholder_of decor))
+    ∙ ap (λ t. written 32 t at (row_text (text_cells LineNumber (placeholder_of decor)))) is
+    ∙ ap (written 32 text at) (row_text-text_cells LineNumber (placeholder_of decor))
+
+-- the characters of the cells of a window are the window
+pub row_text-window_cells : (decor : DecorStyle) (margin : Margin) (text : List ℕ)
+    → row_text (window_cells decor margin text) ≡ window (placeholder_of decor) margin.term_width margin.computed_left margin.computed_right text
+row_text-window_cells decor margin text =
+    let left = margin.computed_left in
+    let right = margin.computed_right in
+    let placeholder = placeholder_of decor in
+    let inner = inner_part margin.term_width left right text in
+    row_text-ended decor (covered_end margin.term_width left right placeholder text) _ _
+    (row_text-begun decor (covered_columns left placeholder inner) (uncovered_part left placeholder inner))

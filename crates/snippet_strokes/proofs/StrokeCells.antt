@@ -1,19 +1,26 @@
 -- What strokes leave from the code on: spaces, glyphs of strokes and labels, and nothing else.
-use Rattle.snippet_strokes.proofs.Common.{◌≡◌, ℕ, ◌+◌, ◌-◌, ◌<◌, ◌≤◌, ◌==◌, nat_lt, cond, Bool, true, false, List, [], ◌∷◌}
-use Rattle.snippet_strokes.proofs.Common.{◌++◌, get_or, replicate, refl, arith, inr, All, list_any, All-append, All-cons, All-nil, All-replicate, cell_at}
-use Rattle.snippet_strokes.proofs.Common.{is_primary, Cell, unlinked_cell, strokes_of, underline_role, DecorStyle, LineAnnotationType, Singleline}
-use Rattle.snippet_strokes.proofs.Common.{MultilineStart, MultilineEnd, MultilineLine, Layout, PlacedEntry, IsStrokeCell, stroke_glyphs, stroke_role, has_label}
-use Rattle.snippet_strokes.proofs.Common.{Write, glyph_at, painted, stretch_of, connector_of, corner_of, label_of, first_glyph, mark_end, foot_glyph}
-use Rattle.snippet_strokes.proofs.Common.{connectors_of, corners_of, labels_of, HasBarCell, HasBarCellAt, stem_of, stems_of}
+use Rattle.snippet_strokes.proofs.Common.{◌≡◌, ℕ, zero, suc, ◌+◌, ◌-◌, ◌<◌, ◌≤◌, cond, List, [], ◌∷◌, length, take, get_or}
+use Rattle.snippet_strokes.proofs.Common.{replicate, refl, sym, ap, ◌∙◌, subst, arith, inl, inr, cases_lt, take_all, cells_written}
+use Rattle.snippet_strokes.proofs.Common.{WritesCells-cells_written, is_primary, Cell, text_cells, unlinked_cell, strokes_of, ElementStyle, Layout, PlacedEntry}
+use Rattle.snippet_strokes.proofs.Common.{painting_order, stroke_role, first_glyph, mark_end, WritesCells, Write, glyph_at, painted, stretch_of, ◌==◌}
+use Rattle.snippet_strokes.proofs.Common.{◌&&◌, ◌||◌, Bool, true, false, ◌++◌, drop, All, flat_map, LineAnnotation, label_role, has_label}
+use Rattle.snippet_strokes.proofs.Common.{do_overlap, ends_no_later, blocks, reaches, label_place, label_of, labels_of, HasPlace, HasItsLabel, ArePlaced}
+use Rattle.snippet_strokes.proofs.Common.{drop_more, take-append-drop, length-drop, get_or-drop, flat_map-append, cell_at, crowds, label_text, nat_lt, list_any}
+use Rattle.snippet_strokes.proofs.Common.{All-append, All-cons, All-nil, All-replicate, underline_role, DecorStyle, LineAnnotationType, Singleline}
+use Rattle.snippet_strokes.proofs.Common.{MultilineStart, MultilineEnd, MultilineLine, IsStrokeCell, stroke_glyphs, connector_of, corner_of, foot_glyph}
+use Rattle.snippet_strokes.proofs.Common.{connectors_of, corners_of, HasBarCell, HasBarCellAt, stem_of, stems_of}
+use Rattle.snippet_strokes.proofs.CellLemmas.{drawn_mark, marks_of, label_write, bar_writes, corner_by, drawn_strokes}
+use Rattle.snippet_strokes.proofs.PaintedMarks.{AreMarked, Painted, Paints, mark_cell, StandsWhole}
+use Rattle.snippet_strokes.proofs.LineLemmas.{text_cells-replicate}
+use Rattle.snippet_strokes.proofs.PaintOrder.{IsPaintingOrder-painting_order, IsPermutation-painting_order}
+use Rattle.snippet_strokes.proofs.PaintLemmas.{Painted-next, Painted-none, Paints-more, Paints-none, Paints-past, Paints-rest, first_cell_is, other_cell_is}
+use Rattle.snippet_strokes.proofs.WriteLaws.{flat_map-take_more, less, drawn_mark-none, painted-append, stretch_of-none, All-label_of, All-flat_map}
+use Rattle.snippet_strokes.proofs.WriteLaws.{painted-last, painted-cell}
+use Rattle.snippet_strokes.proofs.Reach.{Reaches, cell_of_write}
+use Rattle.snippet_strokes.proofs.LabelKept.{apart, label_chars_le, label_parts, labelled_positions, position_of, stands_left, uncrowded}
 use Rattle.snippet_strokes.proofs.MarkStrokeLemmas.{of_first}
 use Rattle.snippet_strokes.proofs.StrokeGlyphs.{code_among, of_foot}
-use Rattle.snippet_strokes.proofs.Reach.{Reaches, cell_of_write}
-use Rattle.snippet_strokes.proofs.StrokeWords.{bar_writes, corner_by, label_write}
-use Rattle.snippet_strokes.proofs.Drawn.{drawn_mark, drawn_strokes, marks_of}
-use Rattle.snippet_strokes.proofs.BarWrites.{All-column_of, All-connector_of, All-stretch_of}
-use Rattle.snippet_strokes.proofs.LabelWrites.{All-label_of}
-use Rattle.snippet_strokes.proofs.StemWrites.{All-stem_of, All-stems_of}
-use Rattle.snippet_strokes.proofs.WriteLaws.{All-flat_map, painted-cell}
+use Rattle.snippet_strokes.proofs.BarWrites.{All-column_of, All-connector_of, All-stretch_of, All-stem_of, All-stems_of}
 
 -- ---- glyphs
 
@@ -147,3 +154,168 @@ module _ (layout : Layout) (r c : ℕ) (right : layout.code ≤ c) where
       let named : All Q (one ++ two ++ three ++ four) = All-append Q (one ++ two ++ three) four hung (labels (row + 1) placed beside) in
       painted-cell P (drawn_strokes layout row count placed order) rows r c before
       (All-append Q (one ++ two ++ three ++ four) five named (marks (row + 1) order))
+
+-- No label is lost: the labels of two entries share no cell.
+pub uncrowded_apart : (p : ℕ) (e f : PlacedEntry) → crowds p e f ≡ false → has_label e ≡ true → has_label f ≡ true
+    → f.entry.start.display ≤ e.entry.start.display → f.entry.end.display + (length f.label + 2) ≤ e.entry.start.display
+uncrowded_apart p e f crowded has_e has_f left =
+    let more = length f.label + 2 in
+    let clear : reaches p e f ≡ false = right (blocks e f) (reaches p e f) crowded in
+    apart f.entry.start.display f.entry.end.display e.entry.start.display e.entry.end.display more
+    (unreached (has_label f) (do_overlap f more e) (has_label e) ((p == 0) && ends_no_later f e) clear has_f has_e) left
+  where
+    right : (a b : Bool) → (a || b) ≡ false → b ≡ false
+    right true b is = cc is
+    right false b is = is
+
+    unreached : (l o h z : Bool) → (l && o && (h || z)) ≡ false → l ≡ true → h ≡ true → o ≡ false
+    unreached l false h z is has_l has_h = refl
+    unreached true true true z is has_l has_h = is
+    unreached false true h z is has_l has_h = cc has_l
+    unreached true true false z is has_l has_h = cc has_h
+
+-- the labels of two entries, the second of them farther left, share no cell
+pub labels_apart : (layout : Layout) (row : ℕ) (e f : PlacedEntry) → HasPlace e.entry → HasPlace f.entry → HasItsLabel f → has_label e ≡ true
+    → has_label f ≡ true → f.entry.start.display ≤ e.entry.start.display → (e.position ≡ f.position → crowds e.position e f ≡ false) → (r c : ℕ)
+    → Reaches r c (label_write layout row e) → Reaches r c (label_write layout row f) → ⊥
+labels_apart layout row e f place_e place_f label has_e has_f left clear r c there_e there_f =
+    let short : length (label_text f.entry) ≤ length f.label = label_chars_le f label in
+    let gap : e.position ≡ f.position → f.entry.end.display + (length f.label + 2) ≤ e.entry.start.display = λ same.
+    uncrowded_apart e.position e f (clear same) has_e has_f left in
+    elim (label_parts e) [
+      | inl at_e ↦ elim (label_parts f) [
+        | inl at_f ↦ omega (arith, gap (at_e.position ∙ sym at_f.position), short, at_e.from, at_f.to, place_e.ordered, there_e.from, there_f.to)
+        | inr at_f ↦ omega (arith, there_e.row, there_f.row, at_e.row, at_f.row)
+      ]
+      | inr at_e ↦ elim (label_parts f) [
+        | inl at_f ↦ omega (arith, there_e.row, there_f.row, at_e.row, at_f.row)
+        | inr at_f ↦
+            let same : e.position ≡ f.position = omega (arith, there_e.row, there_f.row, at_e.row, at_f.row) in
+            omega (arith, gap same, short, at_e.column, at_f.column, place_f.ordered, there_e.from, there_f.to)
+      ]
+    ]
+
+-- the labels of two entries of a line share no cell
+pub placed_apart : (layout : Layout) (row : ℕ) (given : List LineAnnotation) (es : List PlacedEntry) (i j : ℕ) (d d2 : PlacedEntry)
+    → ArePlaced given es → All (λ e. HasPlace e.entry) es → i < j → j < length es → has_label (get_or es i d) ≡ true
+    → has_label (get_or es j d2) ≡ true → (r c : ℕ) → Reaches r c (label_write layout row (get_or es i d))
+    → Reaches r c (label_write layout row (get_or es j d2)) → ⊥
+placed_apart layout row given es i j d d2 placed places before within has has_f r c here there =
+    let e : PlacedEntry = get_or es i d in
+    let f : PlacedEntry = get_or es j d2 in
+    let inside : i < length es = omega (arith, before, within) in
+    let are = labelled_positions given es i d placed inside has in
+    let at_e = position_of es i d are inside in
+    let at_f = position_of es j d2 are within in
+    labels_apart layout row e f (places i d inside) (places j d2 within) (placed.labels j d2 within)
+    has has_f (stands_left given es i j d d2 placed before within)
+    (λ one_row. subst (λ p. crowds p e f ≡ false) (sym at_e) (uncrowded 0 es i j d d2 before within (sym at_e ∙ one_row ∙ at_f))) r c here there
+
+-- each label stands whole once all are written
+pub labels_stand : (layout : Layout) (row : ℕ) (given : List LineAnnotation) (es : List PlacedEntry) (rows : List (List Cell)) → ArePlaced given es
+    → All (λ e. HasPlace e.entry) es → All (StandsWhole layout row (painted (labels_of layout row es) rows)) es
+labels_stand layout row given es rows placed places k d within has n inside =
+    let f : PlacedEntry → List Write = label_of layout row in
+    let e : PlacedEntry = get_or es k d in
+    let w : Write = label_write layout row e in
+    let after = drop (k + 1) es in
+    let r = row + (label_place e).0 in
+    let c = layout.code + (label_place e).1 + n in
+    let N : Write → Type 0 = λ v. Reaches r c v → ⊥ in
+    let here : Reaches r c w = record { row = refl; from = omega arith; to = omega (arith, inside) } in
+    let split : es ≡ take k es ++ e ∷ after = sym (take-append-drop k es) ∙ ap (λ xs. take k es ++ xs) (drop_more es k d within) in
+    let parts : labels_of layout row es ≡ labels_of layout row (take k es) ++ w ∷ labels_of layout row after = ap (flat_map f) split
+    ∙ flat_map-append f (take k es) (e ∷ after) ∙ ap (λ b. labels_of layout row (take k es) ++ (cond b (w ∷ []) [] ++ labels_of layout row after)) has in
+    let beside : All N (labels_of layout row after) = All-flat_map N f after (λ m d2 fits.
+    let j : ℕ = k + 1 + m in
+    let later : j < length es = omega (arith, fits, length-drop (k + 1) es) in
+    let same : get_or after m d2 ≡ get_or es j d2 = get_or-drop (k + 1) es m d2 in
+    subst (λ (x : PlacedEntry). All N (f x)) (sym same) (All-label_of N layout row (get_or es j d2) (λ has_f there.
+    placed_apart layout row given es k j d d2 placed places (omega arith) later has has_f r c here there))) in
+    ap (λ ws. cell_at (painted ws rows) r c) parts ∙ painted-last (labels_of layout row (take k es)) (labels_of layout row after) w rows r c here beside
+    ∙ ap (λ m. unlinked_cell (label_role e.entry.kind) (get_or (label_text e.entry) m 0)) (omega arith)
+
+-- The writes of marks paint them, each over those before it.
+-- a mark that takes some cells paints the first, and then the rest
+paints_some : (layout : Layout) (row : ℕ) (e : PlacedEntry) (old : List (List Cell)) → e.entry.start.display < mark_end e
+    → Paints old (painted (drawn_mark layout row e) old) row (layout.code + e.entry.start.display) (layout.code + mark_end e) (mark_cell layout e)
+paints_some layout row e old some =
+    let from = layout.code + e.entry.start.display in
+    let to = layout.code + mark_end e in
+    let role : ElementStyle = stroke_role e in
+    let glyph : ℕ = (strokes_of layout.decor (is_primary e.entry.kind)).underline in
+    let line : Cell = unlinked_cell role glyph in
+    let first : ℕ = first_glyph layout.decor e in
+    let marks = mark_cell layout e in
+    let n = to - (from + 1) in
+    let w : Write = record { row = row; cell = from + 1; text = replicate n glyph; role = role } in
+    let mid : List (List Cell) = cells_written old row from (text_cells role (first ∷ [])) in
+    let new : List (List Cell) = painted (stretch_of row (from + 1) to glyph role) mid in
+    let one : WritesCells old mid row from (marks from ∷ []) = subst (λ (x : Cell). WritesCells old mid row from (x ∷ []))
+    (first_cell_is layout e first (is_primary e.entry.kind) role refl refl refl) (WritesCells-cells_written old row from (text_cells role (first ∷ []))) in
+    let begun : Paints old mid row from (from + 1) marks = Paints-more old old mid row from from (from + 1) marks (Paints-none old row from marks) one
+    (omega arith) refl in
+    let is_line = other_cell_is layout e glyph (is_primary e.entry.kind) role refl refl refl in
+    let is : painted (drawn_mark layout row e) old ≡ new = ap (λ b. painted
+    (cond b (glyph_at row from first role ∷ stretch_of row (from + 1) to glyph role) []) old) (less from to (omega (arith, some))) in
+    subst (λ (rows : List (List Cell)). Paints old rows row from to marks) (sym is) (elim (cases_lt (from + 1) to) [
+      | inl more ↦
+          let writes : WritesCells mid new row (from + 1) (replicate n line) =
+          subst (WritesCells mid new row (from + 1)) (text_cells-replicate role n glyph)
+          (subst (λ (rows : List (List Cell)). WritesCells mid rows row (from + 1)
+          (text_cells role (replicate n glyph))) (sym (ap (λ b. painted (cond b (w ∷ []) []) mid) (less (from + 1) to more)))
+          (WritesCells-cells_written mid row (from + 1) (text_cells role (replicate n glyph)))) in
+          Paints-rest old mid new row from to line marks begun (λ c past. is_line c past) more writes
+      | inr none ↦
+          let all : from + 1 ≡ to = omega (arith, none, some) in
+          let same : mid ≡ new = sym (ap (λ ws. painted ws mid) (stretch_of-none row (from + 1) to glyph role none)) in
+          subst (λ (rows : List (List Cell)). Paints old rows row from to marks) same (subst (λ m. Paints old mid row from m marks) all begun)
+    ])
+
+pub Paints-mark : (layout : Layout) (row : ℕ) (e : PlacedEntry) (old : List (List Cell))
+    → Paints old (painted (drawn_mark layout row e) old) row (layout.code + e.entry.start.display) (layout.code + mark_end e) (mark_cell layout e)
+Paints-mark layout row e old =
+    let from = layout.code + e.entry.start.display in
+    let to = layout.code + mark_end e in
+    elim (cases_lt e.entry.start.display (mark_end e)) [
+      | inl some ↦ paints_some layout row e old some
+      | inr none ↦ subst (λ (rows : List (List Cell)). Paints old rows row from to (mark_cell layout e))
+          (sym (ap (λ ws. painted ws old) (drawn_mark-none layout row e none))) (Paints-past old row from to (mark_cell layout e) (omega (arith, none)))
+    ]
+
+-- so the marks of entries are painted, up to each and in all
+painted_upto : (layout : Layout) (row : ℕ) (es : List PlacedEntry) (d : PlacedEntry) (old : List (List Cell)) (i : ℕ) → i ≤ length es
+    → Painted layout (take i es) row old (painted (marks_of layout row (take i es)) old)
+painted_upto layout row es d old zero within = Painted-none layout row old
+painted_upto layout row es d old (suc i) within =
+    let f : PlacedEntry → List Write = drawn_mark layout row in
+    let inside : i < length es = omega (arith, within) in
+    let e : PlacedEntry = get_or es i d in
+    let mid : List (List Cell) = painted (marks_of layout row (take i es)) old in
+    let next : suc i ≡ i + 1 = omega arith in
+    let is : painted (marks_of layout row (take (i + 1) es)) old ≡ painted (f e) mid = ap (λ ws. painted ws old) (flat_map-take_more f es i d inside)
+    ∙ painted-append (marks_of layout row (take i es)) (f e) old in
+    subst (λ n. Painted layout (take n es) row old (painted (marks_of layout row (take n es)) old)) (sym next)
+    (subst (Painted layout (take (i + 1) es) row old) (sym is)
+    (Painted-next layout es i d row old mid (painted (f e) mid) inside (painted_upto layout row es d old i (omega (arith, within)))
+    (Paints-mark layout row e mid)))
+
+-- the writes of marks paint the marks
+pub Painted-marks : (layout : Layout) (row : ℕ) (es : List PlacedEntry) (old : List (List Cell))
+    → Painted layout es row old (painted (marks_of layout row es) old)
+Painted-marks layout row [] old = Painted-none layout row old
+Painted-marks layout row (e ∷ es) old =
+    let n = length (e ∷ es) in
+    let all : take n (e ∷ es) ≡ e ∷ es = take_all n (e ∷ es) (omega arith) in
+    subst (λ xs. Painted layout xs row old (painted (marks_of layout row xs) old)) all (painted_upto layout row (e ∷ es) e old n (omega arith))
+
+-- so the marks of entries are painted in the order of painting
+pub AreMarked-marks : (layout : Layout) (row : ℕ) (es : List PlacedEntry) (old : List (List Cell))
+    → AreMarked layout es row old (painted (marks_of layout row (painting_order es)) old)
+AreMarked-marks layout row es old =
+    record {
+      order = painting_order es;
+      same = IsPermutation-painting_order es;
+      ordered = IsPaintingOrder-painting_order es;
+      painted = Painted-marks layout row (painting_order es) old;
+    }

@@ -9,31 +9,24 @@ use Rattle.snippet_strokes.proofs.Common.{label_role, label_text, IsFreeCell, pa
 use Rattle.snippet_strokes.proofs.Common.{bare_row, separator_row, IsStrokeCell, is_uncut, mark_end, connectors_of, corners_of, labels_of, HasPlace}
 use Rattle.snippet_strokes.proofs.Common.{HasItsLabel, ArePlaced, HasBarCell, stems_of, entries_all}
 use Rattle.std.proofs.Common.{chars}
-use Rattle.snippet_strokes.proofs.PlainEntries.{EntryCovers, are_plain, is_single, wide_entries}
+use Rattle.snippet_strokes.proofs.SeenRows.{EntryCovers, are_plain, is_single, wide_entries, AreSeen, CutsRows, HasNoBars, IsCut, IsStrokeRow, ShowsMarks}
 use Rattle.snippet_strokes.proofs.PaintedMarks.{IsPaintedAt, AreMarked, StandsWhole}
 use Rattle.snippet_strokes.proofs.DrawnCells.{DrawsFrom, DrawsBarCells, KeepsBarCells, MarksStarts, StandsFrom}
-use Rattle.snippet_strokes.proofs.SeenRows.{AreSeen, CutsRows, HasNoBars, IsCut, IsStrokeRow, ShowsMarks}
 use Rattle.snippet_strokes.proofs.DrawLemmas.{DrawsFrom-more, bar_space}
-use Rattle.snippet_strokes.proofs.Drawn.{drawn_strokes, marks_of}
+use Rattle.snippet_strokes.proofs.CellLemmas.{drawn_strokes, marks_of}
 use Rattle.snippet_strokes.proofs.LabelPlaces.{HasStrokesBeside, LabelsStand-placed}
-use Rattle.snippet_strokes.proofs.StrokeCells.{cell_of_strokes}
+use Rattle.snippet_strokes.proofs.StrokeCells.{cell_of_strokes, AreMarked-marks, labels_stand}
 use Rattle.snippet_strokes.proofs.StemCells.{IsHung, all_hung}
-use Rattle.snippet_strokes.proofs.MarkLemmas.{mark_shown}
-use Rattle.snippet_strokes.proofs.PlainMarks.{IsPlainEntry, covered_painted, mark_end_plain, spaceless}
+use Rattle.snippet_strokes.proofs.BegunLemmas.{mark_shown, IsPlainEntry, covered_painted, mark_end_plain, spaceless, lone_placed, unlabelled, begun_row}
+use Rattle.snippet_strokes.proofs.BegunLemmas.{written_far, same_after, free_cell, sole, plain_entries, plain_narrow, IsStrokeRow-cut, sole_same}
 use Rattle.snippet_strokes.proofs.LabelKept.{labels_kept}
-use Rattle.snippet_strokes.proofs.MarkWriteLemmas.{AreMarked-marks}
 use Rattle.snippet_strokes.proofs.BarWrites.{DrawsBarCells-corners, DrawsFrom-connectors, KeepsBarCells-connectors, connectors_none, corners_none}
-use Rattle.snippet_strokes.proofs.StemWrites.{DrawsFrom-stems, stems_none, stems_start}
-use Rattle.snippet_strokes.proofs.LabelWrites.{DrawsFrom-labels, label_lone, labels_none, labels_unmarked}
-use Rattle.snippet_strokes.proofs.LabelLaw.{labels_stand}
-use Rattle.snippet_strokes.proofs.StrokeWrites.{marks_painted, under_painted}
+use Rattle.snippet_strokes.proofs.BarWrites.{DrawsFrom-stems, stems_none, stems_start}
+use Rattle.snippet_strokes.proofs.WriteLaws.{DrawsFrom-labels, label_lone, labels_none, labels_unmarked}
+use Rattle.snippet_strokes.proofs.EntryBarLaws.{marks_painted, under_painted}
 use Rattle.snippet_strokes.proofs.SourceBars.{source_beside}
-use Rattle.snippet_strokes.proofs.PlacedRows.{lone_placed, unlabelled}
-use Rattle.snippet_strokes.proofs.PositionLemmas.{HasRows-row_count}
-use Rattle.snippet_strokes.proofs.PositionLemmas.{row_count_some, stemless_bare, stemless_beside}
+use Rattle.snippet_strokes.proofs.PositionLemmas.{HasRows-row_count, row_count_some, stemless_bare, stemless_beside}
 use Rattle.snippet_strokes.proofs.RowLemmas.{bare_row_short, bare_row_right, free_bare_row}
-use Rattle.snippet_strokes.proofs.BegunLemmas.{begun_row, written_far, same_after, free_cell, sole, plain_entries, plain_narrow}
-use Rattle.snippet_strokes.proofs.BegunLemmas.{IsStrokeRow-cut, sole_same}
 
 module _ (layout : Layout) (room : ℕ) (closes : Bool) (es : List LineAnnotation) (placed : List PlacedEntry) (above_rows : List (List Cell))
     (plain_row : List Cell) (begun joined barred stemmed labelled new : List (List Cell))

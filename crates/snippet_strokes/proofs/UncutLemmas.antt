@@ -7,7 +7,7 @@ use Rattle.std.specs.Str.{chars}
 use Rattle.snippet_strokes.proofs.BegunLemmas.{wide_entries-order}
 use Rattle.snippet_strokes.proofs.Examples.{entry}
 use Rattle.snippet_strokes.proofs.PlacedOf.{HasTextLabel, placed_of_are}
-use Rattle.snippet_strokes.proofs.PlainEntries.{wide_entries}
+use Rattle.snippet_strokes.proofs.SeenRows.{wide_entries}
 
 -- a sum of nothing
 zero_parts : (b : Bool) (n : ℕ) → cond b 1 0 + n ≡ 0 → (b ≡ false) × (n ≡ 0)

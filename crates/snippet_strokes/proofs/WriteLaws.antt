@@ -1,13 +1,94 @@
 -- Laws of rows after writes: what no write reaches stays, the last write of a cell stands, and writes with a property leave
 -- rows with it.
-use Rattle.snippet_strokes.proofs.Common.{◌≡◌, ◌≢◌, ℕ, ◌+◌, ◌-◌, ◌<◌, List, [], ◌∷◌, ◌++◌, length, get_or, refl, sym, ap}
-use Rattle.snippet_strokes.proofs.Common.{◌∙◌, subst, arith, inl, inr, ◌⊎◌, All, cases_lt, cases_eq, All-append, All-head, All-tail, All-nil}
-use Rattle.snippet_strokes.proofs.Common.{All-weaker, flat_map, Cell, SPACE, text_cells, cell_at, row_at, WritesCells-cells_written, length-text_cells}
-use Rattle.snippet_strokes.proofs.Common.{slice_index_or-text_cells, IsFreeCell, Write, painted}
-use Rattle.snippet_strokes.proofs.DrawnCells.{DrawsFrom}
-use Rattle.snippet_strokes.proofs.OneStep.{written_by}
+use Rattle.snippet_strokes.proofs.Common.{All, ◌≡◌, ◌≢◌, ℕ, ◌+◌, ◌<◌, ◌≤◌, ◌^◌, Bool, true, false, List, [], ◌∷◌, drop}
+use Rattle.snippet_strokes.proofs.Common.{filter, length, map, not, take, if◌then◌else◌, slice_index_or, shown_number, LineNumbers, IsFree, is_bar}
+use Rattle.snippet_strokes.proofs.Common.{AnnotatedLineInfo, LineAnnotation, Cell, SPACE, text_cells, unlinked_cell, separator_of, closing_row, LineNumber}
+use Rattle.snippet_strokes.proofs.Common.{norm, width_of, StandsClear, dropped_part, Margin, Layout, separator_cell, is_end_part, shifted, PlacedEntry, Solid}
+use Rattle.snippet_strokes.proofs.Common.{Top, OpenBar, bars_apart, ends_of_bars, is_whole_line, ArePlaced, overlapped, AreDrawable, row_count, painting_order}
+use Rattle.snippet_strokes.proofs.Common.{source_row, window_cells, painted, cond, ◌++◌, get_or, refl, sym, ap, ◌∙◌, subst, arith, inl, inr}
+use Rattle.snippet_strokes.proofs.Common.{cases_Bool, All-cons, All-nil, AnnotationKind, Primary, Context, Visible, cells_written, label_role, label_text}
+use Rattle.snippet_strokes.proofs.Common.{is_mark_role, HasRows, has_label, Write, label_of, labels_of, HasPlace, ◌-◌, ◌⊎◌, cases_lt, cases_eq}
+use Rattle.snippet_strokes.proofs.Common.{All-append, All-head, All-tail, All-weaker, flat_map, cell_at, row_at, WritesCells-cells_written, length-text_cells}
+use Rattle.snippet_strokes.proofs.Common.{slice_index_or-text_cells, IsFreeCell, nat_lt, replicate, nat_tests, take_more, append-nil, flat_map-append}
+use Rattle.snippet_strokes.proofs.Common.{fold-append, ElementStyle, strokes_of, is_primary, stroke_role, first_glyph, mark_end, glyph_at, stretch_of}
+use Rattle.std.proofs.Common.{chars}
+use Rattle.snippet_strokes.proofs.CellLemmas.{with_parts, cut_row, role_in_source, begun_rows, drawn_strokes, label_write, written_by, drawn_mark}
+use Rattle.snippet_strokes.proofs.CutWords.{cuts_of}
+use Rattle.snippet_strokes.proofs.PlacedOf.{HasTextLabel}
+use Rattle.snippet_strokes.proofs.DrawnCells.{DrawsFrom, MarksStarts, StandsFrom}
 use Rattle.snippet_strokes.proofs.Reach.{Reaches, IsWithin, cell_of_write}
-use Rattle.snippet_strokes.proofs.WriteLemmas.{painted-append}
+use Rattle.snippet_strokes.proofs.PositionLemmas.{label_beside, label_column, label_stands}
+use Rattle.snippet_strokes.proofs.TextLemmas.{free_label_text}
+
+-- Rows after writes.
+-- one write more, and some more
+pub painted-append : (ws vs : List Write) (rows : List (List Cell)) → painted (ws ++ vs) rows ≡ painted vs (painted ws rows)
+painted-append ws vs rows = fold-append written_by rows ws vs
+
+-- what a rule gives for one thing more
+pub flat_map-take_more : {X : Type 0} (f : X → List Write) (xs : List X) (i : ℕ) (d : X) → i < length xs
+    → flat_map f (take (i + 1) xs) ≡ flat_map f (take i xs) ++ f (get_or xs i d)
+flat_map-take_more f xs i d within =
+    ap (flat_map f) (take_more xs i d within) ∙ flat_map-append f (take i xs) (get_or xs i d ∷ [])
+    ∙ ap (λ ws. flat_map f (take i xs) ++ ws) (append-nil (f (get_or xs i d)))
+
+-- the step of a loop that paints what a rule gives for each of some things
+pub painted_more : {X : Type 0} (f : X → List Write) (xs : List X) (i : ℕ) (x : X) (old mid : List (List Cell)) → i < length xs → x ≡ get_or xs i x
+    → mid ≡ painted (flat_map f (take i xs)) old → painted (f x) mid ≡ painted (flat_map f (take (i + 1) xs)) old
+painted_more f xs i x old mid within is so_far =
+    ap (painted (f x)) so_far ∙ sym (painted-append (flat_map f (take i xs)) (f x) old) ∙ ap (λ y. painted (flat_map f (take i xs) ++ f y) old) is
+    ∙ sym (ap (λ ws. painted ws old) (flat_map-take_more f xs i x within))
+
+-- ---- stretches, columns and marks
+
+-- the test answers yes for a lesser number
+pub less : (a b : ℕ) → a < b → nat_lt a b ≡ true
+less a b is = grind (arith, nat_tests, is)
+
+pub not_less : (a b : ℕ) → b ≤ a → nat_lt a b ≡ false
+not_less a b is = grind (arith, nat_tests, is)
+
+-- where a stretch has no cell nothing is written
+pub stretch_of-none : (row from to glyph : ℕ) (role : ElementStyle) → to ≤ from → stretch_of row from to glyph role ≡ []
+stretch_of-none row from to glyph role past =
+    let w : Write = record { row = row; cell = from; text = replicate (to - from) glyph; role = role } in
+    ap (λ b. cond b (w ∷ []) []) (not_less from to past)
+
+-- and else one text, of as many glyphs as it has cells
+pub stretch_painted : (row from to glyph : ℕ) (role : ElementStyle) (cs : List ℕ) (old new : List (List Cell)) → from < to → cs ≡ replicate (to - from) glyph
+    → new ≡ cells_written old row from (text_cells role cs) → new ≡ painted (stretch_of row from to glyph role) old
+stretch_painted row from to glyph role cs old new some is writes =
+    let w : Write = record { row = row; cell = from; text = replicate (to - from) glyph; role = role } in
+    writes ∙ ap (λ xs. cells_written old row from (text_cells role xs)) is ∙ sym (ap (λ b. painted (cond b (w ∷ []) []) old) (less from to some))
+
+-- an entry whose mark has no cell
+pub drawn_mark-none : (layout : Layout) (row : ℕ) (e : PlacedEntry) → mark_end e ≤ e.entry.start.display → drawn_mark layout row e ≡ []
+drawn_mark-none layout row e past =
+    let from = layout.code + e.entry.start.display in
+    let to = layout.code + mark_end e in
+    let ws : List Write = glyph_at row from (first_glyph layout.decor e) (stroke_role e) ∷ stretch_of row (from + 1) to
+    (strokes_of layout.decor (is_primary e.entry.kind)).underline (stroke_role e) in
+    ap (λ b. cond b ws []) (not_less from to (omega (arith, past)))
+
+-- a mark is its first glyph, and the underline after it
+pub mark_painted : (layout : Layout) (row : ℕ) (e : PlacedEntry) (first underline : ℕ) (role : ElementStyle) (end : ℕ)
+    (old mid new : List (List Cell)) → e.entry.start.display < mark_end e → end ≡ mark_end e → first ≡ first_glyph layout.decor e
+    → underline ≡ (strokes_of layout.decor (is_primary e.entry.kind)).underline → role ≡ stroke_role e
+    → mid ≡ cells_written old row (layout.code + e.entry.start.display) (text_cells role (first ∷ []))
+    → new ≡ painted (stretch_of row (layout.code + e.entry.start.display + 1) (layout.code + end) underline role) mid
+    → new ≡ painted (drawn_mark layout row e) old
+mark_painted layout row e first underline role end old mid new some is_end is_first is_underline is_role begins continues =
+    let from = layout.code + e.entry.start.display in
+    let to = layout.code + mark_end e in
+    let line : ℕ = (strokes_of layout.decor (is_primary e.entry.kind)).underline in
+    let ws : List Write = glyph_at row from (first_glyph layout.decor e) (stroke_role e) ∷ stretch_of row (from + 1) to line (stroke_role e) in
+    continues ∙ ap (λ n. painted (stretch_of row (from + 1) (layout.code + n) underline role) mid) is_end
+    ∙ ap (λ g. painted (stretch_of row (from + 1) to g role) mid) is_underline
+    ∙ ap (λ r. painted (stretch_of row (from + 1) to line r) mid) is_role
+    ∙ ap (painted (stretch_of row (from + 1) to line (stroke_role e)))
+    (begins ∙ ap (λ g. cells_written old row from (text_cells role (g ∷ []))) is_first
+    ∙ ap (λ r. cells_written old row from (text_cells r (first_glyph layout.decor e ∷ []))) is_role)
+    ∙ sym (ap (λ b. painted (cond b ws []) old) (less from to (omega (arith, some))))
 
 -- a cell after one write: the write's where it reaches, else what was there
 pub cell-written : (w : Write) (rows : List (List Cell)) (r c : ℕ) → Reaches r c w → cell_at (written_by rows w) r c ≡ cell_of_write w c
@@ -119,3 +200,143 @@ DrawsFrom-painted row from ws rows within =
           (is.free (c - w.cell) 0 (omega (arith, there.from, there.to)), refl)) ws within);
       count = painted-count ws rows n refl (All-weaker W (λ w. w.row < n) (λ w is. is.there) ws within);
     }
+
+-- The writes of labels.
+-- what holds of the write of a label holds of those of all
+pub All-label_of : (P : Write → Type 0) (layout : Layout) (row : ℕ) (e : PlacedEntry) → (has_label e ≡ true → P (label_write layout row e))
+    → All P (label_of layout row e)
+All-label_of P layout row e holds =
+    elim (cases_Bool (has_label e)) [
+      | inl has ↦ subst (λ b. All P (cond b (label_write layout row e ∷ []) [])) (sym has) (All-cons P (label_write layout row e) [] (holds has) (All-nil P))
+      | inr none ↦ subst (λ b. All P (cond b (label_write layout row e ∷ []) [])) (sym none) (All-nil P)
+    ]
+
+-- labels stand in rows that are there, and not left of their entries
+pub labels_within : (layout : Layout) (row count from : ℕ) (es : List PlacedEntry) → All (λ e. HasPlace e.entry) es → All (HasRows row count) es
+    → All (λ e. StandsFrom layout.code from e.entry) es → All (IsWithin row count from) (labels_of layout row es)
+labels_within layout row count from es places rows stand =
+    All-flat_map (IsWithin row count from) (label_of layout row) es (λ k d within.
+    let e : PlacedEntry = get_or es k d in
+    All-label_of (IsWithin row count from) layout row e (λ has. record {
+      below = omega arith;
+      there = label_stands row count e (rows k d within) (places k d within) has;
+      right = omega (arith, stand k d within, (label_column e (places k d within)).0);
+      free = free_label_text e.entry;
+    }))
+
+-- so labels are drawn there
+pub DrawsFrom-labels : (layout : Layout) (row from : ℕ) (es : List PlacedEntry) (old : List (List Cell)) → All (λ e. HasPlace e.entry) es
+    → All (HasRows row (length old)) es → All (λ e. StandsFrom layout.code from e.entry) es → DrawsFrom row from old (painted (labels_of layout row es) old)
+DrawsFrom-labels layout row from es old places rows stand =
+    DrawsFrom-painted row from (labels_of layout row es) old (labels_within layout row (length old) from es places rows stand)
+
+-- a label is in no role of marks
+label_unmarked : (kind : AnnotationKind) → is_mark_role (unlinked_cell (label_role kind) 32).role ≡ false
+label_unmarked Primary = refl
+label_unmarked Context = refl
+label_unmarked Visible = refl
+
+-- labels, painted, mark no start
+pub labels_unmarked : (layout : Layout) (row : ℕ) (es : List PlacedEntry) (rows : List (List Cell))
+    → MarksStarts layout.code [] rows (painted (labels_of layout row es) rows)
+labels_unmarked layout row es rows r c _ before =
+    let M : Cell → Type 0 = λ cell. is_mark_role cell.role ≡ false in
+    let Q : Write → Type 0 = λ w. Reaches r c w → M (cell_of_write w c) in
+    painted-cell M (labels_of layout row es) rows r c before (All-flat_map Q (label_of layout row) es (λ k d within.
+    All-label_of Q layout row (get_or es k d) (λ has there. label_unmarked (get_or es k d).entry.kind)))
+
+-- where no entry has a label nothing is written
+pub labels_none : (layout : Layout) (row : ℕ) (es : List PlacedEntry) → All (λ e. has_label e ≡ false) es → labels_of layout row es ≡ []
+labels_none layout row es none =
+    flat_map-none (label_of layout row) es (λ k d within. ap (λ b. cond b (label_write layout row (get_or es k d) ∷ []) []) (none k d within))
+
+-- a lone label stands one cell after its mark
+pub label_lone : (layout : Layout) (row : ℕ) (e : PlacedEntry) (rows : List (List Cell)) → e.position ≡ 0 → 0 < e.entry.end.display
+    → has_label e ≡ true → painted (labels_of layout row (e ∷ [])) rows ≡ cells_written rows row (layout.code + e.entry.end.display + 1)
+    (text_cells (label_role e.entry.kind) (label_text e.entry))
+label_lone layout row e rows beside some has =
+    let at : ℕ × ℕ → List (List Cell) = λ place. cells_written rows (row + place.0) (layout.code + place.1)
+    (text_cells (label_role e.entry.kind) (label_text e.entry)) in
+    ap (λ b. painted (cond b (label_write layout row e ∷ []) [] ++ []) rows) has ∙ ap at (label_beside e beside some)
+    ∙ ap (λ r. cells_written rows r (layout.code + (e.entry.end.display + 1)) (text_cells (label_role e.entry.kind) (label_text e.entry)))
+    (omega arith) ∙ ap (λ n. cells_written rows row n (text_cells (label_role e.entry.kind) (label_text e.entry))) (omega arith)
+
+-- What is known of the rows of a line, by which laws are proved. LineFromValue has it of the rows that painters promise.
+-- ---- the source row
+
+-- the row begins with what the gutter shows, and from the code's cell to its end it holds these cells
+pub record ShowsSource (gutter from : ℕ) (shown : List ℕ) (cells row : List Cell) : Type 0 where
+  pub number : take (length shown) row ≡ text_cells LineNumber shown
+  pub code : drop from row ≡ cells
+
+-- a source row, and what is seen of it: what ShowsSource says, the separator, and else spaces left of the code
+pub record IsSourceRow (layout : Layout) (shown : List ℕ) (cells row : List Cell) : Type 0 where
+  pub is : row ≡ source_row layout shown cells
+  pub shows : ShowsSource layout.gutter layout.code shown cells row
+  pub separator : slice_index_or row (separator_cell layout) SPACE ≡ unlinked_cell LineNumber (separator_of layout.decor)
+  pub blank : (c : ℕ) → length shown ≤ c → c ≢ separator_cell layout → c < layout.code → slice_index_or row c SPACE ≡ SPACE
+  pub free : IsFree row
+
+-- the row is this source row, with the characters highlighted that entries ask for
+pub record IsHighlighted (code dropped : ℕ) (es : List LineAnnotation) (plain row : List Cell) : Type 0 where
+  pub width : length row ≡ length plain
+  pub cells : (c : ℕ) → c < length plain
+      → slice_index_or row c SPACE ≡ (let cell = slice_index_or plain c SPACE in record cell { role = role_in_source code dropped es c cell.role })
+
+-- ---- the rows below it
+
+-- what is known of the rows of strokes, whatever the placed entries hold their labels in: as many as the entries ask for, and over them
+-- all strokes. The entries are placed from right to left, and their marks painted in the order of painting. Of the first two rows, the
+-- source row and that of the marks, stretches are cut where entries are wide
+pub record StrokesPainted (layout : Layout) (room : ℕ) (closes : Bool) (es : List LineAnnotation) (source : List Cell) (rows : List (List Cell)) : Type 0 where
+  pub placed : List PlacedEntry
+  pub are : ArePlaced es placed
+  pub top : List Cell
+  pub marks : List Cell
+  pub lower : List (List Cell)
+  pub painted_are : top ∷ marks ∷ lower ≡ painted (drawn_strokes layout 0 (row_count placed + 1) placed (painting_order placed))
+      (begun_rows layout closes (row_count placed) source)
+  pub rows_are : rows ≡ (let cuts = cuts_of layout room (painting_order placed)
+      (overlapped placed) in cut_row layout.decor cuts top ∷ cut_row layout.decor cuts marks ∷ lower)
+  pub count : length rows ≡ row_count placed + 1
+
+-- the rows that a line has by its own entries, of which so many columns are dropped: beside a line that is marked as a whole the tops
+-- of its bars, and no row below; without entries none below either, but a closing row where the window closes with the line; and
+-- else the rows of its strokes
+pub record AreOwnRows (layout : Layout) (room : ℕ) (closes : Bool) (text : List ℕ) (dropped : ℕ) (es : List LineAnnotation) (source : List Cell)
+    (rows : List (List Cell)) : Type 0 where
+  pub whole : is_whole_line text es ≡ true → rows ≡ with_parts layout Top (ends_of_bars es) source ∷ []
+  pub none : es ≡ [] → rows ≡ source ∷ (if closes then closing_row layout.decor layout.gutter ∷ [] else [])
+  pub strokes : is_whole_line text es ≡ false → 0 < length es → StrokesPainted layout room closes (map (shifted dropped) es) source rows
+
+-- the rows of a line, where these bars are open above it: its own, and over each of them the bars that run past
+pub record AreLineRows (layout : Layout) (room : ℕ) (closes : Bool) (text : List ℕ) (dropped : ℕ) (open_bars : List OpenBar) (es : List LineAnnotation)
+    (source : List Cell) (rows : List (List Cell)) : Type 0 where
+  pub own : List (List Cell)
+  pub are : AreOwnRows layout room closes text dropped es source own
+  pub rows_are : rows ≡ map (with_parts layout Solid (bars_apart open_bars (ends_of_bars es))) own
+
+-- ---- all of them
+
+-- a line can be shown: its number is one that a machine holds, what the gutter shows beside it has room up to the separator, its entries
+-- can be drawn, none of them stands left of the padding of the margin's left bound, and their labels are texts
+pub record CanBeShown (layout : Layout) (margin : Margin) (numbers : LineNumbers) (info : AnnotatedLineInfo) : Type 0 where
+  pub small : info.line_index < 2 ^ 64
+  pub number : length (shown_number numbers layout.gutter info.line_index) ≤ separator_cell layout
+  pub entries : AreDrawable layout info.annotations.items
+  pub clear : All (StandsClear margin) info.annotations.items
+  pub labels : All HasTextLabel info.annotations.items
+
+-- the rows show this line. Its source row shows its number and the window of its source, normalised, and is highlighted as its entries
+-- ask; the rows are what the entries, and the bars that are open above the line, make of that row, as far left as columns of the line
+-- are dropped. No entry starts in a column that is dropped, but those for which a bar alone is drawn
+pub record ShowsLine (layout : Layout) (margin : Margin) (numbers : LineNumbers) (closes : Bool) (open_bars : List OpenBar) (info : AnnotatedLineInfo)
+    (rows : List (List Cell)) : Type 0 where
+  pub plain : List Cell
+  pub shows : IsSourceRow layout (shown_number numbers layout.gutter info.line_index) (window_cells layout.decor margin (norm (chars info.line.now))) plain
+  pub dropped : ℕ
+  pub dropped_is : dropped ≡ width_of (dropped_part margin.computed_left (norm (chars info.line.now)))
+  pub clear : All (λ e. is_bar e.annotation_type ≡ false → dropped ≤ e.start.display) info.annotations.items
+  pub highlighted : List Cell
+  pub highlights : IsHighlighted layout.code dropped (filter (λ e. not (is_end_part e.annotation_type)) info.annotations.items) plain highlighted
+  pub drawn : AreLineRows layout margin.term_width closes (norm (chars info.line.now)) dropped open_bars info.annotations.items highlighted rows

@@ -1,7 +1,7 @@
 -- What most proofs of this crate cite, given on from one place.
-pub use Rattle.snippet_grid.proofs.ChangeLemmas.{changed_within_one}
-pub use Rattle.snippet_grid.proofs.GridLemmas.{cells_written_last, cells_written_below}
-pub use Rattle.snippet_grid.proofs.RowLemmas.{row_text-text_cells}
+pub use Rattle.snippet_grid.proofs.ReplaceLemmas.{changed_within_one}
+pub use Rattle.snippet_grid.proofs.GridShown.{cells_written_last, cells_written_below}
+pub use Rattle.snippet_grid.proofs.ReplaceLemmas.{row_text-text_cells}
 pub use Rattle.snippet_grid.specs.Calls.{cells_restyled}
 pub use Rattle.snippet_grid.specs.Grid.{cells_written, row_at, restyled}
 unfoldable pub use Rattle.snippet_grid.specs.Grid.{changed_within}

@@ -1,6 +1,6 @@
 -- What most proofs of this crate cite, given on from one place.
-pub use Rattle.snippet_grid.proofs.StretchLemmas.{BeginsWith-added, stretch, IsUtf8-stretch, length-stretch_of, stretch_joined, stretch_grown, stretch_added}
-pub use Rattle.snippet_grid.proofs.StretchLemmas.{BeginsWith-le, BeginsWith-same, boundary, front_grown, is_utf8-end}
+pub use Rattle.snippet_grid.proofs.RunLemmas.{BeginsWith-added, stretch, IsUtf8-stretch, length-stretch_of, stretch_joined, stretch_grown, stretch_added}
+pub use Rattle.snippet_grid.proofs.RunLemmas.{BeginsWith-le, BeginsWith-same, boundary, front_grown, is_utf8-end}
 pub use Rattle.snippet_grid.specs.Runs.{BeginsWith}
 pub use Rattle.snippet_grid.specs.Woven.{Piece, Reset, IsWoven, piece_text, link_start, link_stop, Opening, LinkTo, LinkEnd, plain_piece, piece_link, IsOfSheet}
 pub use Rattle.snippet_grid.specs.Woven.{AreLinksEnded, IsStyleOf}

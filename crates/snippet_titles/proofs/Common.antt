@@ -1,12 +1,12 @@
 -- What most proofs of this crate cite, given on from one place.
-pub use Rattle.snippet_grid.proofs.ChangeLemmas.{changed_within_none, changed_within_one}
-pub use Rattle.snippet_grid.proofs.GridLemmas.{cells_written_last}
+pub use Rattle.snippet_grid.proofs.ReplaceLemmas.{changed_within_none, changed_within_one}
+pub use Rattle.snippet_grid.proofs.GridShown.{cells_written_last}
 pub use Rattle.snippet_grid.proofs.GridShown.{chars_some}
 pub use Rattle.snippet_grid.proofs.OpenRowLemmas.{adds_more}
-pub use Rattle.snippet_grid.proofs.OutcomeLemmas.{on_ok_value}
-pub use Rattle.snippet_grid.proofs.RowLemmas.{row_text-text_cells, begun_by_text}
-pub use Rattle.snippet_grid.proofs.RowsWoven.{rows_one}
-pub use Rattle.snippet_grid.proofs.StretchPrinted.{stretch_printed, codes_added}
+pub use Rattle.snippet_grid.proofs.RunLemmas.{on_ok_value}
+pub use Rattle.snippet_grid.proofs.ReplaceLemmas.{row_text-text_cells, begun_by_text}
+pub use Rattle.snippet_grid.proofs.RowWoven.{rows_one}
+pub use Rattle.snippet_grid.proofs.ReplaceLemmas.{stretch_printed, codes_added}
 pub use Rattle.snippet_grid.proofs.WeaveLemmas.{Goes, Url, row_closed}
 pub use Rattle.snippet_grid.specs.Calls.{cells_linked}
 pub use Rattle.snippet_grid.specs.Grid.{row_at, cells_written, linked, cell_at}

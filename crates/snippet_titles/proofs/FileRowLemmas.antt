@@ -6,7 +6,7 @@ use Rattle.snippet_titles.proofs.Common.{line_text, origin_row, origin_text, clo
 use Rattle.std.proofs.Common.{chars}
 use Rattle.snippet_titles.proofs.RowLemmas.{appended-two}
 use Rattle.snippet_style.proofs.RowLemmas.{closing_some as closing-some}
-pub use Rattle.snippet_grid.proofs.RowLemmas.{separator_row-begun}
+pub use Rattle.snippet_grid.proofs.ReplaceLemmas.{separator_row-begun}
 
 -- no glyph is empty
 pub file_glyph-some : (start : FileStart) (decor : DecorStyle) → 0 < length (file_glyph start decor)

@@ -1,8 +1,7 @@
 use Rattle.snippet_grid.proofs.Common.{◌≡◌, ◌∙◌, ◌++◌, ◌∷◌, [], List, ap, arith, length, map, rules, string_bytes, subst, sym, take, ℕ}
 use Rattle.snippet_grid.proofs.Common.{length-map, length_push, AddsRow, BeginsWith, IsGrid, grid_shown, Stored, cell_of, Run, Cell}
 use Rattle.snippet_grid.proofs.AddedRows.{grid_added, row_added}
-use Rattle.snippet_grid.proofs.GridShown.{count_shown, IsGrid-grown}
-use Rattle.snippet_grid.proofs.StoredLemmas.{stored_grown}
+use Rattle.snippet_grid.proofs.GridShown.{count_shown, IsGrid-grown, stored_grown}
 use Rattle.snippet_grid.proofs.added_row.add_row.Goals as goal
 
 -- what is let go where memory is refused: all that was added

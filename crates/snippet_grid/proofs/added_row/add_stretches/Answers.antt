@@ -1,6 +1,6 @@
 use Rattle.snippet_grid.proofs.Common.{arith, refl, string_bytes, false≢true}
 use Rattle.snippet_grid.proofs.AddedRows.{FIRST, so_far_all, so_far_blank, so_far_more, so_far_none}
-use Rattle.snippet_grid.proofs.StretchLemmas.{BeginsWith-same, BeginsWith-trans}
+use Rattle.snippet_grid.proofs.RunLemmas.{BeginsWith-same, BeginsWith-trans}
 use Rattle.snippet_grid.proofs.added_row.add_stretches.Goals as goal
 
 pub loop-from-init : goal.loop-from-init

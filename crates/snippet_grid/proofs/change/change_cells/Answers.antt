@@ -1,18 +1,13 @@
 use Rattle.snippet_grid.proofs.Common.{◌≡◌, ◌∙◌, ◌+◌, ◌<◌, ◌≤◌, ◌^◌, ap, arith, refl, sym, subst, min, length, string_bytes}
 use Rattle.snippet_grid.proofs.Common.{get_or, List, ℕ, All, on_ok_weaker, on_err_weaker, changed_by, RowAt, ShowsSpan, cells_changed, Cell, IsRun, IsPut}
 use Rattle.snippet_grid.proofs.Common.{FitIn, shown_cell, Run, ◌++◌, ◌-◌, ◌*◌, take, drop, IsRow, EndsBy, row_at, Stored}
-use Rattle.snippet_grid.proofs.ChangeLemmas.{cells_changed_none}
-use Rattle.snippet_grid.proofs.ChangedRow.{put_span, put_stays, part_same}
-use Rattle.snippet_grid.proofs.GridChanged.{grid_span}
-use Rattle.snippet_grid.proofs.GridShown.{on_err_from, IsGrid-grown, grid_grown, width_shown}
-use Rattle.snippet_grid.proofs.OutcomeLemmas.{on_either}
-use Rattle.snippet_grid.proofs.PutLemmas.{AreOrdered, AreApart, IsRow-stretch}
-use Rattle.snippet_grid.proofs.RowPut.{RowAt-read, row_shows, begins_fit}
+use Rattle.snippet_grid.proofs.ReplaceLemmas.{cells_changed_none}
+use Rattle.snippet_grid.proofs.HtmlRows.{put_span, put_stays, part_same}
+use Rattle.snippet_grid.proofs.ReplacedRow.{grid_span, IsExchanged, IsGrid-put, FitIn-put, grid_changed}
+use Rattle.snippet_grid.proofs.GridShown.{on_err_from, IsGrid-grown, grid_grown, width_shown, stored_grown}
+use Rattle.snippet_grid.proofs.RunLemmas.{on_either, stretch, BeginsWith-trans}
+use Rattle.snippet_grid.proofs.PutLemmas.{AreOrdered, AreApart, IsRow-stretch, RowAt-read, row_shows, begins_fit, put_length, length-stretch}
 use Rattle.snippet_grid.proofs.ShownLemmas.{All-IsRun-grown}
-use Rattle.snippet_grid.proofs.StretchLemmas.{stretch, BeginsWith-trans}
-use Rattle.snippet_grid.proofs.GridChanged.{IsExchanged, IsGrid-put, FitIn-put, grid_changed}
-use Rattle.snippet_grid.proofs.RowPut.{put_length, length-stretch}
-use Rattle.snippet_grid.proofs.StoredLemmas.{stored_grown}
 use Rattle.snippet_grid.proofs.change.change_cells.Goals as goal
 use Rattle.snippet_grid.proofs.change.change_cells.Goals.{After-row_bounds-from}
 

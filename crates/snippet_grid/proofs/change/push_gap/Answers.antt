@@ -1,5 +1,5 @@
 use Rattle.snippet_grid.proofs.Common.{rules, arith, refl, string_bytes, IsUtf8-string_bytes}
-use Rattle.snippet_grid.proofs.SpanLemmas.{IsGap-pushed}
+use Rattle.snippet_grid.proofs.CopyLemmas.{IsGap-pushed}
 use Rattle.snippet_grid.proofs.change.push_gap.Goals as goal
 
 pub returns-clause-ok : goal.returns-clause-ok

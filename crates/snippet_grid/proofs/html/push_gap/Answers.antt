@@ -1,5 +1,5 @@
 use Rattle.snippet_grid.proofs.Common.{arith, map, refl, replicate, string_bytes, ◌-◌, Text, tags_between, plain_look, look_seen}
-use Rattle.snippet_grid.proofs.HtmlLemmas.{adds_both, adds_spaces}
+use Rattle.snippet_grid.proofs.HtmlReads.{adds_both, adds_spaces}
 use Rattle.snippet_grid.proofs.html.push_gap.Goals as goal
 
 pub returns : goal.returns

@@ -2,7 +2,7 @@ use Rattle.snippet_grid.proofs.Common.{◌≤◌, ◌<◌, ◌+◌, ◌++◌, su
 use Rattle.snippet_grid.proofs.Common.{on_ok_weaker, option_copied, AddsHtml, HtmlLook, Text, tags_between, look_at, look_seen, run_chars, cells_to, Run}
 use Rattle.snippet_grid.proofs.Common.{MainHeaderMsg}
 use Rattle.std.specs.Str.{chars}
-use Rattle.snippet_grid.proofs.HtmlLemmas.{html_closed}
+use Rattle.snippet_grid.proofs.HtmlReads.{html_closed}
 use Rattle.snippet_grid.proofs.HtmlRows.{HtmlTo, html_start, html_gap, html_run}
 use Rattle.snippet_grid.proofs.RowWoven.{first_ahead}
 use Rattle.snippet_grid.proofs.RunLemmas.{starts_at_boundary, ends_at_boundary}

@@ -1,7 +1,6 @@
 use Rattle.snippet_grid.proofs.Common.{◌≡◌, ◌++◌, ◌<◌, arith, string_bytes, encode_utf8, RowAt}
 use Rattle.snippet_grid.proofs.HtmlRows.{html_rows_next, html_rows_all}
-use Rattle.snippet_grid.proofs.PutLemmas.{IsRow-stretch}
-use Rattle.snippet_grid.proofs.RowPut.{row_ends}
+use Rattle.snippet_grid.proofs.PutLemmas.{IsRow-stretch, row_ends}
 use Rattle.snippet_grid.proofs.html.push_html_rows.Goals as goal
 use Rattle.snippet_grid.proofs.html.push_html_rows.Goals.{then-row-gt0+in_ok-push, else-row-gt0}
 

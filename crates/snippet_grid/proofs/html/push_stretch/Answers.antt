@@ -1,6 +1,6 @@
 use Rattle.snippet_grid.proofs.Common.{map, string_bytes, on_ok_weaker, Text, tags_between, look_seen}
 use Rattle.std.specs.Str.{chars}
-use Rattle.snippet_grid.proofs.HtmlLemmas.{adds_both, adds_text}
+use Rattle.snippet_grid.proofs.HtmlReads.{adds_both, adds_text}
 use Rattle.snippet_grid.proofs.html.push_stretch.Goals as goal
 
 pub returns : goal.returns

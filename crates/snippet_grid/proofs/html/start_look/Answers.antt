@@ -1,5 +1,5 @@
 use Rattle.snippet_grid.proofs.Common.{string_bytes, on_ok_weaker, anchor_started, span_started}
-use Rattle.snippet_grid.proofs.HtmlLemmas.{adds_both}
+use Rattle.snippet_grid.proofs.HtmlReads.{adds_both}
 use Rattle.snippet_grid.proofs.html.start_look.Goals as goal
 
 pub returns : goal.returns

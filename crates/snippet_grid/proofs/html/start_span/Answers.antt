@@ -1,6 +1,6 @@
 use Rattle.snippet_grid.proofs.Common.{◌∙◌, sym, string_bytes, on_ok_weaker}
-use Rattle.snippet_grid.proofs.HtmlLemmas.{adds_span}
-use Rattle.snippet_grid.proofs.OutcomeLemmas.{on_ok_value}
+use Rattle.snippet_grid.proofs.HtmlReads.{adds_span}
+use Rattle.snippet_grid.proofs.RunLemmas.{on_ok_value}
 use Rattle.snippet_grid.proofs.html.start_span.Goals as goal
 
 pub returns : goal.returns

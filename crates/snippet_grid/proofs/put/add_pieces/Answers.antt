@@ -1,8 +1,6 @@
 use Rattle.snippet_grid.proofs.Common.{◌≡◌, ◌∙◌, ◌++◌, ap, sym, subst, arith, string_bytes, List, [], ◌∷◌, ℕ, All, All-nil, IsRun}
 use Rattle.snippet_grid.proofs.Common.{AreTouchedRuns, IsFront, IsBack, Run}
-use Rattle.snippet_grid.proofs.OutcomeLemmas.{on_ok_three}
-use Rattle.snippet_grid.proofs.RunLemmas.{IsRun-grown}
-use Rattle.snippet_grid.proofs.StretchLemmas.{BeginsWith-trans}
+use Rattle.snippet_grid.proofs.RunLemmas.{on_ok_three, IsRun-grown, BeginsWith-trans}
 use Rattle.snippet_grid.proofs.PieceLemmas.{ArePieces-two, ArePieces-three}
 use Rattle.snippet_grid.proofs.put.add_pieces.Goals as goal
 use Rattle.snippet_grid.proofs.put.add_pieces.Goals.{After-add_run, in-Some+in_ok-push, in_default}

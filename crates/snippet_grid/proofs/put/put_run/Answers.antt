@@ -1,11 +1,9 @@
 use Rattle.snippet_grid.proofs.Common.{arith, ◌-◌, ◌<◌, ◌≤◌, ◌∙◌, ap, sym, subst, string_bytes, length, take, drop, get_or, set, List, []}
 use Rattle.snippet_grid.proofs.Common.{◌∷◌, ◌≡◌, ℕ, All, append_assoc, get_or_default, set-get_or, on_ok_weaker, on_err_weaker, IsRun, Continues}
 use Rattle.snippet_grid.proofs.Common.{IsClear, Touches, ArePieces, Precedes, Run}
-use Rattle.snippet_grid.proofs.OutcomeLemmas.{on_ok_three}
+use Rattle.snippet_grid.proofs.RunLemmas.{on_ok_three, none, BeginsWith-same, stretch}
 use Rattle.snippet_grid.proofs.PieceLemmas.{ArePieces-alone, IsPut-one}
-use Rattle.snippet_grid.proofs.RunLemmas.{none}
 use Rattle.snippet_grid.proofs.PutLemmas.{AllFit, AreOrdered, AreApart, fits_all}
-use Rattle.snippet_grid.proofs.StretchLemmas.{BeginsWith-same, stretch}
 use Rattle.snippet_grid.proofs.TouchLemmas.{IsPut-added, IsPut-touched, touched_stretch}
 use Rattle.snippet_grid.proofs.put.put_run.Goals as goal
 use Rattle.snippet_grid.proofs.put.put_run.Goals.{After-first_touched-start}

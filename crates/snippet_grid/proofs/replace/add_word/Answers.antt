@@ -1,8 +1,7 @@
 use Rattle.snippet_grid.proofs.Common.{◌≡◌, ◌∙◌, ◌+◌, ap, arith, rules, length, string_bytes, ℕ, on_ok_weaker}
 use Rattle.std.specs.Str.{chars}
-use Rattle.snippet_grid.proofs.StretchLemmas.{BeginsWith-trans}
+use Rattle.snippet_grid.proofs.RunLemmas.{BeginsWith-trans, on_ok_two}
 use Rattle.snippet_grid.proofs.GridShown.{chars_some}
-use Rattle.snippet_grid.proofs.OutcomeLemmas.{on_ok_two}
 use Rattle.snippet_grid.proofs.PutLemmas.{IsRow-grown, IsRow-added}
 use Rattle.snippet_grid.proofs.ReplacedRow.{span_empty, word_span}
 use Rattle.snippet_grid.proofs.ShownLemmas.{All-IsRun-grown}

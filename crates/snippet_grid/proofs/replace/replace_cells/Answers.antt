@@ -2,14 +2,11 @@ use Rattle.snippet_grid.proofs.Common.{rules, ◌≡◌, ◌∙◌, ◌+◌, ◌
 use Rattle.snippet_grid.proofs.Common.{string_bytes, get_or, List, ℕ, All, length, set, cases_lt, length-set, get_or-set_same, get_or-set_other, get_or_past}
 use Rattle.snippet_grid.proofs.Common.{length-text_cells, RowAt, ShowsReplaced, text_cells, IsRun, EndsBy, FitIn, Run, row_at, cells_replaced, Stored}
 use Rattle.std.specs.Str.{chars}
-use Rattle.snippet_grid.proofs.GridChanged.{IsExchanged, IsGrid-put}
-use Rattle.snippet_grid.proofs.GridShown.{on_err_from, IsGrid-grown, width_shown}
-use Rattle.snippet_grid.proofs.PutLemmas.{AreOrdered, AreApart, IsRow-stretch}
+use Rattle.snippet_grid.proofs.ReplacedRow.{IsExchanged, IsGrid-put, grid_replaced, FitIn-replaced}
+use Rattle.snippet_grid.proofs.GridShown.{on_err_from, IsGrid-grown, width_shown, stored_grown}
+use Rattle.snippet_grid.proofs.PutLemmas.{AreOrdered, AreApart, IsRow-stretch, RowAt-read, begins_fit, row_ends, put_length, length-stretch}
 use Rattle.snippet_grid.proofs.ReplaceLemmas.{cells_replaced_empty, cells_replaced_past}
-use Rattle.snippet_grid.proofs.ReplacedRow.{grid_replaced, FitIn-replaced}
-use Rattle.snippet_grid.proofs.RowPut.{RowAt-read, begins_fit, row_ends, put_length, length-stretch}
-use Rattle.snippet_grid.proofs.StretchLemmas.{stretch}
-use Rattle.snippet_grid.proofs.StoredLemmas.{stored_grown}
+use Rattle.snippet_grid.proofs.RunLemmas.{stretch}
 use Rattle.snippet_grid.proofs.replace.replace_cells.Goals as goal
 use Rattle.snippet_grid.proofs.replace.replace_cells.Goals.{After-row_bounds-from, After-checked_add}
 

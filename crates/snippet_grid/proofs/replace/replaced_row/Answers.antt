@@ -2,10 +2,9 @@ use Rattle.snippet_grid.proofs.Common.{◌+◌, ◌-◌, arith, ap, sym, subst, 
 use Rattle.snippet_grid.proofs.Common.{length-text_cells, ShowsSpan, SPACE, text_cells, IsRow, EndsBy, Run}
 use Rattle.std.specs.Str.{chars}
 use Rattle.snippet_grid.proofs.PieceLemmas.{IsRow-none}
-use Rattle.snippet_grid.proofs.TouchedRuns.{touched_outer}
+use Rattle.snippet_grid.proofs.ReplacedRow.{touched_outer, row_replaced}
 use Rattle.snippet_grid.proofs.PutLemmas.{IsRow-grown}
-use Rattle.snippet_grid.proofs.ReplacedRow.{row_replaced}
-use Rattle.snippet_grid.proofs.StretchLemmas.{BeginsWith-trans}
+use Rattle.snippet_grid.proofs.RunLemmas.{BeginsWith-trans}
 use Rattle.snippet_grid.proofs.replace.replaced_row.Goals as goal
 
 -- the row is begun with no runs

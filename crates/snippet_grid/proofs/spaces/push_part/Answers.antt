@@ -1,7 +1,7 @@
 use Rattle.snippet_grid.proofs.Common.{◌≡◌, ◌∙◌, ◌<◌, ◌-◌, ◌++◌, ap, sym, subst, arith, ℕ, List, length, take, replicate}
 use Rattle.snippet_grid.proofs.Common.{string_bytes, take-replicate, get_or-replicate, length-replicate, slice_range, IsCharBoundary, IsCharBoundary-from_ascii}
 use Rattle.snippet_grid.proofs.Common.{IsAscii-from_all}
-use Rattle.snippet_grid.proofs.StretchLemmas.{BeginsWith-added}
+use Rattle.snippet_grid.proofs.RunLemmas.{BeginsWith-added}
 use Rattle.snippet_grid.proofs.spaces.push_part.Goals as goal
 
 pub range-requires-clause-end_boundary : goal.range-requires-clause-end_boundary

@@ -1,6 +1,6 @@
 use Rattle.snippet_grid.proofs.Common.{◌-◌, arith, refl, string_bytes}
-use Rattle.snippet_grid.proofs.StretchPrinted.{more_spaces}
-use Rattle.snippet_grid.proofs.StretchLemmas.{BeginsWith-added, BeginsWith-trans}
+use Rattle.snippet_grid.proofs.ReplaceLemmas.{more_spaces}
+use Rattle.snippet_grid.proofs.RunLemmas.{BeginsWith-added, BeginsWith-trans}
 use Rattle.snippet_grid.proofs.spaces.push_spaces.Goals as goal
 
 pub loop-left-preserved : goal.loop-left-preserved

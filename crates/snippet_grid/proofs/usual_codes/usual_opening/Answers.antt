@@ -1,5 +1,5 @@
 use Rattle.snippet_grid.proofs.Common.{◌∙◌, ap, sym, same_told, opening_bytes}
-use Rattle.snippet_grid.proofs.OutcomeLemmas.{if_some_weaker}
+use Rattle.snippet_grid.proofs.RunLemmas.{if_some_weaker}
 use Rattle.snippet_grid.proofs.usual_codes.usual_opening.Goals as goal
 
 pub returns : goal.returns

@@ -1,5 +1,5 @@
 use Rattle.snippet_grid.proofs.Common.{None, Run, MainHeaderMsg}
-use Rattle.snippet_grid.proofs.RowsWoven.{later_rows}
+use Rattle.snippet_grid.proofs.RowWoven.{later_rows}
 use Rattle.snippet_grid.proofs.weave.row_end.Goals as goal
 
 -- what stands where a list has no run

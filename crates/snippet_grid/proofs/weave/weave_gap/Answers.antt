@@ -1,5 +1,5 @@
 use Rattle.snippet_grid.proofs.Common.{◌∙◌, ◌++◌, ap, sym, refl, string_bytes, List, ℕ, on_ok_weaker}
-use Rattle.snippet_grid.proofs.StretchPrinted.{space_bytes}
+use Rattle.snippet_grid.proofs.ReplaceLemmas.{space_bytes}
 use Rattle.snippet_grid.proofs.WeaveLemmas.{none≢some}
 use Rattle.snippet_grid.proofs.weave.weave_gap.Goals as goal
 

@@ -1,9 +1,8 @@
 use Rattle.snippet_grid.proofs.Common.{◌≡◌, ◌++◌, ◌<◌, ◌∙◌, arith, get_or, subst, string_bytes, encode_utf8, RowAt, cells_to, WeavesRow}
 use Rattle.snippet_grid.proofs.Common.{Stylesheet}
-use Rattle.snippet_grid.proofs.PutLemmas.{IsRow-stretch}
-use Rattle.snippet_grid.proofs.RowPut.{row_ends}
-use Rattle.snippet_grid.proofs.RowsWoven.{rows_next, rows_all}
-use Rattle.snippet_grid.proofs.StretchLemmas.{stretch}
+use Rattle.snippet_grid.proofs.PutLemmas.{IsRow-stretch, row_ends}
+use Rattle.snippet_grid.proofs.RowWoven.{rows_next, rows_all}
+use Rattle.snippet_grid.proofs.RunLemmas.{stretch}
 use Rattle.snippet_grid.proofs.weave.weave_rows.Goals as goal
 use Rattle.snippet_grid.proofs.weave.weave_rows.Goals.{then-row-gt0+in_ok-push, else-row-gt0}
 

@@ -1,6 +1,6 @@
 -- The rows so far are printed.
 use Rattle.snippet_grid.proofs.Common.{◌≡◌, string_bytes}
-use Rattle.snippet_grid.proofs.RowsWoven.{RowsTo}
+use Rattle.snippet_grid.proofs.RowWoven.{RowsTo}
 use Rattle.snippet_grid.proofs.weave.weave_rows.Given as goal
 
 abbrev pub invariant-loop-row : goal.invariant-loop-row

@@ -1,10 +1,9 @@
 use Rattle.snippet_grid.proofs.Common.{◌≡◌, ◌+◌, ◌≤◌, refl, set, arith, string_bytes, length, slice_index_or, length-set, FitIn, IsPut}
 use Rattle.snippet_grid.proofs.Common.{IsWidened, IsWord, run_bytes}
 use Rattle.std.specs.Str.{chars}
-use Rattle.snippet_grid.proofs.GridShown.{on_err_from, FitIn-widened, IsGrid-grown, IsWidened-to, grid_written, word_end}
+use Rattle.snippet_grid.proofs.GridShown.{on_err_from, FitIn-widened, IsGrid-grown, IsWidened-to, grid_written, word_end, stored_grown}
 use Rattle.snippet_grid.proofs.LastLemmas.{last_before, last_widened}
-use Rattle.snippet_grid.proofs.StoredLemmas.{stored_grown}
-use Rattle.snippet_grid.proofs.StretchLemmas.{BeginsWith-same}
+use Rattle.snippet_grid.proofs.RunLemmas.{BeginsWith-same}
 use Rattle.snippet_grid.proofs.TouchLemmas.{IsPut-added}
 use Rattle.snippet_grid.proofs.words.place_last.Goals as goal
 

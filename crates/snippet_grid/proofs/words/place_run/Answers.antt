@@ -1,8 +1,7 @@
 use Rattle.snippet_grid.proofs.Common.{◌≡◌, ◌+◌, refl, arith, string_bytes, length, ◌≤◌, slice_index_or, IsWidened, IsWord, FitIn, run_bytes}
 use Rattle.std.specs.Str.{chars}
-use Rattle.snippet_grid.proofs.StretchLemmas.{BeginsWith-same}
-use Rattle.snippet_grid.proofs.GridShown.{on_err_from, IsGrid-grown, grid_written, FitIn-widened, IsWidened-to, word_end}
-use Rattle.snippet_grid.proofs.StoredLemmas.{stored_grown}
+use Rattle.snippet_grid.proofs.RunLemmas.{BeginsWith-same}
+use Rattle.snippet_grid.proofs.GridShown.{on_err_from, IsGrid-grown, grid_written, FitIn-widened, IsWidened-to, word_end, stored_grown}
 use Rattle.snippet_grid.proofs.words.place_run.Goals as goal
 
 pub returns-in_err-put_run-clause-grid : goal.returns-in_err-put_run-clause-grid

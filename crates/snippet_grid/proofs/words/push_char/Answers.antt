@@ -2,7 +2,7 @@ use Rattle.snippet_grid.proofs.Common.{◌≡◌, ◌∙◌, ◌++◌, ◌∷◌
 use Rattle.snippet_grid.proofs.Common.{append-nil, IsUtf8-string_bytes, IsUtf8, BeginsWith}
 use Rattle.std.proofs.Common.{chars}
 use Rattle.snippet_grid.proofs.GridShown.{IsWord-pushed, chars_added}
-use Rattle.snippet_grid.proofs.StretchLemmas.{BeginsWith-added}
+use Rattle.snippet_grid.proofs.RunLemmas.{BeginsWith-added}
 use Rattle.snippet_grid.proofs.words.push_char.Goals as goal
 
 -- a character that was added to a text is the only one of its bytes

@@ -1,7 +1,6 @@
 use Rattle.snippet_grid.proofs.Common.{◌∙◌, ap, arith, subst, length, string_bytes, List, ℕ, on_ok_weaker, on_err_weaker, cells_written, text_cells}
 use Rattle.snippet_grid.proofs.Common.{BeginsWith, run_chars, Stored}
-use Rattle.snippet_grid.proofs.GridShown.{on_err_from, IsGrid-grown}
-use Rattle.snippet_grid.proofs.StoredLemmas.{stored_grown}
+use Rattle.snippet_grid.proofs.GridShown.{on_err_from, IsGrid-grown, stored_grown}
 use Rattle.snippet_grid.proofs.words.write_char.Goals as goal
 
 pub invariant_of-cells-in_err-run : goal.invariant_of-cells-in_err-run

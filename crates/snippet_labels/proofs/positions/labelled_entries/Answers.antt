@@ -1,6 +1,6 @@
 use Rattle.snippet_labels.proofs.Common.{arith, ◌≡◌, ◌-◌, ◌∷◌, ◌++◌, [], ℕ, ap, sym, subst, All, map, length, refl, ◌∙◌, map_push}
 use Rattle.snippet_labels.proofs.Common.{All-append, All-cons, All-nil, LineAnnotation, PlacedEntry, shifted, HasItsBytes, HasItsLabel}
-use Rattle.snippet_labels.proofs.LabelWords.{label_text}
+use Rattle.snippet_labels.proofs.PlacedLemmas.{label_text}
 use Rattle.snippet_labels.proofs.CharLemmas.{bytes_of_chars}
 use Rattle.snippet_labels.proofs.RowLemmas.{counts_more, labelled_more}
 use Rattle.snippet_labels.proofs.positions.labelled_entries.Goals as goal

@@ -3,8 +3,7 @@ use Rattle.snippet_labels.proofs.Common.{IsPermutation, All-permutation, IsPermu
 use Rattle.snippet_labels.proofs.Common.{shifted, line_positions, look_counts, ArePlaced, HasItsBytes, HasItsLabel, StandInRow, unplaced, length-map}
 use Rattle.snippet_labels.proofs.Common.{reverse-reverse}
 use Rattle.snippet_labels.proofs.PlacedLemmas.{entries_all, written_back, ArePlaced-from, shifted_narrow}
-use Rattle.snippet_labels.proofs.RowLemmas.{ArePlaced-row, map-reverse}
-use Rattle.snippet_labels.proofs.OrderLemmas.{order_of_sort, place_key, from_right_from_sort}
+use Rattle.snippet_labels.proofs.RowLemmas.{ArePlaced-row, map-reverse, order_of_sort, place_key, from_right_from_sort}
 use Rattle.snippet_labels.proofs.positions.placed_entries.Goals as goal
 
 -- entries that are listed from the last to the first, and turned round, are those that are given

@@ -1,6 +1,6 @@
 use Rattle.snippet_strokes.proofs.Common.{◌≡◌, ◌∙◌, ◌-◌, ◌+◌, ◌<◌, ℕ, List, [], ap, sym, get_or, replicate, take, refl, subst, arith}
 use Rattle.snippet_strokes.proofs.Common.{get_or_default, take_all, OpenBar, Cell, SPACE, written, StandsBeside, bar_cell_part, barred, changed_from}
-use Rattle.snippet_strokes.proofs.BarParts.{with_parts}
+use Rattle.snippet_strokes.proofs.CellLemmas.{with_parts}
 use Rattle.snippet_strokes.proofs.BarRows.{changed-more, changed_same, side_drawn}
 use Rattle.snippet_strokes.proofs.BarLemmas.{no_bar}
 use Rattle.snippet_strokes.proofs.bars.draw_sides.Goals as goal

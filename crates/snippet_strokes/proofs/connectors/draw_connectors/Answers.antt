@@ -1,7 +1,7 @@
 use Rattle.snippet_strokes.proofs.Common.{◌≡◌, ◌∙◌, List, ℕ, ap, sym, subst, arith, length, take, All, take_all, All-take, Cell, Layout}
 use Rattle.snippet_strokes.proofs.Common.{PlacedEntry, HasPlaceAmong, HasRows, connector_of, connectors_of, painted}
 use Rattle.snippet_strokes.proofs.BarWrites.{DrawsFrom-connectors}
-use Rattle.snippet_strokes.proofs.WriteLemmas.{painted_more}
+use Rattle.snippet_strokes.proofs.WriteLaws.{painted_more}
 use Rattle.snippet_strokes.proofs.connectors.draw_connectors.Goals as goal
 
 -- lines to bars add no row

@@ -1,5 +1,5 @@
 use Rattle.snippet_strokes.proofs.Common.{◌≡◌, ◌∙◌, ap, sym, arith, column_of, painted}
-use Rattle.snippet_strokes.proofs.StrokeWrites.{column_of-none, column_painted}
+use Rattle.snippet_strokes.proofs.EntryBarLaws.{column_of-none, column_painted}
 use Rattle.snippet_strokes.proofs.corners.draw_bar.Goals as goal
 
 pub loop-row-init : goal.loop-row-init

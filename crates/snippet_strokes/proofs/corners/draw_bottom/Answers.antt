@@ -1,6 +1,6 @@
 use Rattle.snippet_strokes.proofs.Common.{◌∙◌, ◌∷◌, [], ap, sym, on_ok_weaker, column_of, glyph_at}
-use Rattle.snippet_strokes.proofs.OneStep.{written_by}
-use Rattle.snippet_strokes.proofs.WriteLemmas.{painted-append}
+use Rattle.snippet_strokes.proofs.CellLemmas.{written_by}
+use Rattle.snippet_strokes.proofs.WriteLaws.{painted-append}
 use Rattle.snippet_strokes.proofs.corners.draw_bottom.Goals as goal
 
 pub returns : goal.returns

@@ -1,6 +1,6 @@
 use Rattle.snippet_strokes.proofs.Common.{◌∙◌, ◌+◌, ◌++◌, ◌∷◌, [], List, ℕ, ap, length, sym, on_ok_weaker, LineAnnotationType, Cell}
 use Rattle.snippet_strokes.proofs.Common.{Strokes, column_of, glyph_at, painted}
-use Rattle.snippet_strokes.proofs.StrokeWords.{corner_by}
+use Rattle.snippet_strokes.proofs.CellLemmas.{corner_by}
 use Rattle.snippet_strokes.proofs.corners.draw_corner.Goals as goal
 
 pub returns-in-MultilineStart : goal.returns-in-MultilineStart

@@ -1,7 +1,7 @@
 use Rattle.snippet_strokes.proofs.Common.{◌≡◌, ◌∙◌, ◌+◌, List, ℕ, ap, sym, subst, arith, length, take, All, take_all, All-take, Cell, Layout}
 use Rattle.snippet_strokes.proofs.Common.{PlacedEntry, HasRows, corner_of, corners_of, HasBarCell, painted}
 use Rattle.snippet_strokes.proofs.BarWrites.{DrawsBarCells-corners}
-use Rattle.snippet_strokes.proofs.WriteLemmas.{painted_more}
+use Rattle.snippet_strokes.proofs.WriteLaws.{painted_more}
 use Rattle.snippet_strokes.proofs.corners.draw_corners.Goals as goal
 
 -- bars add no row

@@ -1,5 +1,5 @@
 use Rattle.snippet_strokes.proofs.Common.{◌∙◌, ◌-◌, ap, arith, take_all, top_of, tops_of, painted}
-use Rattle.snippet_strokes.proofs.WriteLemmas.{painted_more}
+use Rattle.snippet_strokes.proofs.WriteLaws.{painted_more}
 use Rattle.snippet_strokes.proofs.corners.draw_tops.Goals as goal
 
 pub loop-entry-preserved : goal.loop-entry-preserved

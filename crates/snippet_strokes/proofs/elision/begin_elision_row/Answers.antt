@@ -1,6 +1,6 @@
 use Rattle.snippet_strokes.proofs.Common.{◌≡◌, ◌∙◌, ◌++◌, ◌∷◌, [], ap, sym, replicate, on_ok_weaker, DecorStyle, LineNumber, elision_of}
 use Rattle.snippet_strokes.proofs.Common.{SPACE, text_cells, Layout, separator_cell, begun_by_text}
-use Rattle.snippet_strokes.proofs.ElisionLemmas.{bare_elision_is, elision_cell, elision_some}
+use Rattle.snippet_strokes.proofs.SourceCellLaws.{bare_elision_is, elision_cell, elision_some}
 use Rattle.snippet_strokes.proofs.elision.begin_elision_row.Goals as goal
 use Rattle.snippet_strokes.proofs.elision.begin_elision_row.Goals.{in-Ascii, in-Unicode}
 

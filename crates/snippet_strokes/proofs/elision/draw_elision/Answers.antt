@@ -1,5 +1,5 @@
 use Rattle.snippet_strokes.proofs.Common.{on_ok_weaker}
-use Rattle.snippet_strokes.proofs.ElisionLemmas.{gap_added}
+use Rattle.snippet_strokes.proofs.SourceCellLaws.{gap_added}
 use Rattle.snippet_strokes.proofs.elision.draw_elision.Goals as goal
 
 pub returns : goal.returns

@@ -1,7 +1,6 @@
 use Rattle.snippet_strokes.proofs.Common.{◌≡◌, ◌∙◌, ap, sym, subst, arith, length, take, All, ℕ, List, take_all, All-take, Cell, Layout}
 use Rattle.snippet_strokes.proofs.Common.{PlacedEntry, HasPlaceAmong, HasRows, painted, label_of, labels_of, HasPlace}
-use Rattle.snippet_strokes.proofs.LabelWrites.{DrawsFrom-labels}
-use Rattle.snippet_strokes.proofs.WriteLemmas.{painted_more}
+use Rattle.snippet_strokes.proofs.WriteLaws.{DrawsFrom-labels, painted_more}
 use Rattle.snippet_strokes.proofs.labels.draw_labels.Goals as goal
 
 -- labels add no row

@@ -1,7 +1,7 @@
 use Rattle.snippet_strokes.proofs.Common.{◌≡◌, ◌∙◌, ◌-◌, ◌<◌, ap, sym, arith, length, replicate, length-replicate, on_ok_weaker, painted}
 use Rattle.std.specs.Str.{chars}
 use Rattle.snippet_strokes.proofs.LineLemmas.{some_bytes}
-use Rattle.snippet_strokes.proofs.WriteLemmas.{stretch_of-none, stretch_painted}
+use Rattle.snippet_strokes.proofs.WriteLaws.{stretch_of-none, stretch_painted}
 use Rattle.snippet_strokes.proofs.lines.draw_stretch.Goals as goal
 
 pub puts-requires-clause-end : goal.puts-requires-clause-end

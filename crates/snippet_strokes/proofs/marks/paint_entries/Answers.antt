@@ -1,5 +1,5 @@
 use Rattle.snippet_strokes.proofs.Common.{◌∙◌, ap, arith, flat_map, take_all, mark_of, painted}
-use Rattle.snippet_strokes.proofs.WriteLemmas.{painted_more}
+use Rattle.snippet_strokes.proofs.WriteLaws.{painted_more}
 use Rattle.snippet_strokes.proofs.marks.paint_entries.Goals as goal
 
 pub loop-entry-preserved : goal.loop-entry-preserved

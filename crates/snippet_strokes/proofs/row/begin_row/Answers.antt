@@ -1,5 +1,5 @@
 use Rattle.snippet_strokes.proofs.Common.{◌∙◌, ap, sym, on_ok_weaker, separator_cell}
-use Rattle.snippet_grid.proofs.RowLemmas.{separator_row-begun as begun}
+use Rattle.snippet_grid.proofs.ReplaceLemmas.{separator_row-begun as begun}
 use Rattle.snippet_strokes.proofs.row.begin_row.Goals as goal
 
 pub returns-clause-added : goal.returns-clause-added

@@ -1,7 +1,7 @@
 use Rattle.snippet_strokes.proofs.Common.{◌+◌, ◌∙◌, List, ap, arith, length, on_ok_weaker, shown_number, Cell, norm, changed_within, Solid, Top}
 use Rattle.snippet_strokes.proofs.Common.{source_row, window_cells, highlighted_row}
 use Rattle.std.proofs.Common.{chars}
-use Rattle.snippet_strokes.proofs.BarParts.{with_parts}
+use Rattle.snippet_strokes.proofs.CellLemmas.{with_parts}
 use Rattle.snippet_strokes.proofs.BarLemmas.{BarsDrawn-with_parts}
 use Rattle.snippet_strokes.proofs.HighlightLaws.{asking}
 use Rattle.snippet_strokes.proofs.LineAdded.{row_added, whole_added}

@@ -1,7 +1,7 @@
 use Rattle.snippet_strokes.proofs.Common.{◌≡◌, ◌∙◌, ◌≤◌, ◌+◌, ◌++◌, ◌∷◌, [], ℕ, List, None, ap, arith, length, subst, sym}
 use Rattle.snippet_strokes.proofs.Common.{chars-nil, cow_str_bytes, Layout, layout_of, Cell, source_row, begun_cells, ended_cells, Solid, Top}
 use Rattle.std.proofs.Common.{chars}
-use Rattle.snippet_strokes.proofs.BarParts.{with_parts}
+use Rattle.snippet_strokes.proofs.CellLemmas.{with_parts}
 use Rattle.snippet_strokes.proofs.source_row.draw_empty_row.Goals as goal
 
 pub write_source_row-requires-clause-number : goal.write_source_row-requires-clause-number

@@ -3,8 +3,7 @@ use Rattle.snippet_strokes.proofs.Common.{arith, length, Layout, layout_of, sour
 use Rattle.snippet_strokes.proofs.Common.{part_of_norm, norm, width_of-chars, shown_number, chars-shown_number, norm_short, nat_tests, on_ok_weaker}
 use Rattle.snippet_strokes.proofs.Common.{cow_str_bytes, if_ok_weaker, width_of, dropped_part}
 use Rattle.std.proofs.Common.{chars}
-use Rattle.snippet_strokes.proofs.BarParts.{with_parts}
-use Rattle.snippet_strokes.proofs.CellLemmas.{cells_are, no_window, nothing_shown, part_few}
+use Rattle.snippet_strokes.proofs.CellLemmas.{with_parts, cells_are, no_window, nothing_shown, part_few}
 use Rattle.snippet_strokes.proofs.source_row.draw_source_row.Goals as goal
 
 pub near_part-near-requires-clause-narrow : goal.near_part-near-requires-clause-narrow

@@ -1,8 +1,7 @@
 use Rattle.snippet_strokes.proofs.Common.{◌≡◌, ◌∙◌, ◌++◌, ◌∷◌, [], List, ap, Cell, Top, Solid, barred, begun_cells, ended_cells}
 use Rattle.std.specs.Str.{chars}
-use Rattle.snippet_strokes.proofs.BarParts.{with_parts}
+use Rattle.snippet_strokes.proofs.CellLemmas.{with_parts, shown_short}
 use Rattle.snippet_strokes.proofs.BesideLemmas.{barred_last, bars_first, bars_left}
-use Rattle.snippet_strokes.proofs.CellLemmas.{shown_short}
 use Rattle.snippet_strokes.proofs.SourceRowLemmas.{front, front_short}
 use Rattle.snippet_strokes.proofs.source_row.write_source_row.Goals as goal
 

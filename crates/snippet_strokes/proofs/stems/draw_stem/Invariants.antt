@@ -1,5 +1,5 @@
 use Rattle.snippet_strokes.proofs.Common.{◌≡◌, map, range_with_len, painted}
-use Rattle.snippet_strokes.proofs.StrokeWords.{stem_write}
+use Rattle.snippet_strokes.proofs.CellLemmas.{stem_write}
 use Rattle.snippet_strokes.proofs.stems.draw_stem.Given as goal
 
 -- the stem is drawn down to this row

@@ -1,7 +1,7 @@
 use Rattle.snippet_strokes.proofs.Common.{◌≡◌, ◌∙◌, ◌+◌, ◌-◌, ◌∷◌, false, true, ap, sym, subst, arith, drop, length, take, drop_more}
 use Rattle.snippet_strokes.proofs.Common.{drop_all, length-drop, take_all, HasPlaceAmong, HasRows, is_stem_covered, stems_of, painted}
 use Rattle.snippet_strokes.proofs.EveryStem.{stems_painted}
-use Rattle.snippet_strokes.proofs.StemWrites.{stem_count, stems_next, stems_skip}
+use Rattle.snippet_strokes.proofs.BarWrites.{stem_count, stems_next, stems_skip}
 use Rattle.snippet_strokes.proofs.stems.draw_stems.Goals.{then-not-is_stem_covered+in_ok-draw_stem, else-not-is_stem_covered}
 use Rattle.snippet_strokes.proofs.stems.draw_stems.Goals as goal
 

@@ -1,10 +1,9 @@
 use Rattle.snippet_strokes.proofs.Common.{◌≡◌, ◌+◌, ◌^◌, ◌≤◌, ◌∙◌, ap, arith, length, subst, sym, on_ok_weaker, on_ok_two, flat_map}
 use Rattle.snippet_strokes.proofs.Common.{separator_row, AreEnough, mark_of, painting_order, bare_row, line_strokes, strokes_under_marks, painted}
-use Rattle.snippet_strokes.proofs.Drawn.{marks_of}
-use Rattle.snippet_strokes.proofs.EveryMark.{every_mark}
-use Rattle.snippet_strokes.proofs.EveryStroke.{strokes_painted, under_marks_painted}
-use Rattle.snippet_strokes.proofs.ReadyRows.{begun_enough, begun_long, count_marks, enough_after}
-use Rattle.snippet_strokes.proofs.StrokeWrites.{marks_painted}
+use Rattle.snippet_strokes.proofs.CellLemmas.{marks_of}
+use Rattle.snippet_strokes.proofs.EveryMark.{every_mark, strokes_painted, under_marks_painted}
+use Rattle.snippet_strokes.proofs.SplitRows.{begun_enough, begun_long, count_marks, enough_after}
+use Rattle.snippet_strokes.proofs.EntryBarLaws.{marks_painted}
 use Rattle.snippet_strokes.proofs.strokes.draw_few.Goals as goal
 
 pub draw_under_marks-requires : goal.draw_under_marks-requires

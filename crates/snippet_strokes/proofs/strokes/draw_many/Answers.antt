@@ -2,13 +2,11 @@ use Rattle.snippet_strokes.proofs.Common.{ℕ, Bool, ◌≡◌, ◌+◌, ◌-◌
 use Rattle.snippet_strokes.proofs.Common.{ap, arith, drop, length, replicate, subst, sym, on_ok_weaker, on_ok_two, append_assoc, length-append, length-drop}
 use Rattle.snippet_strokes.proofs.Common.{flat_map, Layout, IsReady, HasBarCell, AreEnough, HasRows, PlacedEntry, Cell, separator_row, mark_of, painting_order}
 use Rattle.snippet_strokes.proofs.Common.{bare_row, line_strokes, strokes_under_marks, tops_of, painted}
-use Rattle.snippet_strokes.proofs.Drawn.{drawn_strokes, marks_of}
-use Rattle.snippet_strokes.proofs.EveryMark.{every_mark}
-use Rattle.snippet_strokes.proofs.EveryStroke.{strokes_painted, under_marks_painted}
+use Rattle.snippet_strokes.proofs.CellLemmas.{drawn_strokes, marks_of}
+use Rattle.snippet_strokes.proofs.EveryMark.{every_mark, strokes_painted, under_marks_painted}
 use Rattle.snippet_strokes.proofs.ReadyLemmas.{ready_bar_cells}
-use Rattle.snippet_strokes.proofs.ReadyRows.{begun_enough, begun_long, count_marks, enough_after, rows_lifted}
-use Rattle.snippet_strokes.proofs.SplitRows.{meeting_painted, tops_count}
-use Rattle.snippet_strokes.proofs.StrokeWrites.{marks_painted}
+use Rattle.snippet_strokes.proofs.SplitRows.{begun_enough, begun_long, count_marks, enough_after, rows_lifted, meeting_painted, tops_count}
+use Rattle.snippet_strokes.proofs.EntryBarLaws.{marks_painted}
 use Rattle.snippet_strokes.proofs.strokes.draw_many.Goals as goal
 
 pub draw_tops-requires : goal.draw_tops-requires

@@ -9,10 +9,10 @@ use Rattle.snippet_strokes.proofs.PaintOrder.{IsPermutation-painting_order}
 use Rattle.snippet_strokes.proofs.PositionLemmas.{looked_of_placed, row_count_some, positions_of_placed}
 use Rattle.snippet_strokes.proofs.BegunLemmas.{rows_begun, rows_ready}
 use Rattle.snippet_strokes.proofs.ReadyLemmas.{all_ready, ready_places}
-use Rattle.snippet_strokes.proofs.ReadyRows.{enough_begun}
-use Rattle.snippet_strokes.proofs.Drawn.{drawn_strokes}
-use Rattle.snippet_strokes.proofs.EveryStroke.{strokes_painted}
-use Rattle.snippet_strokes.proofs.LineRowLemmas.{own_none, own_strokes, painted_added}
+use Rattle.snippet_strokes.proofs.SplitRows.{enough_begun}
+use Rattle.snippet_strokes.proofs.CellLemmas.{drawn_strokes}
+use Rattle.snippet_strokes.proofs.EveryMark.{strokes_painted}
+use Rattle.snippet_strokes.proofs.LineFromValue.{own_none, own_strokes, painted_added}
 use Rattle.snippet_strokes.proofs.strokes.draw_strokes.Goals as goal
 
 pub row_count-count-requires : goal.row_count-count-requires

@@ -1,10 +1,10 @@
 use Rattle.snippet_strokes.proofs.Common.{◌∙◌, ◌+◌, length, sym, on_ok_weaker}
 use Rattle.snippet_strokes.proofs.EveryStem.{stems_painted}
-use Rattle.snippet_strokes.proofs.EveryStroke.{under_marks_painted}
+use Rattle.snippet_strokes.proofs.EveryMark.{under_marks_painted}
 use Rattle.snippet_strokes.proofs.ReadyLemmas.{ready_bar_cells, ready_labels, ready_texts}
-use Rattle.snippet_strokes.proofs.ReadyRows.{after_connectors, after_corners, after_stems, count_connectors, count_corners, count_labels, count_stems}
-use Rattle.snippet_strokes.proofs.ReadyRows.{places_among}
-use Rattle.snippet_strokes.proofs.StrokeWrites.{under_painted}
+use Rattle.snippet_strokes.proofs.SplitRows.{after_connectors, after_corners, after_stems, count_connectors, count_corners, count_labels, count_stems}
+use Rattle.snippet_strokes.proofs.SplitRows.{places_among}
+use Rattle.snippet_strokes.proofs.EntryBarLaws.{under_painted}
 use Rattle.snippet_strokes.proofs.strokes.draw_under_marks.Goals as goal
 
 pub draw_connectors-requires : goal.draw_connectors-requires

@@ -1,5 +1,5 @@
 use Rattle.snippet_grid.proofs.Common.{◌∙◌, ◌++◌, ℕ, List, ap, string_bytes, on_ok_weaker, opening_bytes}
-use Rattle.snippet_grid.proofs.OutcomeLemmas.{on_ok_value}
+use Rattle.snippet_grid.proofs.RunLemmas.{on_ok_value}
 use Rattle.snippet_grid.proofs.codes.SheetCodes.push_first.Goals as goal
 
 pub know-requires : goal.know-requires

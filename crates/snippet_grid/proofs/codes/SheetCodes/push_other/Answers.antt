@@ -1,5 +1,5 @@
 use Rattle.snippet_grid.proofs.Common.{◌∙◌, ◌++◌, ℕ, List, ap, string_bytes, on_ok_weaker, opening_bytes, style_at}
-use Rattle.snippet_grid.proofs.OutcomeLemmas.{on_ok_value}
+use Rattle.snippet_grid.proofs.RunLemmas.{on_ok_value}
 use Rattle.snippet_grid.proofs.codes.SheetCodes.push_other.Goals as goal
 
 pub returns-in-Some-clause-text : goal.returns-in-Some-clause-text

@@ -1,6 +1,6 @@
 use Rattle.snippet_grid.proofs.Common.{◌∙◌, ◌++◌, ap, sym, string_bytes, List, ℕ, on_ok_weaker, style_at}
 use Rattle.snippet_grid.proofs.CodeLemmas.{reset_plain, reset_styled}
-use Rattle.snippet_grid.proofs.OutcomeLemmas.{on_ok_value}
+use Rattle.snippet_grid.proofs.RunLemmas.{on_ok_value}
 use Rattle.snippet_grid.proofs.codes.SheetCodes.push_reset.Goals as goal
 
 pub returns-then-is_plain : goal.returns-then-is_plain

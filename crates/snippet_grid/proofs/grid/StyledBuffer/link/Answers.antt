@@ -1,4 +1,4 @@
-use Rattle.snippet_grid.proofs.GridChanged.{reads_changed}
+use Rattle.snippet_grid.proofs.ReplacedRow.{reads_changed}
 use Rattle.snippet_grid.proofs.Common.{linked}
 use Rattle.snippet_grid.proofs.grid.StyledBuffer.link.Goals as goal
 

@@ -1,5 +1,5 @@
 use Rattle.snippet_grid.proofs.Common.{◌∙◌, ◌∷◌, [], ap, on_ok_weaker, cells_written, text_cells}
-use Rattle.snippet_grid.proofs.GridLemmas.{WritesCells-from_equal}
+use Rattle.snippet_grid.proofs.GridShown.{WritesCells-from_equal}
 use Rattle.snippet_grid.proofs.grid.StyledBuffer.putc.Goals as goal
 
 pub returns-clause-reads : goal.returns-clause-reads

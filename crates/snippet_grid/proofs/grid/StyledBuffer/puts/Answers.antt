@@ -1,7 +1,6 @@
 use Rattle.snippet_grid.proofs.Common.{◌∙◌, ap, arith, rules, on_ok_weaker, cells_written, text_cells}
 use Rattle.std.specs.Str.{chars}
-use Rattle.snippet_grid.proofs.GridLemmas.{WritesCells-from_equal}
-use Rattle.snippet_grid.proofs.GridShown.{chars_some}
+use Rattle.snippet_grid.proofs.GridShown.{WritesCells-from_equal, chars_some}
 use Rattle.snippet_grid.proofs.grid.StyledBuffer.puts.Goals as goal
 
 pub write_word-requires-clause-some : goal.write_word-requires-clause-some

@@ -1,5 +1,5 @@
 use Rattle.snippet_grid.proofs.Common.{ℕ, List, refl, subst, string_bytes, plain_text, Prints, links_of, WeavesRows}
-use Rattle.snippet_grid.proofs.OutcomeLemmas.{if_ok_weaker}
+use Rattle.snippet_grid.proofs.RunLemmas.{if_ok_weaker}
 use Rattle.snippet_grid.proofs.PrintsOnce.{Prints-unique}
 use Rattle.snippet_grid.proofs.WovenLemmas.{Prints-from_adds, IsWoven-from_prints, plain_woven}
 use Rattle.snippet_grid.proofs.grid.StyledBuffer.render.Goals as goal

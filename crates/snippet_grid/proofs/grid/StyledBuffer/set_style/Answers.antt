@@ -1,5 +1,5 @@
 use Rattle.snippet_grid.proofs.Common.{◌≡◌, ◌∙◌, ◌+◌, ap, sym, arith, rules, length, List, row_at, restyled, cells_restyled, Cell}
-use Rattle.snippet_grid.proofs.ChangeLemmas.{cells_changed_none, ChangesCells-from_equal}
+use Rattle.snippet_grid.proofs.ReplaceLemmas.{cells_changed_none, ChangesCells-from_equal}
 use Rattle.snippet_grid.proofs.grid.StyledBuffer.set_style.Goals as goal
 
 -- no cell of this number is there

@@ -1,7 +1,7 @@
 use Rattle.snippet_strokes.proofs.Common.{◌∙◌, ◌-◌, ◌<◌, ap, arith, refl, replicate, sym, on_ok_weaker, cells_written}
 use Rattle.snippet_strokes.proofs.CellRowLemmas.{row_written}
 use Rattle.snippet_strokes.proofs.LineLemmas.{text_cells-replicate}
-use Rattle.snippet_strokes.proofs.WriteLemmas.{stretch_painted}
+use Rattle.snippet_strokes.proofs.WriteLaws.{stretch_painted}
 use Rattle.snippet_strokes.proofs.cell_rows.CellRowsCanvas.put_stretch.Goals as goal
 
 pub returns : goal.returns
