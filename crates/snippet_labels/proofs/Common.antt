@@ -1,9 +1,10 @@
 -- What most proofs of this crate cite, given on from one place.
 pub use Rattle.snippet_grid.proofs.GridShown.{chars_some}
 pub use Rattle.snippet_labels.specs.PlacedEntries.{shifted, is_end_part}
-pub use Rattle.snippet_labels.specs.Placing.{unplaced, HasItsBytes, HasItsLabel, StandInRow, ArePlaced, IsFromRight, asks, StandsLeft, FitsLeftOf, label_reach}
-pub use Rattle.snippet_labels.specs.Positions.{position_after, look_counts, position_at, positions, has_label, crosses, line_positions, is_placed_before}
-pub use Rattle.snippet_labels.specs.Positions.{looked_after, blocks, is_start_part, reaches, do_overlap, ends_no_later, takes_space, are_starts, placed_of}
+pub use Rattle.snippet_labels.specs.Placing.{unplaced, HasItsBytes, HasItsLabel, BeginLeftOf, StandInRow, ArePlaced, asks, IsFromRight, StandsLeft, FitsLeftOf}
+pub use Rattle.snippet_labels.specs.Placing.{label_reach}
+pub use Rattle.snippet_labels.specs.Positions.{position_after, look_counts, position_at, positions, crosses, line_positions, is_placed_before, looked_after}
+pub use Rattle.snippet_labels.specs.Positions.{blocks, has_label, is_start_part, reaches, do_overlap, ends_no_later, takes_space, are_starts, placed_of}
 pub use Rattle.snippet_labels.specs.Positions.{is_same_place}
 pub use Rattle.snippet_labels.specs.declared.positions.PlacedEntry.{PlacedEntry}
 pub use Rattle.snippet_lines.proofs.OrderLemmas.{map-ordered_by, sorted-only}
@@ -17,20 +18,20 @@ pub use Rattle.snippet_parts.specs.declared.entries.LineAnnotationType.TheVarian
 pub use Rattle.snippet_text.proofs.NormLemmas.{length-norm}
 pub use Rattle.snippet_text.specs.Normalized.{normalized_chars}
 unfoldable pub use Rattle.snippet_text.specs.Normalized.{norm}
-pub use Rattle.std.proofs.Common.{◌∙◌, ◌≡◌, ap, length, sym, map, ℕ, arith, drop, ◌+◌, ◌-◌, ◌<◌, List, subst, [], ◌≤◌}
-pub use Rattle.std.proofs.Common.{◌∷◌, get_or, refl, ◌==◌, false, ◌^◌, not, ◌++◌, take, All, ◌&&◌, ◌||◌, Bool, suc, nat_lt, true}
-pub use Rattle.std.proofs.Common.{zero, reverse, inl, inr, cond, set, chars, IsUtf8, Option, None, Some, nat_cmp, is_lt, nat_le, rules, max, fold}
+pub use Rattle.std.proofs.Common.{◌∙◌, ap, ◌≡◌, sym, drop, length, ◌-◌, arith, map, ℕ, ◌+◌, subst, ◌<◌, ◌^◌, List, ◌∷◌}
+pub use Rattle.std.proofs.Common.{refl, [], ◌≤◌, ◌++◌, take, get_or, All, ◌==◌, false, not, reverse, inl, inr, ◌&&◌, ◌||◌, Bool, suc}
+pub use Rattle.std.proofs.Common.{cond, nat_lt, true, set, zero, chars, IsUtf8, Option, None, Some, nat_cmp, is_lt, nat_le, rules, max, fold}
 pub use Rattle.std.proofs.Math.Bool.{and-false}
 pub use Rattle.std.proofs.Math.Seq.{map-set_same}
 pub use Rattle.std.proofs.lemmas.Bool.{cases_lt, lt-ltb, cond-true}
 pub use Rattle.std.proofs.lemmas.Bool.Decides.{nat_tests}
 pub use Rattle.std.proofs.lemmas.Grind.{drop_more_same}
-pub use Rattle.std.proofs.lemmas.List.{length-map, get_or-map, map_push, drop_more, take_all, append_assoc, append-nil, drop_all, take_more_set}
+pub use Rattle.std.proofs.lemmas.List.{drop_more, length-map, map_push, get_or-map, drop_all, take_all, append_assoc, append-nil, take_more_set}
 pub use Rattle.std.proofs.lemmas.List.{reverse-reverse, drop-set-lt, length-set, nil_from_length, take_more, length-reverse, reverse-append, get_or-drop}
 pub use Rattle.std.proofs.lemmas.List.{get_or_default, length-drop}
 pub use Rattle.std.proofs.lemmas.List.Elements.{All-append, All-cons, All-nil, All-map, filter_agree, All-head, All-tail}
 pub use Rattle.std.proofs.lemmas.List.Folds.{list_all-map, list_any_none}
-pub use Rattle.std.proofs.lemmas.List.Sorted.{All-permutation, IsPermutation-map, IsPermutation-reverse, answers_always}
+pub use Rattle.std.proofs.lemmas.List.Sorted.{IsPermutation-reverse, All-permutation, IsPermutation-map, IsPermutation-sym, answers_always}
 pub use Rattle.std.proofs.lemmas.Simd.{map-map}
 pub use Rattle.std.proofs.lemmas.Str.{chars-nil, encodes-chars}
 pub use Rattle.std.specs.Cmp.{IsStrictWeakOrder}

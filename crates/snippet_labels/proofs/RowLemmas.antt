@@ -1,6 +1,6 @@
 -- Entries that need one row: where their labels stand, and their order.
-use Rattle.snippet_labels.proofs.Common.{◌≡◌, ℕ, zero, suc, ◌+◌, ◌<◌, ◌≤◌, ◌==◌, ◌&&◌, ◌||◌, nat_lt, not, Bool, true, false}
-use Rattle.snippet_labels.proofs.Common.{List, [], ◌∷◌, length, map, get_or, sym, ap, ◌∙◌, subst, arith, inl, inr, nat_cmp, is_lt}
+use Rattle.snippet_labels.proofs.Common.{BeginLeftOf, ◌≡◌, ℕ, zero, suc, ◌+◌, ◌<◌, ◌≤◌, ◌==◌, ◌&&◌, ◌||◌, nat_lt, not, Bool}
+use Rattle.snippet_labels.proofs.Common.{true, false, List, [], ◌∷◌, length, map, get_or, sym, ap, ◌∙◌, subst, arith, inl, inr, nat_cmp, is_lt}
 use Rattle.snippet_labels.proofs.Common.{IsStrictWeakOrder, IsSortedBy, IsStableBy, ties, ordering_then, Reverse, cases_lt, nat_tests, get_or-map, length-map}
 use Rattle.snippet_labels.proofs.Common.{filter_agree, ordered_by, map-ordered_by, sorted-only, LineAnnotation, PlacedEntry, is_placed_before, StandsLeft}
 use Rattle.snippet_labels.proofs.Common.{IsFromRight, ◌-◌, cond, nat_le, ◌++◌, drop, reverse, refl, All, list_any, range_with_len, IsPermutation}
@@ -138,15 +138,26 @@ put_last x (y ∷ ys) right =
     before : (a b c d : ℕ) → b < a → (nat_lt b a || (a == b && nat_lt d c)) ≡ true
     before a b c d less = grind (arith, nat_tests)
 
+-- each begins left of the column that the first one does
+all_left : (column : ℕ) (ps : List PlacedEntry) → BeginLeftOf column ps → All (λ e. e.entry.start.display < column) ps
+all_left column [] apart k d within = absurd (omega (arith, within))
+all_left column (e ∷ left) apart zero d within = apart.0
+all_left column (e ∷ left) apart (suc k) d within =
+    omega (arith, all_left e.entry.start.display left apart.1 k d (omega (arith, within)), apart.0)
+
+row_apart_begins : (column : ℕ) (ps : List PlacedEntry) → StandInRow column ps → BeginLeftOf column ps
+row_apart_begins column [] stand = tt
+row_apart_begins column (e ∷ left) stand = (stand.0.begins, row_apart_begins e.entry.start.display left stand.1)
+
 -- those left of a list in order are put after it
-put_left : (column : ℕ) (ps : List PlacedEntry) (given ordered : List LineAnnotation) → StandInRow column ps → All (λ y. column ≤ y.start.display) ordered
+put_left : (column : ℕ) (ps : List PlacedEntry) (given ordered : List LineAnnotation) → BeginLeftOf column ps → All (λ y. column ≤ y.start.display) ordered
     → ordered_by is_placed_before given ≡ ordered → ordered_by is_placed_before (reverse (map entry_of ps) ++ given) ≡ ordered ++ map entry_of ps
 unfolding entry_of
-put_left column [] given ordered stand right is = is ∙ sym (append-nil ordered)
-put_left column (e ∷ left) given ordered stand right is =
+put_left column [] given ordered apart right is = is ∙ sym (append-nil ordered)
+put_left column (e ∷ left) given ordered apart right is =
     let f : PlacedEntry → LineAnnotation = entry_of in
     let start = e.entry.start.display in
-    let less : All (λ (y : LineAnnotation). start < y.start.display) ordered = λ k d within. omega (arith, right k d within, stand.0.begins) in
+    let less : All (λ (y : LineAnnotation). start < y.start.display) ordered = λ k d within. omega (arith, right k d within, apart.0) in
     let put : ordered_by is_placed_before (e.entry ∷ given) ≡ ordered ++ e.entry ∷ [] =
     ap (put_in is_placed_before e.entry) is ∙ put_last e.entry ordered less in
     let all : All (λ (y : LineAnnotation). start ≤ y.start.display) (ordered ++ e.entry ∷ []) =
@@ -154,23 +165,31 @@ put_left column (e ∷ left) given ordered stand right is =
     (All-cons (λ (y : LineAnnotation). start ≤ y.start.display) e.entry [] (omega arith) (All-nil (λ (y : LineAnnotation). start ≤ y.start.display))) in
     ap (λ l. ordered_by is_placed_before (l ++ given)) (reverse-append (e.entry ∷ []) (map f left))
     ∙ ap (ordered_by is_placed_before) (append_assoc (reverse (map f left)) (e.entry ∷ []) given)
-    ∙ put_left start left (e.entry ∷ given) (ordered ++ e.entry ∷ []) stand.1 all put ∙ append_assoc ordered (e.entry ∷ []) (map f left)
+    ∙ put_left start left (e.entry ∷ given) (ordered ++ e.entry ∷ []) apart.1 all put ∙ append_assoc ordered (e.entry ∷ []) (map f left)
 
 StandsLeft-far : (e f : LineAnnotation) → f.start.display < e.start.display → StandsLeft e f
 StandsLeft-far e f left = record { column = omega (arith, left); character = λ same. absurd (omega (arith, left, same)) }
 
-row_from_right : (column : ℕ) (ps : List PlacedEntry) → StandInRow column ps → IsFromRight (map entry_of ps)
-unfolding entry_of
-row_from_right column [] stand i j d before within = absurd (omega (arith, within))
-row_from_right column (e ∷ left) stand zero zero d before within = record { column = omega arith; character = λ same. omega arith }
-row_from_right column (e ∷ left) stand zero (suc j) d before within =
-    let f : PlacedEntry → LineAnnotation = entry_of in
+-- so entries that are listed from the last to the first, each left of the one before it, stand from right to left
+pub listed_from_right : (column : ℕ) (ps : List PlacedEntry) → BeginLeftOf column ps → IsFromRight (map (λ (e : PlacedEntry). e.entry) ps)
+listed_from_right column [] apart i j d before within = absurd (omega (arith, within))
+listed_from_right column (e ∷ left) apart zero zero d before within = record { column = omega arith; character = λ same. omega arith }
+listed_from_right column (e ∷ left) apart zero (suc j) d before within =
+    let f : PlacedEntry → LineAnnotation = λ e. e.entry in
     let fits : j < length left = omega (arith, within, length-map left f) in
     subst (StandsLeft e.entry) (sym (get_or-map f left j e d fits))
-    (StandsLeft-far e.entry (get_or left j e).entry (all_fit e.entry.start.display left stand.1 j e fits).begins)
-row_from_right column (e ∷ left) stand (suc i) zero d before within = absurd (omega (arith, before))
-row_from_right column (e ∷ left) stand (suc i) (suc j) d before within =
-    row_from_right e.entry.start.display left stand.1 i j d (omega (arith, before)) (omega (arith, within))
+    (StandsLeft-far e.entry (get_or left j e).entry (all_left e.entry.start.display left apart.1 j e fits))
+listed_from_right column (e ∷ left) apart (suc i) zero d before within = absurd (omega (arith, before))
+listed_from_right column (e ∷ left) apart (suc i) (suc j) d before within =
+    listed_from_right e.entry.start.display left apart.1 i j d (omega (arith, before)) (omega (arith, within))
+
+-- and in the order of placing
+pub listed_in_order : (column : ℕ) (ps : List PlacedEntry) → BeginLeftOf column ps
+    → map (λ (e : PlacedEntry). e.entry) ps ≡ ordered_by is_placed_before (reverse (map (λ (e : PlacedEntry). e.entry) ps))
+unfolding entry_of
+listed_in_order column ps apart =
+    sym (put_left column ps [] [] apart (All-nil (λ (y : LineAnnotation). column ≤ y.start.display)) refl)
+    ∙ ap (ordered_by is_placed_before) (append-nil (reverse (map entry_of ps)))
 
 -- ---- how they are listed
 
@@ -209,10 +228,9 @@ ArePlaced-row es column ps are labels bytes none looked stand =
     let given : reverse (map f ps) ≡ es = ap reverse are ∙ reverse-reverse es in
     let count : length es ≡ length ps = sym (length-reverse es) ∙ ap length (sym are) ∙ length-map ps f in
     record {
-      order = sym (put_left column ps [] [] stand (All-nil (λ (y : LineAnnotation). column ≤ y.start.display)) refl)
-          ∙ ap (ordered_by is_placed_before) (append-nil (reverse (map f ps)) ∙ given);
+      order = listed_in_order column ps (row_apart_begins column ps stand) ∙ ap (ordered_by is_placed_before) given;
       same = subst (IsPermutation es) (sym are) (IsPermutation-reverse es);
-      from_right = row_from_right column ps stand;
+      from_right = listed_from_right column ps (row_apart_begins column ps stand);
       labels = labels;
       bytes = bytes;
       positions_are = line_positions_0 column ps stand none;

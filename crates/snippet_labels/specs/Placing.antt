@@ -40,6 +40,11 @@ pub record FitsLeftOf (column : ℕ) (e : PlacedEntry) : Type 0 where
   pub begins : e.entry.start.display < column
   pub ends : label_reach e ≤ column
 
+-- each of some entries begins left of the one before it, and the first left of this column
+abbrev pub BeginLeftOf : ℕ → List PlacedEntry → Type 0
+BeginLeftOf column [] = Unit {0}
+BeginLeftOf column (e ∷ left) = (e.entry.start.display < column) × BeginLeftOf e.entry.start.display left
+
 -- entries, from right to left, each of which does so before the one right of it begins, and the first before this column
 abbrev pub StandInRow : ℕ → List PlacedEntry → Type 0
 StandInRow column [] = Unit {0}

@@ -1,12 +1,13 @@
 //! Where the labels of a line stand: how far below the row of its marks each hangs.
 ghost use Rattle.std.specs.Prelude.{◌≡◌, ◌+◌, ◌-◌, ◌^◌, ◌<◌, ◌≤◌, ◌&&◌, ◌||◌, true, All, IfOk, IfSome, chars, drop};
 ghost use Rattle.std.specs.Prelude.{length, slice_index_or};
-ghost use Rattle.std.specs.Prelude.{map, not, reverse};
+ghost use Rattle.std.specs.Prelude.{map, not, reverse, IsPermutation, OnOk};
+ghost use Rattle.snippet_lines.specs.OrderedBy.{ordered_by};
 ghost use Rattle.std.specs.List.{list_any, position, range_with_len};
 ghost use Rattle.snippet_labels.specs.Positions as spec;
 ghost use Rattle.snippet_labels.specs.declared.positions.PlacedEntry.{PlacedEntry};
 ghost use Rattle.snippet_labels.specs.Placing as placing;
-ghost use Rattle.snippet_labels.specs.Placing.{ArePlaced, AsksBefore, FitsLeftOf, HasItsBytes, HasItsLabel, StandInRow};
+ghost use Rattle.snippet_labels.specs.Placing.{ArePlaced, AsksBefore, BeginLeftOf, FitsLeftOf, HasItsBytes, HasItsLabel, IsFromRight, StandInRow};
 ghost use Rattle.snippet_labels.specs.PlacedEntries.{shifted};
 ghost use Rattle.snippet_text.specs.Normalized.{normalized_chars};
 ghost use Rattle.snippet_parts.specs.Least.{greatest};
@@ -96,8 +97,7 @@ pub fn placed_entries<'a>(
     if stand_in_row(&placed) {
         return Ok(placed);
     }
-    placed.reverse();
-    placed.sort_by_key(|p| Reverse((p.entry.start.display, p.entry.start.char)))?;
+    sort_from_right(&mut placed)?;
     set_positions(&mut placed);
     Ok(placed)
 }
@@ -135,6 +135,40 @@ fn labelled_entries<'a>(
         })?;
     }
     Ok(labelled)
+}
+
+/// Puts entries, which are listed from the last that was given to the first, from right to left. Those that begin at one
+/// character stand as they were given.
+///
+/// # Errors
+///
+/// There is no memory to sort them.
+fn sort_from_right(entries: &mut Vec<PlacedEntry>) -> Result<(), AllocError>
+    ensures same { OnOk result (IsPermutation (reverse entries.old.items) entries.new.items) }
+    ensures order { OnOk result (map (λ e. e.entry) entries.new.items
+        ≡ ordered_by spec.is_placed_before (map (λ e. e.entry) (reverse entries.old.items))) }
+    ensures from_right { OnOk result (IsFromRight (map (λ e. e.entry) entries.new.items)) }
+{
+    if begin_apart(entries) {
+        return Ok(());
+    }
+    entries.reverse();
+    entries.sort_by_key(|p| Reverse((p.entry.start.display, p.entry.start.char)))?;
+    Ok(())
+}
+
+/// Whether each of some entries begins left of the one before it.
+fn begin_apart(entries: &[PlacedEntry]) -> bool
+    ensures yes { result ≡ true → BeginLeftOf (2 ^ 64 - 1) entries.now }
+{
+    let mut column = usize::MAX;
+    for entry in entries {
+        if entry.entry.start.display >= column {
+            return false;
+        }
+        column = entry.entry.start.display;
+    }
+    true
 }
 
 /// Whether entries, which are given from right to left, need one row for their marks and labels: each ends, with its

@@ -1,17 +1,14 @@
-use Rattle.snippet_labels.proofs.Common.{rules, List, ◌≡◌, ◌∙◌, ◌-◌, ◌<◌, ◌^◌, All, sym, subst, ap, map, reverse, range_with_len}
-use Rattle.snippet_labels.proofs.Common.{IsPermutation, All-permutation, IsPermutation-map, IsPermutation-reverse, answers_always, LineAnnotation, PlacedEntry}
-use Rattle.snippet_labels.proofs.Common.{shifted, line_positions, look_counts, ArePlaced, HasItsBytes, HasItsLabel, StandInRow, unplaced, length-map}
-use Rattle.snippet_labels.proofs.Common.{reverse-reverse}
+use Rattle.snippet_labels.proofs.Common.{List, ◌≡◌, ◌∙◌, ◌-◌, ◌<◌, ◌^◌, All, sym, subst, ap, map, reverse, range_with_len}
+use Rattle.snippet_labels.proofs.Common.{IsPermutation, All-permutation, IsPermutation-map, IsPermutation-reverse, LineAnnotation, PlacedEntry, shifted}
+use Rattle.snippet_labels.proofs.Common.{line_positions, look_counts, ArePlaced, HasItsBytes, HasItsLabel, StandInRow, unplaced, length-map, reverse-reverse}
 use Rattle.snippet_labels.proofs.PlacedLemmas.{entries_all, written_back, ArePlaced-from, shifted_narrow}
-use Rattle.snippet_labels.proofs.RowLemmas.{ArePlaced-row, map-reverse, order_of_sort, place_key, from_right_from_sort}
+use Rattle.snippet_labels.proofs.RowLemmas.{ArePlaced-row, map-reverse}
 use Rattle.snippet_labels.proofs.positions.placed_entries.Goals as goal
 
 -- entries that are listed from the last to the first, and turned round, are those that are given
-turned : (es : List LineAnnotation) (listed given : List PlacedEntry) → map (λ (e : PlacedEntry). e.entry) listed ≡ reverse es → given ≡ reverse listed
-    → map (λ (e : PlacedEntry). e.entry) given ≡ es
-turned es listed given are is =
-    let entry : PlacedEntry → LineAnnotation = λ e. e.entry in
-    ap (map entry) is ∙ map-reverse entry listed ∙ ap reverse are ∙ reverse-reverse es
+turned : (es : List LineAnnotation) (listed : List PlacedEntry) → map (λ (e : PlacedEntry). e.entry) listed ≡ reverse es
+    → map (λ (e : PlacedEntry). e.entry) (reverse listed) ≡ es
+turned es listed are = map-reverse (λ (e : PlacedEntry). e.entry) listed ∙ ap reverse are ∙ reverse-reverse es
 
 pub stand_in_row-requires : goal.stand_in_row-requires
 stand_in_row-requires c =
@@ -37,34 +34,30 @@ returns-then-stand_in_row c =
 pub set_positions-requires : goal.set_positions-requires
 set_positions-requires c =
     let Q : LineAnnotation → Type 0 = λ e. e.end.display < 2 ^ 60 in
-    let sorted = c.sort_by_key.new.self.items in
     let es = map (shifted c.args.dropped) c.args.entries.now in
-    let given = turned es c.in_ok-placed.placed.items c.reverse.new.self.items c.in_ok-placed.ensures.entries c.reverse.ensures.items in
-    let same = subst (λ es. IsPermutation es (map (λ (e : PlacedEntry). e.entry) sorted)) given
-    (IsPermutation-map (λ (e : PlacedEntry). e.entry) _ _ c.in_ok-sort_by_key.ensures.permutation) in
+    let listed = c.in_ok-placed.placed.items in
+    let sorted = c.sort_from_right.new.entries.items in
+    let same = subst (λ es. IsPermutation es (map (λ (e : PlacedEntry). e.entry) sorted)) (turned es listed c.in_ok-placed.ensures.entries)
+    (IsPermutation-map (λ (e : PlacedEntry). e.entry) (reverse listed) sorted c.in_ok-sort_from_right.ensures.same) in
     record {
       columns = subst (λ (ps : _). All (λ (e : PlacedEntry). Q e.entry) ps) (sym c.deref_mut.ensures.value)
-          (entries_all Q (map (shifted c.args.dropped) c.args.entries.now) sorted same (shifted_narrow c.args.dropped c.args.entries.now c.requires.columns));
+          (entries_all Q es sorted same (shifted_narrow c.args.dropped c.args.entries.now c.requires.columns));
     }
 
 pub returns : goal.returns
 returns c =
     let es = map (shifted c.args.dropped) c.args.entries.now in
-    let given = c.reverse.new.self in
-    let sorted = c.sort_by_key.new.self in
+    let listed = c.in_ok-placed.placed.items in
+    let sorted = c.sort_from_right.new.entries in
     let placed = c.set_positions.new.entries in
+    let back = IsPermutation-reverse listed in
     let kept = c.set_positions.ensures.kept ∙ ap (map unplaced) c.deref_mut.ensures.value in
     record {
       placed = subst (ArePlaced es) (sym (written_back placed sorted.items sorted.len sorted.ok.0 kept))
-          (ArePlaced-from es given.items sorted.items placed
-          (turned es c.in_ok-placed.placed.items given.items c.in_ok-placed.ensures.entries c.reverse.ensures.items)
-          (All-permutation HasItsLabel c.in_ok-placed.placed.items given.items c.reverse.ensures.permutation c.in_ok-placed.ensures.labels)
-          (All-permutation HasItsBytes c.in_ok-placed.placed.items given.items c.reverse.ensures.permutation c.in_ok-placed.ensures.bytes)
-          c.in_ok-sort_by_key.ensures.permutation
-          (order_of_sort given.items sorted.items
-          (c.in_ok-sort_by_key.ensures.sorted place_key (answers_always _ _ _ (λ f a r g h. search rules)))
-          (c.sort_by_key.ensures.stable place_key (answers_always _ _ _ (λ f a r g h. search rules))))
-          (from_right_from_sort sorted.items (c.in_ok-sort_by_key.ensures.sorted place_key (answers_always _ _ _ (λ f a r g h. search rules))))
+          (ArePlaced-from es (reverse listed) sorted.items placed (turned es listed c.in_ok-placed.ensures.entries)
+          (All-permutation HasItsLabel listed (reverse listed) back c.in_ok-placed.ensures.labels)
+          (All-permutation HasItsBytes listed (reverse listed) back c.in_ok-placed.ensures.bytes)
+          c.in_ok-sort_from_right.ensures.same c.in_ok-sort_from_right.ensures.order c.in_ok-sort_from_right.ensures.from_right
           (c.set_positions.ensures.placed ∙ ap line_positions c.deref_mut.ensures.value)
           (c.set_positions.ensures.looked ∙ ap (look_counts 0) c.deref_mut.ensures.value) kept);
     }
