@@ -21,12 +21,9 @@ abbrev pub classes_named : (name : Option (List ℕ)) → List ℕ → List (Lis
 classes_named name [] = []
 classes_named name (c ∷ cs) = name_at name c ++ classes_named (name_after name c) cs
 
--- the rules of a sheet for a light page, which stand first, and those for a dark one, from the first `@` on
+-- the rules of a sheet for a light page, which stand first. Those for a dark one are the rest, from the first `@` on
 abbrev pub light_rules : List ℕ → List ℕ
 light_rules sheet = take_while (λ c. not (nat_eq c 64)) sheet
-
-abbrev pub dark_rules : List ℕ → List ℕ
-dark_rules sheet = drop (length (light_rules sheet)) sheet
 
 -- how many of these classes are this one
 abbrev pub times : List ℕ → List (List ℕ) → ℕ
@@ -35,7 +32,7 @@ times class classes = count_by (pointwise nat_eq class) classes
 -- a sheet has one rule for this class on a light page, and at most one on a dark page
 pub record HasRules (sheet class : List ℕ) : Type 0 where
   pub light : times class (classes_named None (light_rules sheet)) ≡ 1
-  pub dark : times class (classes_named None (dark_rules sheet)) ≤ 1
+  pub dark : times class (classes_named None (drop (length (light_rules sheet)) sheet)) ≤ 1
 
 -- a class is that of a role, in a group of some level
 pub record IsClassOfRole (class : List ℕ) : Type 0 where

@@ -7,7 +7,8 @@ ghost use Rattle.std.specs.List.{list_any, position, range_with_len};
 ghost use Rattle.snippet_labels.specs.Positions as spec;
 ghost use Rattle.snippet_labels.specs.declared.positions.PlacedEntry.{PlacedEntry};
 ghost use Rattle.snippet_labels.specs.Placing as placing;
-ghost use Rattle.snippet_labels.specs.Placing.{ArePlaced, AsksBefore, BeginLeftOf, FitsLeftOf, HasItsBytes, HasItsLabel, IsFromRight, StandInRow};
+ghost use Rattle.snippet_labels.specs.Placing.{ArePlaced, AsksBefore, BeginLeftOf, FitsLeftOf, HasItsBytes};
+ghost use Rattle.snippet_labels.specs.Placing.{HasItsLabel, IsFromRight, StandInRow};
 ghost use Rattle.snippet_labels.specs.PlacedEntries.{shifted};
 ghost use Rattle.snippet_text.specs.Normalized.{normalized_chars};
 ghost use Rattle.snippet_parts.specs.Least.{greatest};
@@ -137,8 +138,8 @@ fn labelled_entries<'a>(
     Ok(labelled)
 }
 
-/// Puts entries, which are listed from the last that was given to the first, from right to left. Those that begin at one
-/// character stand as they were given.
+/// Puts entries, which are listed from the last that was given to the first, in order from right to left. Those that
+/// begin at one character stand as they were given.
 ///
 /// # Errors
 ///

@@ -3,7 +3,7 @@ use Rattle.snippet_strokes.proofs.Common.{◌≡◌, ℕ, zero, suc, ◌+◌, �
 use Rattle.snippet_strokes.proofs.Common.{map, take, drop, get_or, replicate, All, inl, inr, refl, sym, ap, ◌∙◌, arith, append_assoc, append-nil}
 use Rattle.snippet_strokes.proofs.Common.{length-append, length-map, length-replicate, map-append, map-set, places, same_lists, drop-map, take-map, get_or-map}
 use Rattle.snippet_strokes.proofs.Common.{get_or-replicate, length-drop, replicate-append-replicate, set_split, take_all, All-head, All-tail, Vec}
-use Rattle.snippet_strokes.proofs.Common.{cells_written, row_at, cell_of, cells_of, StyledChar, Cell, SPACE, written, NoStyle}
+use Rattle.snippet_strokes.proofs.Common.{cells_written, row_at, cell_of, cells_of, StyledChar, Cell, SPACE, written}
 use Rattle.std.proofs.Math.ListN.{set}
 
 -- ---- writes into a row
@@ -54,12 +54,10 @@ pub more_cells : (xs mid new : List Cell) (at next : ℕ) (ys : List Cell) (y : 
 more_cells xs mid new at next ys y here so_far writes =
     writes ∙ ap (λ n. written SPACE mid n (y ∷ [])) here ∙ ap (λ m. written SPACE m (at + length ys) (y ∷ [])) so_far ∙ written_more SPACE xs at ys (y ∷ [])
 
--- what a row is filled up with
-abbrev pub BLANK : StyledChar
-BLANK = record { ch = 32; role = NoStyle }
-
-pub are_blanks : All (λ (c : StyledChar). cell_of c ≡ SPACE) (replicate 64 BLANK)
-are_blanks k d within = ap cell_of (get_or-replicate 64 k BLANK d (omega (arith, within, length-replicate {A = StyledChar} 64 BLANK)))
+-- a row is filled up with blanks
+pub are_blanks : (blank : StyledChar) → cell_of blank ≡ SPACE → All (λ (c : StyledChar). cell_of c ≡ SPACE) (replicate 64 blank)
+are_blanks blank is k d within =
+    ap cell_of (get_or-replicate 64 k blank d (omega (arith, within, length-replicate {A = StyledChar} 64 blank))) ∙ is
 
 -- the cells of the first of some blanks
 pub blank_part : (blanks : List StyledChar) (count : ℕ) → count ≤ length blanks → All (λ (c : StyledChar). cell_of c ≡ SPACE) blanks

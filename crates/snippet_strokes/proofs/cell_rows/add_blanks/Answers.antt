@@ -1,5 +1,5 @@
 use Rattle.snippet_strokes.proofs.Common.{◌≡◌, ◌∙◌, ◌-◌, ◌++◌, ap, arith, length, map, replicate, sym, append-nil, length-append}
-use Rattle.snippet_strokes.proofs.Common.{length-map, length-replicate, on_ok_weaker, cell_of, Cell, SPACE}
+use Rattle.snippet_strokes.proofs.Common.{length-map, length-replicate, on_ok_weaker, cell_of, Cell, SPACE, refl, NoStyle}
 use Rattle.snippet_strokes.proofs.CellRowLemmas.{are_blanks, more_blanks, written_none}
 use Rattle.snippet_strokes.proofs.cell_rows.add_blanks.Goals as goal
 
@@ -14,10 +14,10 @@ loop-left-init c =
     }
 
 pub push_part-requires-clause-blanks : goal.push_part-requires-clause-blanks
-push_part-requires-clause-blanks c = are_blanks
+push_part-requires-clause-blanks c = are_blanks (record { ch = 32; role = NoStyle }) refl
 
 pub push_part-requires-2-clause-blanks : goal.push_part-requires-2-clause-blanks
-push_part-requires-2-clause-blanks c = are_blanks
+push_part-requires-2-clause-blanks c = are_blanks (record { ch = 32; role = NoStyle }) refl
 
 pub loop-left-preserved : goal.loop-left-preserved
 loop-left-preserved c =
