@@ -18,8 +18,7 @@ pub use Rattle.snippet_grid.specs.declared.styled_char.StyledChar.{StyledChar}
 pub use Rattle.snippet_labels.proofs.CharLemmas.{norm_short, is_empty-chars}
 pub use Rattle.snippet_labels.proofs.PlacedLemmas.{label_text, crowds, flipped, is_start, label_chars, labelled, placed_at, up_to}
 pub use Rattle.snippet_labels.proofs.RowLemmas.{sorted_same, stable_same}
-pub use Rattle.snippet_labels.proofs.PlacedLemmas.{entries_all, placed_of-at, length-positions, ArePlaced-from, length-line_positions, line_positions-changed}
-pub use Rattle.snippet_labels.proofs.PlacedLemmas.{look_counts-changed}
+pub use Rattle.snippet_labels.proofs.PlacedLemmas.{entries_all, placed_of-at, ArePlaced-from, line_positions-changed, look_counts-changed}
 pub use Rattle.snippet_labels.specs.PlacedEntries.{shifted, label_role, is_end_part, entry_width}
 pub use Rattle.snippet_labels.specs.Placing.{ArePlaced, HasPlace, HasItsLabel, HasItsBytes, unplaced, IsFromRight, StandsLeft}
 pub use Rattle.snippet_labels.specs.Positions.{has_label, has_stem, label_place, is_start_part, takes_space, placed_of, line_positions, do_overlap, position_at}

@@ -4,8 +4,9 @@ use Rattle.snippet_strokes.proofs.Common.{true, false, List, [], ◌∷◌, leng
 use Rattle.snippet_strokes.proofs.Common.{All, not, list_any, cases_lt, cases_eq, eq-eqb, nat_tests, All-cons, All-nil, All-weaker, length-chars_le}
 use Rattle.snippet_strokes.proofs.Common.{LineAnnotation, Layout, PlacedEntry, has_label, do_overlap, ends_no_later, blocks, crosses, position_at}
 use Rattle.snippet_strokes.proofs.Common.{position_after, positions, label_place, has_stem, is_same_place, is_start_part, takes_space, get_or-map, length-map}
-use Rattle.snippet_strokes.proofs.Common.{list_all_at, All-permutation, Cell, SPACE, cell_at, mark_end, HasPlace, HasItsLabel, ArePlaced, length-positions}
+use Rattle.snippet_strokes.proofs.Common.{list_all_at, All-permutation, Cell, SPACE, cell_at, mark_end, HasPlace, HasItsLabel, ArePlaced}
 use Rattle.snippet_strokes.proofs.Common.{crowds, flipped, is_start, label_text}
+use Rattle.snippet_strokes.proofs.PositionLemmas.{length-positions}
 use Rattle.snippet_strokes.proofs.PaintedMarks.{AreMarked, IsPaintedAt, StandsWhole}
 
 -- a position is no lower than the one reached, and so no lower than those before it

@@ -5,8 +5,9 @@ use Rattle.snippet_strokes.proofs.Common.{subst, arith, inl, inr, scalars, flat_
 use Rattle.snippet_strokes.proofs.Common.{All-head, All-nil, All-tail, IsPermutation-map, chars-encodes, chars-nil, scalars-chars, ordered_by, put_in}
 use Rattle.snippet_strokes.proofs.Common.{All-put_in, LineAnnotation, norm, shown, shifted, is_placed_before, line_positions, look_counts, placed_of}
 use Rattle.snippet_strokes.proofs.Common.{position_after, position_at, ArePlaced, HasItsBytes, HasItsLabel, IsFromRight, StandsLeft, unplaced, PlacedEntry}
-use Rattle.snippet_strokes.proofs.Common.{label_chars, labelled, label_text, placed_at, ArePlaced-from, length-line_positions, placed_of-at}
+use Rattle.snippet_strokes.proofs.Common.{label_chars, labelled, label_text, placed_at, ArePlaced-from, placed_of-at}
 use Rattle.std.proofs.Common.{chars}
+use Rattle.snippet_strokes.proofs.PositionLemmas.{length-line_positions}
 use Rattle.snippet_strokes.proofs.PaintOrder.{IsPermutation-ordered_by}
 
 -- the label of an entry, if it has one, is a text
@@ -165,11 +166,11 @@ placed_of_are es texts =
     let long_ps : length ps ≡ length ordered = length-line_positions sorted ∙ all in
     let long_ns : length ns ≡ length ordered = length-look_counts 0 sorted ∙ all in
     subst (ArePlaced es) (sym (placed_of-at es))
-    (ArePlaced-from es (labelled es) sorted (at_places ordered ps ns) ps ns (entries-labelled es) (labels-labelled es texts) (bytes-labelled es)
+    (ArePlaced-from es (labelled es) sorted (at_places ordered ps ns) (entries-labelled es) (labels-labelled es texts) (bytes-labelled es)
     (IsPermutation-map (λ e. placed_at (e, (0, 0))) es ordered (IsPermutation-ordered_by is_placed_before es))
     (entries-labelled ordered ∙ ap (ordered_by is_placed_before) (sym (entries-labelled es)))
     (subst IsFromRight (sym (entries-labelled ordered)) (from_right ordered (Falls-ordered_by es)))
-    refl (positions-at_places ordered ps ns long_ps long_ns) refl (counts-at_places ordered ps ns long_ps long_ns)
+    (positions-at_places ordered ps ns long_ps long_ns) (counts-at_places ordered ps ns long_ps long_ns)
     (unplaced-at_places ordered ps ns long_ps long_ns))
 
 -- columns that are dropped are none of a label's

@@ -1,5 +1,5 @@
 -- The positions of labels.
-use Rattle.snippet_strokes.proofs.Common.{◌≡◌, ℕ, ◌+◌, ◌-◌, ◌<◌, ◌≤◌, ◌^◌, ◌==◌, ◌&&◌, ◌||◌, cond, max, nat_lt, not}
+use Rattle.snippet_strokes.proofs.Common.{◌≡◌, ℕ, suc, ◌+◌, ◌-◌, ◌<◌, ◌≤◌, ◌^◌, ◌==◌, ◌&&◌, ◌||◌, cond, max, nat_lt, not}
 use Rattle.snippet_strokes.proofs.Common.{None, Some, Bool, true, false, List, [], ◌∷◌, length, map, fold, get_or, refl, sym, ap, ◌∙◌, subst, arith}
 use Rattle.snippet_strokes.proofs.Common.{inl, inr, All, list_any, position, position_or_len, cases_Bool, cases_eq, eq-eqb, ltb-true, and_parts, nat_tests}
 use Rattle.snippet_strokes.proofs.Common.{length-map, get_or-map, All-cons, All-nil, All-head, All-tail, All-map, list_any_none, AllPass-from_list_all}
@@ -7,6 +7,19 @@ use Rattle.snippet_strokes.proofs.Common.{LineAnnotation, PlacedEntry, has_label
 use Rattle.snippet_strokes.proofs.Common.{position_after, positions, line_positions, label_place, look_counts, looked_after, row_count, HasRows, greatest}
 use Rattle.snippet_strokes.proofs.Common.{lowest_position, ArePlaced, HasPlace, crowds, flipped, is_start, up_to}
 use Rattle.snippet_strokes.proofs.CellLemmas.{above_zero}
+
+-- there are as many positions as entries
+pub length-positions : (p : ℕ) (es : List PlacedEntry) → length (positions p es) ≡ length es
+length-positions p [] = refl
+length-positions p (e ∷ others) =
+    ap suc (length-positions (position_after (position_at p e others) e others) others)
+
+pub length-line_positions : (es : List PlacedEntry) → length (line_positions es) ≡ length es
+length-line_positions es =
+    elim (are_starts es) as (λ b. length (cond b (flipped (positions 0 es)) (positions 0 es)) ≡ length es) [
+      | true ↦ length-map (positions 0 es) (λ p. greatest (positions 0 es) - p) ∙ length-positions 0 es
+      | false ↦ length-positions 0 es
+    ]
 
 -- the positions of a list that has no labels
 pub positions-unlabelled : (p : ℕ) (es : List PlacedEntry) → All (λ e. has_label e ≡ false) es → All (λ e. takes_space e ≡ false) es
