@@ -31,6 +31,7 @@ pub use Rattle.snippet_model.specs.Fits
 pub use Rattle.snippet_model.specs.KeptSettings
 pub use Rattle.snippet_model.specs.Level
 pub use Rattle.snippet_model.specs.Trusted
+pub use Rattle.snippet_lines.specs.IsSpan
 pub use Rattle.snippet_lines.specs.Span
 pub use Rattle.snippet_text.specs.Normalized
 pub use Rattle.snippet_splice.specs.Edits

@@ -142,7 +142,8 @@ pub use Rattle.std.proofs.lemmas.Slice.Eq.{bytes_eq-Decides}
 pub use Rattle.std.proofs.lemmas.Str.{chars-nil, encodes-chars, IsCharBoundary-end, IsCharBoundary-start, IsUtf8-past_char, chars_past_char}
 pub use Rattle.std.specs.Char.{is_ascii_alphanumeric, is_whitespace, encode_utf8}
 pub use Rattle.std.specs.Cow.{cow_str_bytes}
-pub use Rattle.std.specs.Fmt.{digits, decimal}
+pub use Rattle.std.specs.Fmt.{decimal}
+unfoldable pub use Rattle.std.specs.Fmt.{digits}
 pub use Rattle.std.specs.List.{slice_index_or, range_with_len, list_all, list_any, AllZip, slice_get, slice_range, sum_by}
 pub use Rattle.std.specs.Option.{option_map_or}
 pub use Rattle.std.specs.Str.{bytes_eq, IsUtf8, trim, IsCharBoundary}
