@@ -4,10 +4,9 @@ use Rattle.snippet_labels.proofs.Common.{LineAnnotation, greatest, PlacedEntry, 
 use Rattle.snippet_labels.proofs.Common.{◌^◌, ◌==◌, cond, nat_lt, None, Some, true, false, [], ◌∷◌, ◌++◌, length, drop, take, set, get_or}
 use Rattle.snippet_labels.proofs.Common.{refl, sym, ap, ◌∙◌, subst, arith, All, zero, list_all, list_any, position, position_or_len, zip, lt-ltb}
 use Rattle.snippet_labels.proofs.Common.{nat_tests, map-map, append_assoc, append-nil, drop_more, drop_all, take_more, take_more_set, take_all, length-map}
-use Rattle.snippet_labels.proofs.Common.{map_push, get_or-map, list_all-map, IsPermutation, All-permutation, IsPermutation-map, ordered_by, do_overlap}
-use Rattle.snippet_labels.proofs.Common.{ends_no_later, takes_space, are_starts, crosses, position_at, position_after, positions, line_positions, ArePlaced}
-use Rattle.snippet_labels.proofs.Common.{IsFromRight, HasItsBytes, HasItsLabel, asks, unplaced, is_placed_before, look_counts, looked_after, placed_of}
-use Rattle.snippet_labels.proofs.Common.{list_any-map, All-map, shifted}
+use Rattle.snippet_labels.proofs.Common.{map_push, get_or-map, list_all-map, IsPermutation, All-permutation, IsPermutation-map, ordered_by, are_starts, crosses}
+use Rattle.snippet_labels.proofs.Common.{position_at, position_after, positions, line_positions, ArePlaced, IsFromRight, HasItsBytes, HasItsLabel, asks}
+use Rattle.snippet_labels.proofs.Common.{unplaced, is_placed_before, look_counts, looked_after, placed_of, list_any-map, All-map, shifted, rules}
 use Rattle.std.proofs.Common.{encode_utf8_all}
 
 -- Words for parts of where labels stand, which proofs cite.
@@ -47,37 +46,23 @@ labelled es = map (λ e. placed_at (e, (0, 0))) es
 -- the position of an entry whose label could stand after its mark: where a mark is in the way, and where none is
 pub position_at-crossed : (p : ℕ) (e : PlacedEntry) (others : List PlacedEntry) → p ≤ 0 → has_label e ≡ true → list_any (crosses e) others ≡ true
     → 1 ≡ position_at p e others
-position_at-crossed p e others none has crossed =
-    let is : p ≡ 0 = omega (arith, none) in
-    sym (ap (λ q. cond ((q == 0) && (has_label e && list_any (crosses e) others)) 1 q) is
-    ∙ ap (λ b. cond (b && list_any (crosses e) others) 1 0) has ∙ ap (λ b. cond b 1 0) crossed)
+position_at-crossed p e others none has crossed = search rules
 
 pub position_at-clear : (p : ℕ) (e : PlacedEntry) (others : List PlacedEntry) → p ≤ 0 → has_label e ≡ true → list_any (crosses e) others ≡ false
     → 0 ≡ position_at p e others
-position_at-clear p e others none has clear =
-    let is : p ≡ 0 = omega (arith, none) in
-    sym (ap (λ q. cond ((q == 0) && (has_label e && list_any (crosses e) others)) 1 q) is
-    ∙ ap (λ b. cond (b && list_any (crosses e) others) 1 0) has ∙ ap (λ b. cond b 1 0) clear)
+position_at-clear p e others none has clear = search rules
 
 -- one more position is known
 pub positions_more : (ps : List ℕ) (es : List PlacedEntry) (all : List ℕ) (i reached : ℕ) (d : PlacedEntry) → i < length es
     → ps ++ positions reached (drop i es) ≡ all → let e = get_or es i d in let others = drop (i + 1) es in
     (ps ++ position_at reached e others ∷ []) ++ positions (position_after (position_at reached e others) e others) others ≡ all
-positions_more ps es all i reached d within so_far =
-    let e = get_or es i d in
-    let others = drop (i + 1) es in
-    append_assoc ps (position_at reached e others ∷ []) (positions (position_after (position_at reached e others) e others) others)
-    ∙ sym (ap (λ xs. ps ++ positions reached xs) (drop_more es i d within)) ∙ so_far
+positions_more ps es all i reached d within so_far = grind (arith, append_assoc, drop_more)
 
 -- one more count is known, of those that are looked at
 pub look_counts_more : (ns : List ℕ) (es : List PlacedEntry) (all : List ℕ) (i reached : ℕ) (d : PlacedEntry) → i < length es
     → ns ++ look_counts reached (drop i es) ≡ all → let e = get_or es i d in let others = drop (i + 1) es in
     (ns ++ looked_after reached e others ∷ []) ++ look_counts (position_after (position_at reached e others) e others) others ≡ all
-look_counts_more ns es all i reached d within so_far =
-    let e = get_or es i d in
-    let others = drop (i + 1) es in
-    append_assoc ns (looked_after reached e others ∷ []) (look_counts (position_after (position_at reached e others) e others) others)
-    ∙ sym (ap (λ xs. ns ++ look_counts reached xs) (drop_more es i d within)) ∙ so_far
+look_counts_more ns es all i reached d within so_far = grind (arith, append_assoc, drop_more)
 
 -- the position reached grows by one at most, from 1 on
 pub reached_low : (reached i : ℕ) (e : PlacedEntry) (others : List PlacedEntry) → reached ≤ i + 1
@@ -88,9 +73,7 @@ reached_low reached i e others low =
 -- a position, or a count, is given to one more entry
 pub placed_more : (f : PlacedEntry → ℕ) (es : List PlacedEntry) (ns : List ℕ) (i : ℕ) (e : PlacedEntry) → i < length es → i < length ns
     → map f (take i es) ≡ take i ns → f e ≡ get_or ns i 0 → map f (take (i + 1) (set es i e)) ≡ take (i + 1) ns
-placed_more f es ns i e within within_ns so_far is =
-    ap (map f) (take_more_set es i e within) ∙ map_push f (take i es) e ∙ ap (λ xs. xs ++ f e ∷ []) so_far
-    ∙ ap (λ n. take i ns ++ n ∷ []) is ∙ sym (take_more ns i 0 within_ns)
+placed_more f es ns i e within within_ns so_far is = grind (arith, take_more_set, map_push, take_more)
 
 -- what holds of the entries of a line holds of the placed ones
 pub entries_all : (Q : LineAnnotation → Type 0) (es : List LineAnnotation) (ps : List PlacedEntry) → IsPermutation es (map (λ (e : PlacedEntry). e.entry) ps)
@@ -106,36 +89,18 @@ position_or_len-map p f [] = refl
 position_or_len-map p f (x ∷ xs) = ap (λ n. cond (not (p (f x))) (1 + n) 0) (position_or_len-map p f xs)
 
 position-map : {X Y : Type 0} (p : Y → Bool) (f : X → Y) (xs : List X) → position p (map f xs) ≡ position (λ x. p (f x)) xs
-position-map p f xs =
-    ap (λ n. cond (nat_lt n (length (map f xs))) (Some n) None) (position_or_len-map p f xs)
-    ∙ ap (λ n. cond (nat_lt (position_or_len (λ x. p (f x)) xs) n) (Some (position_or_len (λ x. p (f x)) xs)) None) (length-map xs f)
+position-map p f xs = simp (position_or_len-map, length-map)
 
 -- an element passes a test where there is a first one that does
 any-position : {X : Type 0} (p : X → Bool) (xs : List X) → list_any p xs ≡ nat_lt (position_or_len p xs) (length xs)
 any-position p [] = refl
-any-position p (x ∷ xs) = by_first (p x) (any-position p xs)
-  where
-    by_first : (b : Bool) → list_any p xs ≡ nat_lt (position_or_len p xs) (length xs)
-        → (b || list_any p xs) ≡ nat_lt (cond (not b) (1 + position_or_len p xs) 0) (suc (length xs))
-    by_first true rest = sym (lt-ltb 0 (suc (length xs)) (omega arith))
-    by_first false rest = rest ∙ nat_lt-suc (position_or_len p xs) (length xs)
-      where
-        nat_lt-suc : (m n : ℕ) → nat_lt m n ≡ nat_lt (1 + m) (suc n)
-        nat_lt-suc m n = grind (arith, nat_tests)
+any-position p (x ∷ xs) = grind (arith, lt-ltb, any-position p xs)
 
 pub any_at_first : {X : Type 0} (p : X → Bool) (xs : List X) (k : ℕ) → Some k ≡ position p xs → list_any p xs ≡ true
-any_at_first p xs k is = any-position p xs ∙ found (nat_lt (position_or_len p xs) (length xs)) is
-  where
-    found : (b : Bool) → Some k ≡ cond b (Some (position_or_len p xs)) None → b ≡ true
-    found true at = refl
-    found false at = cc at
+any_at_first p xs k is = grind (arith, any-position)
 
 pub any_at_none : {X : Type 0} (p : X → Bool) (xs : List X) → None ≡ position p xs → list_any p xs ≡ false
-any_at_none p xs is = any-position p xs ∙ found (nat_lt (position_or_len p xs) (length xs)) is
-  where
-    found : (b : Bool) → None ≡ cond b (Some (position_or_len p xs)) None → b ≡ false
-    found true at = cc at
-    found false at = refl
+any_at_none p xs is = grind (arith, any-position)
 
 -- there is no first element that passes a test where none does
 pub no_position : {X : Type 0} (p : X → Bool) (xs : List X) → list_any p xs ≡ false → position p xs ≡ None
@@ -187,9 +152,7 @@ module _ (f : PlacedEntry → PlacedEntry)
   are_starts-changed es = list_all-map is_start f es ∙ ap (λ q. list_all q es) starting
 
   pub line_positions-changed : (es : List PlacedEntry) → line_positions (map f es) ≡ line_positions es
-  line_positions-changed es =
-      ap (λ b. cond b (flipped (positions 0 (map f es))) (positions 0 (map f es))) (are_starts-changed es)
-      ∙ ap (λ ps. cond (are_starts es) (flipped ps) ps) (positions-changed 0 es)
+  line_positions-changed es = simp (are_starts-changed, positions-changed)
 
 -- what doesn't look at positions is kept where nothing else changes
 pub each_kept : (P : PlacedEntry → Type 0) (es fs : List PlacedEntry) → ((e : PlacedEntry) → P (unplaced e) → P e) → ((e : PlacedEntry) → P e → P (unplaced e))
@@ -222,10 +185,7 @@ line_positions_kept es fs kept = sym (line_positions-unplaced es) ∙ ap line_po
 
 -- a part that was lent, as long as the whole, comes back in its place
 pub written_back : (xs ys : List PlacedEntry) (len : ℕ) → len ≡ length ys → map unplaced xs ≡ map unplaced ys → take len (xs ++ drop (length xs) ys) ≡ xs
-written_back xs ys len is kept =
-    let long : length xs ≡ length ys = sym (length-map xs unplaced) ∙ ap length kept ∙ length-map ys unplaced in
-    ap (λ rest. take len (xs ++ rest)) (drop_all (length xs) ys (omega (arith, long))) ∙ ap (take len) (append-nil xs)
-    ∙ take_all len xs (omega (arith, is, long))
+written_back xs ys len is kept = grind (arith, length-map, drop_all, append-nil, take_all)
 
 -- entries that were put in an order and got the positions of it are placed
 pub ArePlaced-from : (es : List LineAnnotation) (labelled sorted placed : List PlacedEntry)
@@ -262,18 +222,7 @@ any_front q (suc n) (x ∷ xs) none =
 
 -- an entry that asks for no row crowds no other
 uncrowding : (p : ℕ) (e other : PlacedEntry) → asks other ≡ false → crowds p e other ≡ false
-uncrowding p e other none =
-    by_tests (takes_space e) (has_label e) (has_label other) (takes_space other) (do_overlap other (length other.label + 2) e)
-    (has_label e || (p == 0 && ends_no_later other e)) none
-  where
-    by_tests : (own_space own_label label space overlap wide : Bool) → (label || space) ≡ false
-        → (((own_space && (label || space)) || (own_label && space)) || (label && overlap && wide)) ≡ false
-    by_tests own_space own_label true space overlap wide is = cc is
-    by_tests own_space own_label false true overlap wide is = cc is
-    by_tests true true false false overlap wide is = refl
-    by_tests true false false false overlap wide is = refl
-    by_tests false true false false overlap wide is = refl
-    by_tests false false false false overlap wide is = refl
+uncrowding p e other none = search rules
 
 -- so only those that ask decide which position is reached
 pub position_after-front : (p : ℕ) (e : PlacedEntry) (others : List PlacedEntry) (n : ℕ)

@@ -3,14 +3,12 @@ use Rattle.snippet_labels.proofs.Common.{BeginLeftOf, ◌≡◌, ℕ, zero, suc,
 use Rattle.snippet_labels.proofs.Common.{true, false, List, [], ◌∷◌, length, map, get_or, sym, ap, ◌∙◌, subst, arith, inl, inr, nat_cmp, is_lt}
 use Rattle.snippet_labels.proofs.Common.{IsStrictWeakOrder, IsSortedBy, IsStableBy, ties, ordering_then, Reverse, cases_lt, nat_tests, get_or-map, length-map}
 use Rattle.snippet_labels.proofs.Common.{filter_agree, ordered_by, map-ordered_by, sorted-only, LineAnnotation, PlacedEntry, is_placed_before, StandsLeft}
-use Rattle.snippet_labels.proofs.Common.{IsFromRight, ◌-◌, cond, nat_le, ◌++◌, drop, reverse, refl, All, list_any, range_with_len, IsPermutation}
-use Rattle.snippet_labels.proofs.Common.{and-false, cond-true, append_assoc, append-nil, drop_more, length-reverse, map_push, reverse-append, reverse-reverse}
-use Rattle.snippet_labels.proofs.Common.{All-append, All-cons, All-head, All-nil, All-tail, list_any_none, IsPermutation-reverse, put_in, range-pushed}
-use Rattle.snippet_labels.proofs.Common.{LineAnnotationType, Singleline, MultilineStart, MultilineEnd, MultilineLine, is_end_part, are_starts, blocks, crosses}
-use Rattle.snippet_labels.proofs.Common.{do_overlap, ends_no_later, has_label, is_same_place, is_start_part, line_positions, ArePlaced, FitsLeftOf, HasItsBytes}
-use Rattle.snippet_labels.proofs.Common.{HasItsLabel, StandInRow, label_reach, look_counts, looked_after, position_after, position_at, positions, reaches}
-use Rattle.snippet_labels.proofs.Common.{takes_space}
-use Rattle.snippet_labels.proofs.PlacedLemmas.{no_position, crowds, flipped, up_to}
+use Rattle.snippet_labels.proofs.Common.{IsFromRight, ◌-◌, cond, ◌++◌, drop, reverse, refl, All, list_any, range_with_len, IsPermutation, and-false}
+use Rattle.snippet_labels.proofs.Common.{cond-true, append_assoc, append-nil, drop_more, length-reverse, map_push, reverse-append, reverse-reverse, All-append}
+use Rattle.snippet_labels.proofs.Common.{All-cons, All-head, All-nil, All-tail, list_any_none, IsPermutation-reverse, put_in, range-pushed, are_starts, crosses}
+use Rattle.snippet_labels.proofs.Common.{has_label, line_positions, ArePlaced, FitsLeftOf, HasItsBytes, HasItsLabel, StandInRow, look_counts, looked_after}
+use Rattle.snippet_labels.proofs.Common.{position_after, position_at, positions, rules, takes_space}
+use Rattle.snippet_labels.proofs.PlacedLemmas.{no_position, crowds}
 
 entry_of : PlacedEntry → LineAnnotation
 entry_of e = e.entry
@@ -19,44 +17,15 @@ entry_of e = e.entry
 all_fit : (column : ℕ) (ps : List PlacedEntry) → StandInRow column ps → All (FitsLeftOf column) ps
 all_fit column [] stand k d within = absurd (omega (arith, within))
 all_fit column (e ∷ left) stand zero d within = stand.0
-all_fit column (e ∷ left) stand (suc k) d within =
-    let rest = all_fit e.entry.start.display left stand.1 k d (omega (arith, within)) in
-    record {
-      single = rest.single;
-      begins = omega (arith, rest.begins, stand.0.begins);
-      ends = omega (arith, rest.ends, stand.0.begins);
-    }
+all_fit column (e ∷ left) stand (suc k) d within = grind (arith, all_fit e.entry.start.display left stand.1 k d (omega (arith, within)))
 
 -- ---- no label is in the way
 
-row_apart : (a b c d more : ℕ) → a < c → b + more ≤ c → ((nat_le c a && nat_lt a d) || (nat_le a c && nat_lt c (b + more))) ≡ false
-row_apart a b c d more left ends = grind (arith, nat_tests)
-
-reach_over : (b : Bool) (end more : ℕ) → end + 0 ≤ cond b (end + more) end
-reach_over true end more = omega arith
-reach_over false end more = omega arith
-
 not_crossed : (e other : PlacedEntry) → FitsLeftOf e.entry.start.display other → crosses e other ≡ false
-not_crossed e other fits =
-    let ends : other.entry.end.display + 0 ≤ label_reach other =
-    reach_over (has_label other) other.entry.end.display (length other.label + 2) in
-    ap (λ b. b && (has_label other || not (is_same_place e other)))
-    (row_apart other.entry.start.display other.entry.end.display e.entry.start.display e.entry.end.display 0 fits.begins (omega (arith, ends, fits.ends)))
-
-not_reached : (label overlap wide : Bool) → (label ≡ true → overlap ≡ false) → (label && overlap && wide) ≡ false
-not_reached true overlap wide none = ap (λ b. b && wide) (none refl)
-not_reached false overlap wide none = refl
+not_crossed e other fits = search rules
 
 not_crowded : (column : ℕ) (e other : PlacedEntry) → FitsLeftOf column e → FitsLeftOf e.entry.start.display other → crowds 0 e other ≡ false
-not_crowded column e other own fits =
-    let more = length other.label + 2 in
-    let unblocked : blocks e other ≡ false = ap (λ b. (b && (has_label other || takes_space other)) || (has_label e && takes_space other)) own.single
-    ∙ ap (λ b. has_label e && b) fits.single ∙ and-false (has_label e) in
-    let meets : has_label other ≡ true → do_overlap other more e ≡ false = λ has.
-    let ends : label_reach other ≡ other.entry.end.display + more = ap (λ b. cond b (other.entry.end.display + more) other.entry.end.display) has in
-    row_apart other.entry.start.display other.entry.end.display e.entry.start.display e.entry.end.display more fits.begins (omega (arith, ends, fits.ends)) in
-    ap (λ b. b || reaches 0 e other) unblocked
-    ∙ not_reached (has_label other) (do_overlap other more e) (has_label e || ((0 == 0) && ends_no_later other e)) meets
+not_crowded column e other own fits = search rules
 
 row_uncrossed : (e : PlacedEntry) (left : List PlacedEntry) → StandInRow e.entry.start.display left → list_any (crosses e) left ≡ false
 row_uncrossed e left stand =
@@ -85,30 +54,16 @@ positions_0 column (e ∷ left) stand none =
 
 -- none is a start without a label
 starts_none : (e : PlacedEntry) (left : List PlacedEntry) → takes_space e ≡ false → are_starts (e ∷ left) ≡ false
-starts_none e left single = ap (λ b. (b && not (has_label e)) && are_starts left) (no_start e.entry.annotation_type single)
-  where
-    no_start : (part : LineAnnotationType) → is_end_part part ≡ false → is_start_part part ≡ false
-    no_start Singleline single = refl
-    no_start (MultilineStart depth) single = single
-    no_start (MultilineEnd depth) single = refl
-    no_start (MultilineLine depth) single = refl
+starts_none e left single = search rules
 
 line_positions_0 : (column : ℕ) (ps : List PlacedEntry) → StandInRow column ps → All (λ e. e.position ≡ 0) ps
     → map (λ (e : PlacedEntry). e.position) ps ≡ line_positions ps
 line_positions_0 column [] stand none = refl
-line_positions_0 column (e ∷ left) stand none =
-    positions_0 column (e ∷ left) stand none
-    ∙ sym (ap (λ b. cond b (flipped (positions 0 (e ∷ left))) (positions 0 (e ∷ left))) (starts_none e left stand.0.single))
+line_positions_0 column (e ∷ left) stand none = search (rules, positions_0, starts_none)
 
 -- and all that stand left of one are looked at
 looked_all : (e : PlacedEntry) (left : List PlacedEntry) → StandInRow e.entry.start.display left → looked_after 0 e left ≡ length left
-looked_all e left stand =
-    ap (λ at. cond ((0 == 0) && has_label e) (up_to at (length left)) (length left)) (no_position (crosses e) left (row_uncrossed e left stand))
-    ∙ both (has_label e) (length left)
-  where
-    both : (b : Bool) (n : ℕ) → cond b n n ≡ n
-    both true n = refl
-    both false n = refl
+looked_all e left stand = grind (arith, no_position, row_uncrossed)
 
 look_counts_down : (column : ℕ) (ps : List PlacedEntry) → StandInRow column ps → look_counts 0 ps ≡ reverse (range_with_len 0 (length ps))
 look_counts_down column [] stand = refl
@@ -204,12 +159,7 @@ map-reverse f (x ∷ xs) =
 
 pub labelled_more : (sh : LineAnnotation → LineAnnotation) (es : List LineAnnotation) (i : ℕ) (e d : LineAnnotation) → 0 < i → i ≤ length es
     → e ≡ sh (get_or es (i - 1) d) → reverse (map sh (drop i es)) ++ e ∷ [] ≡ reverse (map sh (drop (i - 1) es))
-labelled_more sh es i e d some within is =
-    let j = i - 1 in
-    let next : i ≡ j + 1 = omega arith in
-    let from : drop j es ≡ get_or es j d ∷ drop (j + 1) es = drop_more es j d (omega arith) in
-    ap (λ n. reverse (map sh (drop n es)) ++ e ∷ []) next ∙ reverse_more (map sh (drop (j + 1) es)) e
-    ∙ ap (λ x. reverse (x ∷ map sh (drop (j + 1) es))) is ∙ ap (λ l. reverse (map sh l)) (sym from)
+labelled_more sh es i e d some within is = grind (arith, drop_more, reverse_more)
 
 pub counts_more : (n i : ℕ) → 0 < i → i ≤ n → reverse (range_with_len i (n - i)) ++ (i - 1) ∷ [] ≡ reverse (range_with_len (i - 1) (n - (i - 1)))
 counts_more n i some within =
@@ -242,9 +192,7 @@ ArePlaced-row es column ps are labels bytes none looked stand =
 from_neighbours : (R : LineAnnotation → LineAnnotation → Type 0) → ((a : LineAnnotation) → R a a) → ((a b c : LineAnnotation) → R a b → R b c → R a c)
     → (es : List LineAnnotation) → ((k : ℕ) (d : LineAnnotation) → k + 1 < length es → R (get_or es k d) (get_or es (k + 1) d))
     → (i j : ℕ) (d : LineAnnotation) → i ≤ j → j < length es → R (get_or es i d) (get_or es j d)
-from_neighbours R same trans es next i zero d before within =
-    let here : i ≡ zero = omega arith in
-    subst (λ n. R (get_or es i d) (get_or es n d)) here (same (get_or es i d))
+from_neighbours R same trans es next i zero d before within = search rules
 from_neighbours R same trans es next i (suc j) d before within =
     let one : j + 1 ≡ suc j = omega arith in
     elim (cases_lt i (suc j)) [
@@ -279,16 +227,7 @@ StandsLeft-refl : (e : LineAnnotation) → StandsLeft e e
 StandsLeft-refl e = record { column = omega arith; character = λ _. omega arith }
 
 StandsLeft-trans : (a b c : LineAnnotation) → StandsLeft a b → StandsLeft b c → StandsLeft a c
-StandsLeft-trans a b c first second =
-    record {
-      column = omega (arith, first.column, second.column);
-      character = λ same. omega (
-        arith,
-        first.character (omega (arith, first.column, second.column, same)),
-        second.character
-            (omega (arith, first.column, second.column, same)),
-      );
-    }
+StandsLeft-trans a b c first second = search rules
 
 -- entries that are sorted by that key stand from right to left
 pub from_right_from_sort : (ps : List PlacedEntry)
@@ -319,20 +258,9 @@ place_tells a b c d = grind (arith, nat_tests)
 placed_before : PlacedEntry → PlacedEntry → Bool
 placed_before x y = is_placed_before x.entry y.entry
 
-place_one_way : (a b c d : ℕ) → (nat_lt c a || (a == c && nat_lt d b)) ≡ true → (nat_lt a c || (c == a && nat_lt b d)) ≡ false
-place_one_way a b c d h = grind (arith, nat_tests)
-
-place_chain : (a b c d e f : ℕ) → (nat_lt c a || (a == c && nat_lt d b)) ≡ false → (nat_lt e c || (c == e && nat_lt f d)) ≡ false
-    → (nat_lt e a || (a == e && nat_lt f b)) ≡ false
-place_chain a b c d e f g h = grind (arith, nat_tests)
-
 place_order : IsStrictWeakOrder placed_before
 unfolding placed_before
-place_order = record {
-  one_way = λ x y h. place_one_way x.entry.start.display x.entry.start.char y.entry.start.display y.entry.start.char h;
-  chain = λ x y z g h. place_chain x.entry.start.display x.entry.start.char y.entry.start.display y.entry.start.char z.entry.start.display
-      z.entry.start.char g h;
-}
+place_order = search rules
 
 -- a stable sort by one test is one by a test that answers the same
 module _ {X : Type 0} (lt by : X → X → Bool) (same : (x y : X) → lt x y ≡ by x y) where

@@ -3,13 +3,13 @@ use Rattle.snippet_strokes.proofs.Common.{◌≡◌, ℕ, ◌+◌, ◌-◌, ◌<
 use Rattle.snippet_strokes.proofs.Common.{◌∷◌, length, map, take, drop, get_or, refl, sym, ap, ◌∙◌, subst, arith, inl, inr, All, list_any}
 use Rattle.snippet_strokes.proofs.Common.{slice_index_or, cases_lt, get_or-map, length-map, get_or_default, get_or_past, get_or-drop, get_or-take, length-drop}
 use Rattle.snippet_strokes.proofs.Common.{length-take, length-take-le, ext_get_or, drop-drop, All-cons, All-from_get_or, All-get_or, All-head, All-nil}
-use Rattle.snippet_strokes.proofs.Common.{All-tail, LineAnnotation, AreReplaced, DecorStyle, Ascii, Unicode, bar_glyphs, placeholder_of, row_at, cell_at}
-use Rattle.snippet_strokes.proofs.Common.{cells_written, WritesCells-cells_written, row_at-cells_written_same, Cell, SPACE, row_text, is_listed, Layout}
-use Rattle.snippet_strokes.proofs.Common.{BarStroke, Top, Solid, Dotted, IsBarCell, IsMarkCell, is_mark_role, IsFreeCell, bars_among, HasBarRoom, StandsBeside}
-use Rattle.snippet_strokes.proofs.Common.{bar_glyph, bar_cell_part, WritesCells, OpenBar, ◌||◌, zero, suc, is_whitespace, list_all, false≢true}
-use Rattle.snippet_strokes.proofs.Common.{LineAnnotationType, Singleline, MultilineStart, MultilineEnd, MultilineLine, is_bar, is_single_part, shifted}
-use Rattle.snippet_strokes.proofs.Common.{label_text, is_beside, is_whole_line, is_start_part}
-use Rattle.snippet_strokes.proofs.SeenRows.{are_plain, wide_entries, AreSeen, AreStrokes, IsBeside, IsStrokeRow, ShowsMarks, is_single, HasNoBars}
+use Rattle.snippet_strokes.proofs.Common.{All-tail, LineAnnotation, AreReplaced, DecorStyle, bar_glyphs, placeholder_of, row_at, cell_at, cells_written}
+use Rattle.snippet_strokes.proofs.Common.{WritesCells-cells_written, row_at-cells_written_same, Cell, SPACE, row_text, is_listed, Layout, BarStroke, Top, Solid}
+use Rattle.snippet_strokes.proofs.Common.{Dotted, IsBarCell, IsMarkCell, is_mark_role, IsFreeCell, bars_among, HasBarRoom, StandsBeside, bar_glyph}
+use Rattle.snippet_strokes.proofs.Common.{bar_cell_part, WritesCells, OpenBar, ◌||◌, is_whitespace, list_all, false≢true, LineAnnotationType, Singleline}
+use Rattle.snippet_strokes.proofs.Common.{MultilineStart, MultilineEnd, MultilineLine, is_bar, shifted, label_text, is_beside, is_whole_line, is_start_part}
+use Rattle.snippet_strokes.proofs.Common.{rules}
+use Rattle.snippet_strokes.proofs.SeenRows.{are_plain, wide_entries, AreSeen, AreStrokes, IsBeside, IsStrokeRow, ShowsMarks, HasNoBars}
 use Rattle.snippet_strokes.proofs.StrokeGlyphs.{free_bars}
 use Rattle.snippet_strokes.proofs.CellLemmas.{with_parts, with_bar}
 use Rattle.snippet_strokes.proofs.DrawnCells.{BarsDrawn}
@@ -29,42 +29,17 @@ bar_glyph_free Top decor primary = (free_bars decor primary).whole_line
 bar_glyph_free Solid decor primary = (free_bars decor primary).bar
 bar_glyph_free Dotted decor primary = (free_bars decor primary).elided_bar
 
--- a space is a part of a bar too
-space_known : (decor : DecorStyle) → list_any (λ g. 32 == g) (bar_glyphs decor) ≡ true
-space_known Ascii = refl
-space_known Unicode = refl
-
 -- a space without a link is a cell that a bar may have
 pub bar_space : (decor : DecorStyle) (cell : Cell) → cell.ch ≡ 32 → cell.link ≡ None → IsBarCell decor cell
-bar_space decor cell blank unlinked =
-    record {
-      glyph = ap (λ ch. list_any (λ g. ch == g) (bar_glyphs decor)) blank ∙ space_known decor;
-      link = unlinked;
-    }
+bar_space decor cell blank unlinked = search rules
 
 -- nothing is drawn yet
 pub BarsDrawn-none : (layout : Layout) (row : List Cell) → BarsDrawn layout row row
-BarsDrawn-none layout row =
-    record {
-      left = λ c _. refl;
-      bar_cells = λ c is. is;
-      code = refl;
-      longer = omega arith;
-      short = omega arith;
-      free = λ free. free;
-    }
+BarsDrawn-none layout row = search rules
 
 -- and then something more
 pub BarsDrawn-more : (layout : Layout) (old mid new : List Cell) → BarsDrawn layout old mid → BarsDrawn layout mid new → BarsDrawn layout old new
-BarsDrawn-more layout old mid new done more =
-    record {
-      left = λ c before. more.left c before ∙ done.left c before;
-      bar_cells = λ c is. more.bar_cells c (done.bar_cells c is);
-      code = more.code ∙ done.code;
-      longer = omega (arith, done.longer, more.longer);
-      short = omega (arith, done.short, more.short);
-      free = λ free. more.free (done.free free);
-    }
+BarsDrawn-more layout old mid new done more = search rules
 
 -- what stands where a list has no bar
 abbrev pub no_bar : OpenBar
@@ -72,25 +47,13 @@ no_bar = record { depth = 0; primary = false }
 
 -- the first of some bars stands beside itself
 pub beside_itself : (bars : List OpenBar) (from k : ℕ) (d : OpenBar) → k ≡ from → StandsBeside (get_or bars from d) (k - from) (get_or bars k d)
-beside_itself bars from k d same =
-    record {
-      depth = ap (λ n. (get_or bars n d).depth) same ∙ omega (arith, same);
-      primary = ap (λ n. (get_or bars n d).primary) same;
-    }
+beside_itself bars from k d same = search rules
 
 -- one more bar stands beside those before it
 pub beside_next : (bars : List OpenBar) (from to k : ℕ) (d e : OpenBar) → from < to → k ≡ to → to < length bars
     → StandsBeside (get_or bars from d) (to - 1 - from) (get_or bars (to - 1) d) → StandsBeside (get_or bars (to - 1) e) 1 (get_or bars to e)
     → StandsBeside (get_or bars from d) (k - from) (get_or bars k d)
-beside_next bars from to k d e ordered same within done next =
-    let here : get_or bars to e ≡ get_or bars to d = get_or_default bars to e d within in
-    let before : get_or bars (to - 1) e ≡ get_or bars (to - 1) d = get_or_default bars (to - 1) e d (omega (arith, within)) in
-    let more : StandsBeside (get_or bars (to - 1) d) 1 (get_or bars to d) = subst (λ (x : OpenBar). StandsBeside x 1 (get_or bars to d)) before
-    (subst (λ (x : OpenBar). StandsBeside (get_or bars (to - 1) e) 1 x) here next) in
-    record {
-      depth = ap (λ n. (get_or bars n d).depth) same ∙ omega (arith, more.depth, done.depth, same, ordered);
-      primary = ap (λ n. (get_or bars n d).primary) same ∙ more.primary ∙ done.primary;
-    }
+beside_next bars from to k d e ordered same within done next = grind (arith, get_or_default)
 
 -- parts of bars are written into a row
 BarsDrawn-write : (layout : Layout) (old new : List (List Cell)) (row at : ℕ) (cells : List Cell) → WritesCells old new row at cells
@@ -178,13 +141,7 @@ IsBeside-drawn layout wide plain old new long is drawn =
 -- so is a row of strokes
 IsStrokeRow-drawn : (layout : Layout) (plain : Bool) (es : List LineAnnotation) (closes : Bool) (old new : List Cell) → IsStrokeRow layout plain es closes old
     → BarsDrawn layout old new → IsStrokeRow layout plain es closes new
-IsStrokeRow-drawn layout plain es closes old new is drawn =
-    record {
-      left = λ c left. drawn.left c left ∙ is.left c left;
-      bar_cells = λ c from to. drawn.bar_cells c (is.bar_cells c from to);
-      before = λ all c from right left stands. drawn_right layout old new drawn c right ∙ is.before all c from right left stands;
-      free = drawn.free is.free;
-    }
+IsStrokeRow-drawn layout plain es closes old new is drawn = search (rules, drawn_right)
 
 ShowsMarks-drawn : (layout : Layout) (es : List LineAnnotation) (old new : List Cell) → ShowsMarks layout.decor layout.code es old → BarsDrawn layout old new
     → ShowsMarks layout.decor layout.code es new
@@ -249,31 +206,15 @@ AreSeen-drawn layout room es closes plain rows rule long drawn seen =
     }
 
 -- Lines that are marked as a whole.
--- an entry that is drawn by bars alone isn't a whole span
-not_single : (t : LineAnnotationType) (b : Bool) → (is_bar t || is_start_part t && b) ≡ true → is_single_part t ≡ false
-not_single Singleline b is = absurd (false≢true is)
-not_single (MultilineStart depth) b is = refl
-not_single (MultilineEnd depth) b is = refl
-not_single (MultilineLine depth) b is = refl
-
 first_true : (a b : Bool) → (a && b) ≡ true → a ≡ true
 first_true true b is = refl
 first_true false b is = absurd (false≢true is)
 
-none_false : (a b : Bool) → a ≡ false → (a && b) ≡ true → ⊥
-none_false true b is both = false≢true (sym is)
-none_false false b is both = false≢true both
-
--- so the marks of such a line aren't promised
+-- the marks of such a line aren't promised
 whole_not_plain : (text : List ℕ) (room dropped : ℕ) (decor : DecorStyle) (es : List LineAnnotation) → is_whole_line text es ≡ true
     → are_plain room decor (map (shifted dropped) es) ≡ true → ⊥
 whole_not_plain text room dropped decor [] whole plain = false≢true whole
-whole_not_plain text room dropped decor (e ∷ es) whole plain =
-    let blank = list_all is_whitespace (take e.start.display text) in
-    let beside : is_beside text e ≡ true = first_true (is_beside text e) (list_all (is_beside text) es) whole in
-    let single : is_single e ≡ false = not_single e.annotation_type blank beside in
-    let singles = list_all is_single (map (shifted dropped) es) in
-    none_false (is_single e) singles single (first_true (is_single e && singles) _ plain)
+whole_not_plain text room dropped decor (e ∷ es) whole plain = search rules
 
 -- an entry that is drawn by bars alone is a start or a bar, and so it has no label
 bar_or_start : (t : LineAnnotationType) (b : Bool) → (is_bar t || is_start_part t && b) ≡ true → (is_start_part t || is_bar t) ≡ true
@@ -306,40 +247,13 @@ beside_unlabelled text dropped (e ∷ es) whole ends = all_unlabelled text dropp
 -- no rows of strokes
 AreStrokes-whole : (layout : Layout) (text : List ℕ) (room dropped : ℕ) (closes : Bool) (es : List LineAnnotation) → is_whole_line text es ≡ true
     → AreStrokes layout room (map (shifted dropped) es) closes []
-AreStrokes-whole layout text room dropped closes es whole =
-    let none = whole_not_plain text room dropped layout.decor es whole in
-    record {
-      some = λ plain more. absurd (none plain);
-      marks = λ plain. absurd (none plain);
-      labels = λ _ ends. LabelsStand-none layout (map (shifted dropped) es) [] (beside_unlabelled text dropped es whole ends) (λ r c right. refl);
-      are = λ k within. absurd (omega (arith, within));
-    }
-
--- a text of which nothing is replaced
-none_replaced : (placeholder : List ℕ) (n : ℕ) (before after : List ℕ) → after ≡ before → AreReplaced placeholder n before after
-none_replaced placeholder zero before after same = same
-none_replaced placeholder (suc n) before after same = inl same
+AreStrokes-whole layout text room dropped closes es whole = grind (arith, whole_not_plain, LabelsStand-none, beside_unlabelled)
 
 -- a source row beside which nothing is drawn
 IsBeside-same : (layout : Layout) (wide : ℕ) (plain : List Cell) → HasNoBars layout plain → IsBeside layout wide plain plain
-IsBeside-same layout wide plain bare =
-    record {
-      front = refl;
-      gap = refl;
-      bar_cells = bare.1;
-      text = none_replaced (placeholder_of layout.decor) wide _ _ refl;
-      uncut = λ none. refl;
-      free = λ free. free;
-    }
+IsBeside-same layout wide plain bare = search rules
 
 -- of such a line the source row alone is seen
 pub whole_seen : (layout : Layout) (text : List ℕ) (room dropped : ℕ) (closes : Bool) (es : List LineAnnotation) (source : List Cell)
     → is_whole_line text es ≡ true → HasNoBars layout source → AreSeen layout room (map (shifted dropped) es) closes source (source ∷ [])
-whole_seen layout text room dropped closes es source whole bare =
-    record {
-      source = source;
-      below = [];
-      rows_are = refl;
-      beside = IsBeside-same layout (wide_entries room layout.decor (map (shifted dropped) es)) source bare;
-      strokes = AreStrokes-whole layout text room dropped closes es whole;
-    }
+whole_seen layout text room dropped closes es source whole bare = grind (arith, IsBeside-same, AreStrokes-whole)

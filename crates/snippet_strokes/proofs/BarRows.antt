@@ -4,9 +4,9 @@ use Rattle.snippet_strokes.proofs.Common.{arith, inl, inr, Contains, cases_eq, c
 use Rattle.snippet_strokes.proofs.Common.{SPACE, slice_index_or-written_after, slice_index_or-written_before, slice_index_or-written_inside, LineAnnotation}
 use Rattle.snippet_strokes.proofs.Common.{BarStroke, Solid, OpenBar, Layout, bars_apart, ends_of_bars, HasOwnDepth, bar_cell_part, ◌-◌, ◌≤◌, ◌++◌}
 use Rattle.snippet_strokes.proofs.Common.{map, take, drop, replicate, refl, subst, drop_all, ext_get_or, get_or_append_left, get_or-append_right, get_or-drop}
-use Rattle.snippet_strokes.proofs.Common.{get_or-replicate, get_or-take, length-append, length-drop, length-replicate, length-take-le, take_all, take_more}
-use Rattle.snippet_strokes.proofs.Common.{fold-append, cells_written, row_at-cells_written_other, row_at-cells_written_same, WritesCells-cells_written}
-use Rattle.snippet_strokes.proofs.Common.{unlinked_cell, written, underline_role, length-written, StandsBeside, bar_glyph, barred, changed_from}
+use Rattle.snippet_strokes.proofs.Common.{get_or-take, length-append, length-drop, length-take-le, take_all, take_more, fold-append, cells_written}
+use Rattle.snippet_strokes.proofs.Common.{row_at-cells_written_other, row_at-cells_written_same, WritesCells-cells_written, written, StandsBeside, barred}
+use Rattle.snippet_strokes.proofs.Common.{changed_from, rules, places}
 use Rattle.snippet_strokes.proofs.CellLemmas.{with_parts, with_bar}
 use Rattle.snippet_strokes.proofs.WriteLaws.{AreLineRows}
 
@@ -21,13 +21,7 @@ pub record ChangesRows (rule : List Cell → List Cell) (row end : ℕ) (old new
 
 -- rows stay where the end is at the first row or above it
 pub ChangesRows-none : (rule : List Cell → List Cell) (row end : ℕ) (rows : List (List Cell)) → end ≤ row → ChangesRows rule row end rows rows
-ChangesRows-none rule row end rows none =
-    record {
-      inside = λ r from to there. absurd (omega (arith, from, to, none));
-      before = λ r above. refl;
-      after = λ r below. refl;
-      count = refl;
-    }
+ChangesRows-none rule row end rows none = search rules
 
 -- one row more, in which these cells were written
 pub ChangesRows-next : (at : ℕ) (cells : List Cell) (row r : ℕ) (old mid new : List (List Cell)) → row ≤ r → r < length old
@@ -117,55 +111,14 @@ barred-below layout stroke bars (x ∷ above) rows = ap (λ rs. x ∷ rs) (barre
 -- a cell more of a text that repeats one
 written-next : (row : List Cell) (at n : ℕ) (cell : Cell)
     → written SPACE (written SPACE row at (replicate n cell)) (at + n) (cell ∷ []) ≡ written SPACE row at (replicate (n + 1) cell)
-written-next row at n cell =
-    let few : List Cell = replicate n cell in
-    let more : List Cell = replicate (n + 1) cell in
-    let mid : List Cell = written SPACE row at few in
-    let count : length few ≡ n = length-replicate n cell in
-    let count_more : length more ≡ n + 1 = length-replicate (n + 1) cell in
-    ext_get_or SPACE (written SPACE mid (at + n) (cell ∷ [])) (written SPACE row at more)
-    (omega (arith, length-written SPACE mid (at + n) (cell ∷ []), length-written SPACE row at few, length-written SPACE row at more, count, count_more))
-    (λ k within. elim (cases_lt k at) [
-      | inl left ↦
-          slice_index_or-written_before SPACE mid (at + n) (cell ∷ []) k (omega (arith, left)) ∙ slice_index_or-written_before SPACE row at few k left
-          ∙ sym (slice_index_or-written_before SPACE row at more k left)
-      | inr from ↦
-          let j : ℕ = k - at in
-          let place : at + j ≡ k = omega (arith, from) in
-          elim (cases_lt k (at + n)) [
-            | inl inside ↦
-                slice_index_or-written_before SPACE mid (at + n) (cell ∷ []) k inside ∙ ap (λ i. get_or mid i SPACE) (sym place)
-                ∙ slice_index_or-written_inside SPACE row at few j SPACE (omega (arith, inside, from, count))
-                ∙ get_or-replicate n j cell SPACE (omega (arith, inside, from))
-                ∙ sym (ap (λ i. get_or (written SPACE row at more) i SPACE) (sym place)
-                ∙ slice_index_or-written_inside SPACE row at more j SPACE (omega (arith, inside, from, count_more))
-                ∙ get_or-replicate (n + 1) j cell SPACE (omega (arith, inside, from)))
-            | inr past ↦ elim (cases_eq k (at + n)) [
-              | inl here ↦
-                  let last : at + n + 0 ≡ k = omega (arith, here) in
-                  ap (λ i. get_or (written SPACE mid (at + n) (cell ∷ [])) i SPACE) (sym last)
-                  ∙ slice_index_or-written_inside SPACE mid (at + n) (cell ∷ []) 0 SPACE (omega arith)
-                  ∙ sym (ap (λ i. get_or (written SPACE row at more) i SPACE) (sym place)
-                  ∙ slice_index_or-written_inside SPACE row at more j SPACE (omega (arith, here, from, count_more))
-                  ∙ get_or-replicate (n + 1) j cell SPACE (omega (arith, here, from)))
-              | inr after ↦
-                  let beyond : at + n + 1 ≤ k = omega (arith, past, after) in
-                  slice_index_or-written_after SPACE mid (at + n) (cell ∷ []) k SPACE beyond
-                  ∙ slice_index_or-written_after SPACE row at few k SPACE (omega (arith, count, beyond))
-                  ∙ sym (slice_index_or-written_after SPACE row at more k SPACE (omega (arith, count_more, beyond)))
-            ]
-          ]
-    ])
+unfolding written
+written-next row at n cell = ext_get_or SPACE _ _ (grind (arith, places)) (λ k h. grind (arith, places))
 
 module _ (layout : Layout) (stroke : BarStroke) where
   -- a bar that stands so many cells right of another, in its role, has its part
   beside_part : (first bar : OpenBar) (k : ℕ) (row : List Cell) → StandsBeside first k bar
       → with_bar layout stroke row bar ≡ written SPACE row (layout.gutter + 2 + first.depth + k) (bar_cell_part layout stroke first ∷ [])
-  beside_part first bar k row beside =
-      let place : layout.gutter + 2 + bar.depth ≡ layout.gutter + 2 + first.depth + k = omega (arith, beside.depth) in
-      ap (λ n. written SPACE row n (bar_cell_part layout stroke bar ∷ [])) place
-      ∙ ap (λ p. written SPACE row (layout.gutter + 2 + first.depth + k)
-      (unlinked_cell (underline_role p) (bar_glyph stroke layout.decor p) ∷ [])) beside.primary
+  beside_part first bar k row beside = search rules
 
   -- one bar more
   bars_more : (bars : List OpenBar) (i : ℕ) (d : OpenBar) (row : List Cell) → i < length bars
@@ -207,14 +160,7 @@ module _ (layout : Layout) (stroke : BarStroke) where
       → ((k : ℕ) (d : OpenBar) → k < to - from → StandsBeside first k (get_or bars (from + k) d))
       → written SPACE (with_parts layout stroke (take from bars) row) (layout.gutter + 2 + first.depth)
       (replicate (to - from) (bar_cell_part layout stroke first)) ≡ with_parts layout stroke (take to bars) row
-  side_drawn bars from to first row some within beside =
-      let n : ℕ = to - from - 1 in
-      let many : n + 1 ≡ to - from = omega (arith, some) in
-      let end : from + (n + 1) ≡ to = omega (arith, some) in
-      ap (λ k. written SPACE (with_parts layout stroke (take from bars) row) (layout.gutter + 2 + first.depth)
-      (replicate k (bar_cell_part layout stroke first))) (sym many)
-      ∙ side_more bars from n first row (omega (arith, within, end)) (λ k d low. beside k d (omega (arith, low, many)))
-      ∙ ap (λ k. with_parts layout stroke (take k bars) row) end
+  side_drawn bars from to first row some within beside = grind (arith, side_more)
 
 -- Laws of the bars beside the rows of a line.
 module _ (layout : Layout) (stroke : BarStroke) (bar : OpenBar) where
@@ -233,16 +179,7 @@ module _ (layout : Layout) (stroke : BarStroke) (bar : OpenBar) where
 
   -- a bar of another depth leaves it
   pub drawn_beside : (b : OpenBar) (row : List Cell) → b.depth ≢ bar.depth → there (with_bar layout stroke row b) ≡ there row
-  drawn_beside b row other =
-      let at : ℕ = layout.gutter + 2 + bar.depth in
-      let cell : ℕ = layout.gutter + 2 + b.depth in
-      elim (cases_lt at cell) [
-        | inl left ↦ slice_index_or-written_before SPACE row cell (part b ∷ []) at left
-        | inr past ↦ slice_index_or-written_after SPACE row cell (part b ∷ []) at SPACE (elim (cases_eq b.depth bar.depth) [
-          | inl same ↦ absurd (other same)
-          | inr apart ↦ omega (arith, past, apart)
-        ])
-      ]
+  drawn_beside b row other = grind (arith, cases_lt, slice_index_or-written_before, slice_index_or-written_after, cases_eq)
 
   -- so it stays below bars of other depths
   stays : (bars : List OpenBar) (row : List Cell) → HasOwnDepth bar bars → there row ≡ part bar → there (with_parts layout stroke bars row) ≡ part bar

@@ -1,15 +1,15 @@
 -- The writes of the lines that lead to bars, and of bars with their corners.
-use Rattle.snippet_strokes.proofs.Common.{◌≡◌, ℕ, ◌+◌, ◌-◌, ◌<◌, ◌≤◌, nat_lt, cond, true, false, List, [], ◌∷◌, length, get_or}
+use Rattle.snippet_strokes.proofs.Common.{◌≡◌, ℕ, ◌+◌, ◌-◌, ◌<◌, ◌≤◌, cond, true, false, List, [], ◌∷◌, length, get_or}
 use Rattle.snippet_strokes.proofs.Common.{replicate, refl, sym, ap, ◌∙◌, subst, arith, All, range_with_len, All-append, All-cons, All-head, All-map}
 use Rattle.snippet_strokes.proofs.Common.{All-nil, All-replicate, All-tail, get_or-range_with_len, length-range_with_len, WritesCells-cells_written, is_primary}
-use Rattle.snippet_strokes.proofs.Common.{Cell, text_cells, unlinked_cell, strokes_of, DecorStyle, ElementStyle, is_listed, is_single_part, LineAnnotationType}
-use Rattle.snippet_strokes.proofs.Common.{Singleline, MultilineStart, MultilineEnd, MultilineLine, Layout, PlacedEntry, IsBarCell, HasRows, connector_of}
-use Rattle.snippet_strokes.proofs.Common.{corner_of, connectors_of, corners_of, HasBarCell, HasBarCellAt, WritesCells, column_of, stroke_role, Write, glyph_at}
-use Rattle.snippet_strokes.proofs.Common.{painted, stretch_of, suc, ◌==◌, Bool, ◌++◌, map, All-weaker, is_mark_role, foot_glyph, has_label, has_stem}
-use Rattle.snippet_strokes.proofs.Common.{stem_of, is_stem_covered, stems_of}
+use Rattle.snippet_strokes.proofs.Common.{Cell, text_cells, unlinked_cell, strokes_of, DecorStyle, ElementStyle, is_listed, LineAnnotationType, Singleline}
+use Rattle.snippet_strokes.proofs.Common.{MultilineStart, MultilineEnd, MultilineLine, Layout, PlacedEntry, IsBarCell, HasRows, connector_of, corner_of}
+use Rattle.snippet_strokes.proofs.Common.{connectors_of, corners_of, HasBarCell, HasBarCellAt, WritesCells, column_of, stroke_role, Write, glyph_at, painted}
+use Rattle.snippet_strokes.proofs.Common.{stretch_of, suc, ◌==◌, Bool, ◌++◌, map, All-weaker, is_mark_role, foot_glyph, has_label, has_stem, stem_of}
+use Rattle.snippet_strokes.proofs.Common.{is_stem_covered, stems_of, rules}
 use Rattle.snippet_strokes.proofs.SeenRows.{is_single}
 use Rattle.snippet_strokes.proofs.DrawnCells.{DrawsBarCells, DrawsFrom, KeepsBarCells, MarksStarts, StandsFrom}
-use Rattle.snippet_strokes.proofs.CellLemmas.{bar_writes, connector_by, corner_by, line_to, stem_write, written_by}
+use Rattle.snippet_strokes.proofs.CellLemmas.{bar_writes, corner_by, line_to, stem_write, written_by}
 use Rattle.snippet_strokes.proofs.Reach.{IsWithin, Reaches, cell_of_write}
 use Rattle.snippet_strokes.proofs.DrawLemmas.{DrawsBarCells-more, DrawsBarCells-none, DrawsBarCells-writes, free_bar, bar_bottom, bar_horizontal, bar_top}
 use Rattle.snippet_strokes.proofs.DrawLemmas.{bar_vertical}
@@ -35,23 +35,12 @@ KeepsBarCells-painted layout ws rows bar_cells r c left before =
 -- what holds of the one text of a stretch
 pub All-stretch_of : (P : Write → Type 0) (row from to glyph : ℕ) (role : ElementStyle)
     → P (record { row = row; cell = from; text = replicate (to - from) glyph; role = role }) → All P (stretch_of row from to glyph role)
-All-stretch_of P row from to glyph role holds =
-    let w : Write = record { row = row; cell = from; text = replicate (to - from) glyph; role = role } in
-    elim (nat_lt from to) as (λ b. All P (cond b (w ∷ []) [])) [
-      | true ↦ All-cons P w [] holds (All-nil P)
-      | false ↦ All-nil P
-    ]
+All-stretch_of P row from to glyph role holds = search rules
 
 -- what holds of the lines of starts and ends holds of those of all entries
 pub All-connector_of : (P : Write → Type 0) (layout : Layout) (row : ℕ) (e : PlacedEntry) → ((depth : ℕ) → All P (line_to layout row e depth))
     → All P (connector_of layout row e)
-All-connector_of P layout row e holds = by_part e.entry.annotation_type
-  where
-    by_part : (part : LineAnnotationType) → All P (connector_by layout row e part)
-    by_part Singleline = All-nil P
-    by_part (MultilineStart depth) = holds depth
-    by_part (MultilineEnd depth) = holds depth
-    by_part (MultilineLine depth) = All-nil P
+All-connector_of P layout row e holds = search rules
 
 -- they stand in rows that are there, right of the separator
 pub connectors_within : (layout : Layout) (row count : ℕ) (es : List PlacedEntry) → All (HasRows row count) es
@@ -98,25 +87,14 @@ KeepsBarCells-connectors layout row es old =
 
 -- where all entries stand for whole spans there are none
 pub connectors_none : (layout : Layout) (row : ℕ) (es : List PlacedEntry) → All (λ e. is_single e.entry ≡ true) es → connectors_of layout row es ≡ []
-connectors_none layout row es single =
-    flat_map-none (connector_of layout row) es (λ k d within. by_part (get_or es k d) (get_or es k d).entry.annotation_type (single k d within))
-  where
-    by_part : (e : PlacedEntry) (part : LineAnnotationType) → is_single_part part ≡ true → connector_by layout row e part ≡ []
-    by_part e Singleline is = refl
-    by_part e (MultilineStart depth) is = cc is
-    by_part e (MultilineEnd depth) is = cc is
-    by_part e (MultilineLine depth) is = refl
+connectors_none layout row es single = grind (arith, flat_map-none)
 
 -- a line to a bar is drawn with the glyph and in the role of its entry
 pub line_painted : (layout : Layout) (row : ℕ) (e : PlacedEntry) (depth glyph : ℕ) (role : ElementStyle) (old new : List (List Cell))
     → glyph ≡ (strokes_of layout.decor (is_primary e.entry.kind)).connector → role ≡ stroke_role e
     → new ≡ painted (stretch_of (row + e.position) (layout.gutter + 3 + depth) (layout.code + e.entry.start.display) glyph role) old
     → new ≡ painted (line_to layout row e depth) old
-line_painted layout row e depth glyph role old new is_glyph is_role drawn_now =
-    let from = layout.gutter + 3 + depth in
-    let to = layout.code + e.entry.start.display in
-    drawn_now ∙ ap (λ g. painted (stretch_of (row + e.position) from to g role) old) is_glyph
-    ∙ ap (λ r. painted (stretch_of (row + e.position) from to (strokes_of layout.decor (is_primary e.entry.kind)).connector r) old) is_role
+line_painted layout row e depth glyph role old new is_glyph is_role drawn_now = cc
 
 -- ---- bars
 
@@ -220,14 +198,7 @@ DrawsBarCells-corners layout row es old bar_cells rows =
 
 -- where all entries stand for whole spans there are none
 pub corners_none : (layout : Layout) (row count : ℕ) (es : List PlacedEntry) → All (λ e. is_single e.entry ≡ true) es → corners_of layout row count es ≡ []
-corners_none layout row count es single =
-    flat_map-none (corner_of layout row count) es (λ k d within. by_part (get_or es k d) (get_or es k d).entry.annotation_type (single k d within))
-  where
-    by_part : (e : PlacedEntry) (part : LineAnnotationType) → is_single_part part ≡ true → corner_by layout row count e part ≡ []
-    by_part e Singleline is = refl
-    by_part e (MultilineStart depth) is = cc is
-    by_part e (MultilineEnd depth) is = cc is
-    by_part e (MultilineLine depth) is = refl
+corners_none layout row count es single = grind (arith, flat_map-none)
 
 -- The writes of stems.
 -- what holds of each cell of a stem holds of those of all
@@ -296,9 +267,7 @@ stem_count layout row e rows has =
 -- the stems from one entry on are its own, unless the next one's covers it, and those of the later ones
 pub stems_next : (layout : Layout) (row : ℕ) (e : PlacedEntry) (later : List PlacedEntry) (old new : List (List Cell)) → is_stem_covered e later ≡ false
     → new ≡ painted (stem_of layout row e) old → painted (stems_of layout row later) new ≡ painted (stems_of layout row (e ∷ later)) old
-stems_next layout row e later old new shown drawn_now =
-    ap (painted (stems_of layout row later)) drawn_now ∙ sym (painted-append (stem_of layout row e) (stems_of layout row later) old)
-    ∙ sym (ap (λ b. painted (cond b [] (stem_of layout row e) ++ stems_of layout row later) old) shown)
+stems_next layout row e later old new shown drawn_now = grind (arith, painted-append)
 
 -- an entry that is hidden by a later one adds no stem
 pub stems_skip : (layout : Layout) (row : ℕ) (e : PlacedEntry) (later : List PlacedEntry) (rows : List (List Cell)) → is_stem_covered e later ≡ true

@@ -1,42 +1,25 @@
 -- The rows that strokes are drawn into: as they are begun, read from the left or the right, and cut where entries are wide.
-use Rattle.snippet_strokes.proofs.Common.{◌≡◌, ℕ, ◌+◌, ◌-◌, ◌<◌, ◌≤◌, ◌==◌, ◌&&◌, cond, nat_lt, Bool, true, false, List, []}
+use Rattle.snippet_strokes.proofs.Common.{◌≡◌, ℕ, ◌+◌, ◌-◌, ◌<◌, ◌≤◌, ◌==◌, ◌&&◌, cond, Bool, true, false, List, []}
 use Rattle.snippet_strokes.proofs.Common.{◌∷◌, ◌++◌, length, take, drop, replicate, get_or, refl, sym, ap, ◌∙◌, subst, arith, inl, inr, All}
-use Rattle.snippet_strokes.proofs.Common.{Contains, zero, suc, map, list_all, slice_index_or, IsPermutation, and_parts, cases_lt, cases_eq, nat_tests, places}
+use Rattle.snippet_strokes.proofs.Common.{Contains, zero, suc, map, slice_index_or, IsPermutation, and_parts, cases_lt, cases_eq, nat_tests, places}
 use Rattle.snippet_strokes.proofs.Common.{length-append, length-replicate, get_or_append_left, get_or_push, length_push, get_or-drop, get_or_past}
 use Rattle.snippet_strokes.proofs.Common.{get_or-replicate, ext_get_or, append-nil, append_assoc, take-append-drop, drop_all, get_or-take, replicate_more}
 use Rattle.snippet_strokes.proofs.Common.{and-false, and-true, drop-append_seam, All-get_or, Contains-permutation, IsPermutation-map, IsPermutation-trans}
 use Rattle.snippet_strokes.proofs.Common.{sum_by-IsPermutation, AllPass-from_list_all, LineAnnotation, is_wide_entry, placeholder_of, DecorStyle, row_at, Cell}
 use Rattle.snippet_strokes.proofs.Common.{SPACE, written, take-written_past, drop-written, Layout, PlacedEntry, IsBarCell, IsFreeCell, IsFree, row_count}
-use Rattle.snippet_strokes.proofs.Common.{HasRows, bare_row, separator_row, painting_order, ArePlaced, cases_Bool, get_or-map, length-map, Contains-get_or}
-use Rattle.snippet_strokes.proofs.Common.{IsPermutation-sym, AnnotationKind, Primary, Context, Visible, IsMarkGlyph, underline_role, cell_at, IsMarkCell}
-use Rattle.snippet_strokes.proofs.Common.{entry_width, is_primary, ◌||◌, LineAnnotationType, Singleline, MultilineStart, MultilineEnd, MultilineLine}
-use Rattle.snippet_strokes.proofs.Common.{is_single_part, has_stem, takes_space, strokes_of, unlinked_cell, is_end_part, mark_end, not, All-nil, All-cons}
-use Rattle.snippet_strokes.proofs.Common.{length_permutation, label_text, has_label, positions, line_positions, entries_all}
-use Rattle.snippet_strokes.proofs.SeenRows.{are_plain, has_column, is_single, wide_entries, IsCut, IsStrokeRow, EntryCovers, IsEntryMark}
+use Rattle.snippet_strokes.proofs.Common.{HasRows, bare_row, separator_row, painting_order, ArePlaced, get_or-map, length-map, Contains-get_or}
+use Rattle.snippet_strokes.proofs.Common.{IsPermutation-sym, AnnotationKind, IsMarkGlyph, underline_role, cell_at, IsMarkCell, takes_space, mark_end, not}
+use Rattle.snippet_strokes.proofs.Common.{All-nil, All-cons, length_permutation, label_text, has_label, positions, line_positions, entries_all, rules}
+use Rattle.snippet_strokes.proofs.Common.{is_primary}
+use Rattle.snippet_strokes.proofs.SeenRows.{are_plain, is_single, wide_entries, IsCut, IsStrokeRow, EntryCovers, IsEntryMark}
 use Rattle.snippet_strokes.proofs.PositionLemmas.{HasRows-row_count, row_count_some, line_positions_low, of_positions, positions_sole}
 use Rattle.snippet_strokes.proofs.PaintOrder.{IsPermutation-painting_order}
 use Rattle.snippet_strokes.proofs.PaintedMarks.{CoversOver, AreMarked, IsPaintedAt, mark_cell}
 
 -- The marks of entries that stand for whole spans.
--- a mark cell of an entry that stands for a whole span is one of its kind
-stroke_is : (decor : DecorStyle) (kind : AnnotationKind) (start stem : Bool)
-    → IsMarkCell decor kind (unlinked_cell (underline_role (is_primary kind))
-    (cond start (cond stem (strokes_of decor (is_primary kind)).label_start (strokes_of decor (is_primary kind)).underline)
-    (strokes_of decor (is_primary kind)).underline))
-stroke_is decor kind true true = (inr refl, refl)
-stroke_is decor kind true false = (inl refl, refl)
-stroke_is decor kind false stem = (inl refl, refl)
-
 -- the cell of a mark is one that a mark of that kind may have
 pub IsMarkCell-mark_cell : (layout : Layout) (e : PlacedEntry) (c : ℕ) → takes_space e ≡ false → IsMarkCell layout.decor e.entry.kind (mark_cell layout e c)
-IsMarkCell-mark_cell layout e c flat =
-    let primary = is_primary e.entry.kind in
-    let corner = cond (has_stem e) (strokes_of layout.decor primary).end_down (strokes_of layout.decor primary).end_flat in
-    let own = cond (has_stem e) (strokes_of layout.decor primary).label_start (strokes_of layout.decor primary).underline in
-    subst (λ b. IsMarkCell layout.decor e.entry.kind
-    (unlinked_cell (underline_role primary)
-    (cond (c == layout.code + e.entry.start.display) (cond b corner own) (strokes_of layout.decor primary).underline))) (sym flat)
-    (stroke_is layout.decor e.entry.kind (c == layout.code + e.entry.start.display) (has_stem e))
+IsMarkCell-mark_cell layout e c flat = search rules
 
 -- an entry that stands for a whole span takes no space, and one that covers a column is painted at its columns alone
 abbrev pub IsPlainEntry : LineAnnotation → Type 0
@@ -44,30 +27,15 @@ IsPlainEntry e = (is_single e ≡ true) × (e.start.display < e.end.display)
 
 -- a plain entry takes no space
 pub spaceless : (e : PlacedEntry) → IsPlainEntry e.entry → takes_space e ≡ false
-spaceless e plain = by_type e.entry.annotation_type plain.0
-  where
-    by_type : (part : LineAnnotationType) → is_single_part part ≡ true → is_end_part part ≡ false
-    by_type Singleline is = refl
-    by_type (MultilineStart depth) is = cc is
-    by_type (MultilineEnd depth) is = cc is
-    by_type (MultilineLine depth) is = refl
+spaceless e plain = search rules
 
 -- the mark of a plain entry ends where the entry does
 pub mark_end_plain : (e : PlacedEntry) → IsPlainEntry e.entry → mark_end e ≡ e.entry.end.display
-mark_end_plain e plain =
-    ap (λ b. cond (b && (takes_space e || has_stem e)) (e.entry.end.display + 1) e.entry.end.display) (apart e.entry.start.display e.entry.end.display plain.1)
-  where
-    apart : (m n : ℕ) → m < n → (m == n) ≡ false
-    apart m n less = grind (arith, nat_tests, less)
+mark_end_plain e plain = search rules
 
 -- a column that an entry covers is painted for it
 pub painted_covered : (e : PlacedEntry) (p : ℕ) → EntryCovers e.entry p → IsPaintedAt e p
-painted_covered e p covers =
-    (covers.0, omega (arith, covers.1, no_less (e.entry.start.display == e.entry.end.display && (takes_space e || has_stem e)) e.entry.end.display))
-  where
-    no_less : (b : Bool) (n : ℕ) → n ≤ cond b (n + 1) n
-    no_less true n = omega arith
-    no_less false n = omega arith
+painted_covered e p covers = search rules
 
 -- a column that is painted for a plain entry is covered by it
 pub covered_painted : (e : PlacedEntry) (p : ℕ) → IsPlainEntry e.entry → IsPaintedAt e p → EntryCovers e.entry p
@@ -132,12 +100,7 @@ same_after xs ys at long same =
 
 -- a cell of a row that is free, and the space after it
 pub free_cell : (row : List Cell) → IsFree row → (c : ℕ) → IsFreeCell (slice_index_or row c SPACE)
-free_cell row free c =
-    let P : Cell → Type 0 = IsFreeCell in
-    elim (cases_lt c (length row)) [
-      | inl within ↦ All-get_or P row c SPACE within free
-      | inr past ↦ subst P (sym (get_or_past row c SPACE past)) (refl, refl)
-    ]
+free_cell row free c = grind (arith, cases_lt, All-get_or, get_or_past)
 
 -- the sole element of a list
 pub sole : {X : Type 0} (xs : List X) → length xs ≡ 1 → (x : X) × (xs ≡ x ∷ [])
@@ -155,25 +118,11 @@ sole_same x y same = in_one (Contains-permutation (x ∷ []) (y ∷ []) x same (
 
 -- a plain line: each entry stands for a whole span and covers a column, and none is wide
 pub plain_entries : (room : ℕ) (decor : DecorStyle) (es : List LineAnnotation) → are_plain room decor es ≡ true → All IsPlainEntry es
-plain_entries room decor es plain =
-    let single = and_parts (list_all is_single es) (list_all has_column es && wide_entries room decor es == 0) plain in
-    let column = and_parts (list_all has_column es) (wide_entries room decor es == 0) single.1 in
-    λ k d within. (AllPass-from_list_all is_single es single.0 k d within, below (get_or es k d) (AllPass-from_list_all has_column es column.0 k d within))
-  where
-    less : (m n : ℕ) → nat_lt m n ≡ true → m < n
-    less m n is = grind (arith, nat_tests)
-
-    below : (e : LineAnnotation) → has_column e ≡ true → e.start.display < e.end.display
-    below e is = less e.start.display e.end.display is
+plain_entries room decor es plain = grind (arith, and_parts, AllPass-from_list_all)
 
 -- plain entries have no wide one among them
 pub plain_narrow : (room : ℕ) (decor : DecorStyle) (es : List LineAnnotation) → are_plain room decor es ≡ true → wide_entries room decor es ≡ 0
-plain_narrow room decor es plain =
-    let single = and_parts (list_all is_single es) (list_all has_column es && wide_entries room decor es == 0) plain in
-    none (wide_entries room decor es) (and_parts (list_all has_column es) (wide_entries room decor es == 0) single.1).1
-  where
-    none : (n : ℕ) → (n == 0) ≡ true → n ≡ 0
-    none n is = grind (arith, nat_tests)
+plain_narrow room decor es plain = search rules
 
 -- as many entries are wide in any order
 pub wide_entries-permutation : (room : ℕ) (decor : DecorStyle) (es fs : List LineAnnotation) → IsPermutation es fs
@@ -184,11 +133,7 @@ wide_entries-permutation room decor es fs same =
 -- and in the order of painting
 pub wide_entries-order : (room : ℕ) (decor : DecorStyle) (es : List LineAnnotation) (placed : List PlacedEntry) → ArePlaced es placed
     → wide_entries room decor (map (λ (e : PlacedEntry). e.entry) (painting_order placed)) ≡ wide_entries room decor es
-wide_entries-order room decor es placed are =
-    let f : PlacedEntry → LineAnnotation = λ e. e.entry in
-    wide_entries-permutation room decor es (map f (painting_order placed))
-    (IsPermutation-trans es (map f placed) (map f (painting_order placed)) are.same
-    (IsPermutation-map f placed (painting_order placed) (IsPermutation-painting_order placed)))
+wide_entries-order room decor es placed are = search (rules, wide_entries-permutation, IsPermutation-trans, IsPermutation-map, IsPermutation-painting_order)
 
 -- a row of which stretches gave their place to the placeholder: left of the code it stays
 pub cut_left : (layout : Layout) (wide : ℕ) (whole row : List Cell) → IsCut layout wide whole row → (c : ℕ) → c < layout.code
@@ -223,9 +168,7 @@ same_front xs ys n long long_too same =
 -- the rows are begun
 pub rows_begun : (old begun : List (List Cell)) (sep end : List Cell) (count : ℕ) → 0 < count → begun ≡ old ++ replicate (count - 1) sep ++ end ∷ []
     → length begun ≡ length old + count
-rows_begun old begun sep end count some begins =
-    let all : List (List Cell) = old ++ replicate (count - 1) sep in
-    omega (arith, some, ap length begins, length_push all end, length-append old (replicate (count - 1) sep), length-replicate (count - 1) sep)
+rows_begun old begun sep end count some begins = grind (arith, length_push, length-append, length-replicate)
 
 -- and each entry has the rows that it needs, as long as no row is added or taken
 pub rows_ready : (placed : List PlacedEntry) (old begun : List (List Cell)) (sep end : List Cell) (count row long : ℕ) → count ≡ row_count placed
@@ -234,12 +177,6 @@ rows_ready placed old begun sep end count row long is last begins same =
     HasRows-row_count row long placed (omega (arith, same, rows_begun old begun sep end count (omega (arith, is, row_count_some placed)) begins, last, is))
 
 -- What entries that were painted in order show below each column.
--- a kind that is drawn as primary is Primary
-primary_only : (kind : AnnotationKind) → is_primary kind ≡ true → kind ≡ Primary
-primary_only Primary is = refl
-primary_only Context is = cc
-primary_only Visible is = cc
-
 -- two kinds that are drawn alike have the same mark cells
 same_mark : (decor : DecorStyle) (kind other : AnnotationKind) (cell : Cell) → is_primary other ≡ is_primary kind → IsMarkCell decor other cell
     → IsMarkCell decor kind cell
@@ -249,20 +186,7 @@ same_mark decor kind other cell alike is =
 -- an entry that stands in front of the mark's entry, and covers the column too, is drawn as the mark is
 drawn_alike : (es : List LineAnnotation) (p : ℕ) (kind : AnnotationKind) (mark : IsEntryMark es p kind) (top : LineAnnotation) → Contains es top
     → EntryCovers top p → CoversOver mark.entry top → is_primary top.kind ≡ is_primary kind
-drawn_alike es p kind mark top among covers over =
-    let least = mark.least top among covers in
-    let same : entry_width top ≡ entry_width mark.entry = omega (arith, over.narrower, least) in
-    let own : is_primary mark.entry.kind ≡ is_primary kind = ap is_primary mark.is in
-    elim (cases_Bool (is_primary kind)) [
-      | inl primary ↦ over.primary same (own ∙ primary) ∙ sym primary
-      | inr context ↦
-          elim (cases_Bool (is_primary top.kind)) [
-            | inl top_primary ↦
-                let wider = mark.primary_wins context top among covers (primary_only top.kind top_primary) in
-                absurd (omega (arith, wider, over.narrower))
-            | inr top_context ↦ top_context ∙ sym context
-          ]
-    ]
+drawn_alike es p kind mark top among covers over = search rules
 
 -- what a mapped list contains comes from an element
 pub from_map : {X Y : Type 0} (f : X → Y) (xs : List X) (y : Y) → Contains (map f xs) y → (x : X) × Contains xs x × (f x ≡ y)
@@ -317,14 +241,4 @@ module _ (es : List LineAnnotation) (placed : List PlacedEntry) (is : ArePlaced 
 
   -- the one entry of a line, as it is placed
   pub lone_placed : (e : LineAnnotation) → es ≡ e ∷ [] → (q : PlacedEntry) × (placed ≡ q ∷ []) × (q.entry ≡ e) × (q.position ≡ 0)
-  lone_placed e one =
-      let long : length placed ≡ 1 = sym (length-map placed f) ∙ length_permutation es (map f placed) is.same ∙ ap length one in
-      let found = sole placed long in
-      let q : PlacedEntry = found.0 in
-      let entry : q.entry ≡ e = sole_same e q.entry (subst (λ xs. IsPermutation xs (q.entry ∷ [])) one
-      (subst (λ ps. IsPermutation es (map f ps)) found.1 is.same)) in
-      let at : All (λ (x : PlacedEntry). x.position ≤ 0) placed = highest
-      (subst (λ ps. All (λ q. q ≤ 0) (positions 0 ps)) (sym found.1)
-      (subst (All (λ q. q ≤ 0)) (sym (positions_sole q)) (All-cons (λ q. q ≤ 0) 0 [] (omega arith) (All-nil (λ q. q ≤ 0))))) in
-      let first : q.position ≤ 0 = subst (All (λ (x : PlacedEntry). x.position ≤ 0)) found.1 at 0 q (omega arith) in
-      (q, found.1, entry, omega (arith, first))
+  lone_placed e one = grind (arith, length-map, length_permutation, sole, sole_same, highest, positions_sole, All-cons, All-nil)

@@ -1,7 +1,7 @@
 -- Bars that are drawn into a source row before its code.
-use Rattle.snippet_strokes.proofs.Common.{◌≡◌, ◌≢◌, ℕ, ◌+◌, ◌-◌, ◌<◌, ◌≤◌, ◌==◌, true, false, List, [], ◌∷◌, ◌++◌}
+use Rattle.snippet_strokes.proofs.Common.{◌≡◌, ◌≢◌, ℕ, ◌+◌, ◌-◌, ◌<◌, ◌≤◌, false, List, [], ◌∷◌, ◌++◌}
 use Rattle.snippet_strokes.proofs.Common.{length, get_or, refl, sym, ap, ◌∙◌, arith, inl, inr, All, not, cases_eq, cases_lt, false≢true, not-true}
-use Rattle.snippet_strokes.proofs.Common.{nat_tests, list_any_at, ext_get_or, All-head, All-tail, filter_passes, LineAnnotation, LineNumber, Cell, SPACE}
+use Rattle.snippet_strokes.proofs.Common.{list_any_at, ext_get_or, All-head, All-tail, filter_passes, LineAnnotation, LineNumber, Cell, SPACE}
 use Rattle.snippet_strokes.proofs.Common.{text_cells, separator_of, length-text_cells, length-written, slice_index_or-written_after}
 use Rattle.snippet_strokes.proofs.Common.{slice_index_or-written_before, slice_index_or-written_inside, cells_written, Layout, bar_cell, separator_row-begun}
 use Rattle.snippet_strokes.proofs.Common.{BarStroke, Top, Solid, OpenBar, bars_apart, HasBarRoom, bar_cell_part, barred, has_depth, with_cells, highlighted_row}
@@ -81,25 +81,15 @@ code_bar : (layout : Layout) (stroke : BarStroke) (bar : OpenBar) (cells : List 
     → with_cells layout.code cells (with_bar layout stroke row bar) ≡ with_bar layout stroke (with_cells layout.code cells row) bar
 code_bar layout stroke bar [] room row = refl
 code_bar layout stroke bar (x ∷ cells) room row =
-    written-swap row (bar_cell_part layout stroke bar ∷ []) (x ∷ cells) (bar_cell layout bar.depth) layout.code (omega (arith, room.1))
+    written-swap SPACE row (bar_cell_part layout stroke bar ∷ []) (x ∷ cells) (bar_cell layout bar.depth) layout.code (omega (arith, room.1))
 
 -- and bars of other depths
 bar_bar : (layout : Layout) (top bar : OpenBar) → bar.depth ≢ top.depth → (row : List Cell)
     → with_bar layout Solid (with_bar layout Top row top) bar ≡ with_bar layout Top (with_bar layout Solid row bar) top
-bar_bar layout top bar other row =
-    let one : List Cell = bar_cell_part layout Top top ∷ [] in
-    let two : List Cell = bar_cell_part layout Solid bar ∷ [] in
-    elim (cases_lt top.depth bar.depth) [
-      | inl left ↦ written-swap row one two (bar_cell layout top.depth) (bar_cell layout bar.depth) (omega (arith, left))
-      | inr right ↦ sym (written-swap row two one (bar_cell layout bar.depth) (bar_cell layout top.depth) (omega (arith, right, other)))
-    ]
+bar_bar layout top bar other row = grind (arith, cases_lt, written-swap)
 
 other_depths : (tops : List OpenBar) (depth : ℕ) → has_depth tops depth ≡ false → All (λ top. depth ≢ top.depth) tops
-other_depths tops depth none k d within same =
-    false≢true (sym none ∙ list_any_at (λ (bar : OpenBar). bar.depth == depth) tops k d within (told (get_or tops k d).depth depth (sym same)))
-  where
-    told : (m n : ℕ) → m ≡ n → (m == n) ≡ true
-    told m n is = grind (arith, nat_tests)
+other_depths tops depth none k d within same = grind (arith, false≢true, list_any_at)
 
 -- tops and bars of other depths
 tops_pass : (layout : Layout) (tops past : List OpenBar) (row : List Cell) → All (λ bar. has_depth tops bar.depth ≡ false) past

@@ -1,8 +1,8 @@
 -- The whitespace that a line begins with as it is shown, and the entries that it leaves beside the line.
-use Rattle.snippet_strokes.proofs.Common.{◌≡◌, ℕ, ◌+◌, ◌-◌, ◌<◌, ◌≤◌, ◌&&◌, ◌||◌, Bool, true, false, zero, suc, List, []}
-use Rattle.snippet_strokes.proofs.Common.{◌∷◌, ◌++◌, drop, get_or, length, max, take, refl, sym, ap, ◌∙◌, arith, is_whitespace, list_all}
-use Rattle.snippet_strokes.proofs.Common.{ord_max, nat_tests, false≢true, at_drop_all, at_drop_more, LineAnnotation, LineAnnotationType, MultilineStart}
-use Rattle.snippet_strokes.proofs.Common.{MultilineLine, is_bar, norm, shown, is_beside, is_start_part}
+use Rattle.snippet_strokes.proofs.Common.{◌≡◌, ℕ, ◌+◌, ◌-◌, ◌<◌, ◌≤◌, ◌&&◌, Bool, true, false, zero, suc, List, [], ◌∷◌}
+use Rattle.snippet_strokes.proofs.Common.{◌++◌, drop, get_or, length, max, take, refl, sym, ap, ◌∙◌, arith, is_whitespace, list_all, ord_max}
+use Rattle.snippet_strokes.proofs.Common.{nat_tests, false≢true, at_drop_all, at_drop_more, LineAnnotation, MultilineStart, MultilineLine, norm, shown}
+use Rattle.snippet_strokes.proofs.Common.{is_beside, common_steps, rules}
 use Rattle.std.specs.Ordering.{nat_cmp}
 
 -- whether a text begins with so much whitespace
@@ -18,12 +18,8 @@ false_after true b c none rest = rest none
 false_after false b c none rest = refl
 
 past_blank : (n : ℕ) (xs ys : List ℕ) → list_all is_whitespace xs ≡ true → begins_blank (xs ++ ys) n ≡ begins_blank ys (n - length xs)
-past_blank n [] ys blank =
-    let none : n ≡ n - 0 = omega arith in
-    ap (begins_blank ys) none
-past_blank zero (x ∷ xs) ys blank =
-    let none : zero ≡ zero - length (x ∷ xs) = omega arith in
-    ap (begins_blank ys) none
+past_blank n [] ys blank = search rules
+past_blank zero (x ∷ xs) ys blank = search rules
 past_blank (suc n) (x ∷ xs) ys blank =
     let less : n - length xs ≡ suc n - length (x ∷ xs) = omega arith in
     after_true (is_whitespace x) (list_all is_whitespace xs) _ _ blank (λ more. past_blank n xs ys more ∙ ap (begins_blank ys) less)
@@ -83,12 +79,8 @@ both_later false b c = refl
 
 -- a text begins with two amounts of whitespace where it begins with the greater
 blank_both : (text : List ℕ) (a b : ℕ) → begins_blank text (max a b) ≡ (begins_blank text a && begins_blank text b)
-blank_both text zero b =
-    let greater : max zero b ≡ b = omega arith in
-    ap (begins_blank text) greater
-blank_both text (suc a) zero =
-    let greater : max (suc a) zero ≡ suc a = omega arith in
-    ap (begins_blank text) greater ∙ true_last (begins_blank text (suc a))
+blank_both text zero b = search rules
+blank_both text (suc a) zero = search rules
 blank_both [] (suc a) (suc b) = nothing_blank (max (suc a) (suc b))
 blank_both (x ∷ xs) (suc a) (suc b) =
     let greater : max (suc a) (suc b) ≡ suc (max a b) = omega arith in
@@ -102,19 +94,12 @@ PassedTo text es i last =
 
 passed_more : (text : List ℕ) (es : List LineAnnotation) (i last next : ℕ) (d : LineAnnotation) → i < length es
     → begins_blank text next ≡ (begins_blank text last && is_beside text (get_or es i d)) → PassedTo text es i last → PassedTo text es (i + 1) next
-passed_more text es i last next d within asks before =
-    let rest : Bool = list_all (is_beside text) (drop (i + 1) es) in
-    before ∙ ap (λ b. begins_blank text last && b) (at_drop_more (list_all (is_beside text)) es i d within)
-    ∙ both_later (begins_blank text last) (is_beside text (get_or es i d)) rest ∙ ap (λ b. b && rest) (sym asks)
+passed_more text es i last next d within asks before = grind (arith, common_steps, nat_tests, at_drop_more, both_later)
 
 -- a bar more
 pub bar_passed : (text : List ℕ) (es : List LineAnnotation) (i last next depth : ℕ) (d : LineAnnotation) → i < length es
     → (get_or es i d).annotation_type ≡ MultilineLine depth → next ≡ last → PassedTo text es i last → PassedTo text es (i + 1) next
-bar_passed text es i last next depth d within bar is =
-    let e : LineAnnotation = get_or es i d in
-    let beside : is_beside text e ≡ true = ap (λ (t : LineAnnotationType). is_bar t || is_start_part t && begins_blank text e.start.display) bar in
-    passed_more text es i last next d within (ap (begins_blank text) is ∙ true_last (begins_blank text last)
-    ∙ ap (λ b. begins_blank text last && b) (sym beside))
+bar_passed text es i last next depth d within bar is = grind (arith, common_steps, nat_tests, passed_more, true_last)
 
 -- the greater of two numbers, as it is computed
 greater_is : (a b : ℕ) → ord_max nat_cmp a b ≡ max a b
@@ -124,9 +109,4 @@ greater_is a b = grind (arith, nat_tests)
 pub start_passed : (text : List ℕ) (es : List LineAnnotation) (i last next depth : ℕ) (d : LineAnnotation) → i < length es
     → (get_or es i d).annotation_type ≡ MultilineStart depth → next ≡ ord_max nat_cmp last (get_or es i d).start.display
     → PassedTo text es i last → PassedTo text es (i + 1) next
-start_passed text es i last next depth d within starts is =
-    let e : LineAnnotation = get_or es i d in
-    let beside : is_beside text e ≡ begins_blank text e.start.display = ap
-    (λ (t : LineAnnotationType). is_bar t || is_start_part t && begins_blank text e.start.display) starts in
-    passed_more text es i last next d within (ap (begins_blank text) (is ∙ greater_is last e.start.display) ∙ blank_both text last e.start.display
-    ∙ ap (λ b. begins_blank text last && b) (sym beside))
+start_passed text es i last next depth d within starts is = grind (arith, common_steps, nat_tests, passed_more, greater_is, blank_both)

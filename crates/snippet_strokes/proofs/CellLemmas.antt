@@ -1,16 +1,16 @@
 -- The cells of a window, and how they are written.
 use Rattle.snippet_strokes.proofs.Common.{◌≡◌, ℕ, ◌+◌, ◌-◌, ◌<◌, ◌≤◌, ◌^◌, ◌==◌, cond, true, false, Option, None, Some}
 use Rattle.snippet_strokes.proofs.Common.{IfSome, List, [], ◌∷◌, ◌++◌, length, drop, refl, sym, ap, ◌∙◌, arith, add-zero, All, IsUtf8, nat_lt}
-use Rattle.snippet_strokes.proofs.Common.{cond-false, cond-true, places, same_lists, All-take, All-drop, chars-nil, each_fails, uncovered_short, part_short}
-use Rattle.snippet_strokes.proofs.Common.{Margin, nat_tests, width_of, reaching, fitting, window_left, window_right, inner_part, covered_columns}
-use Rattle.snippet_strokes.proofs.Common.{uncovered_part, covered_end, DecorStyle, Ascii, Unicode, ElementStyle, LineNumber, Quotation, placeholder_of}
-use Rattle.snippet_strokes.proofs.Common.{cells_written, Cell, SPACE, text_cells, written, cells_written_last, length-text_cells, length-written, is_listed}
-use Rattle.snippet_strokes.proofs.Common.{norm, IsFree, window_cells, with_cells, begun_cells, ended_cells, free_drawn, free_written, chars_some, Layout}
-use Rattle.snippet_strokes.proofs.Common.{with_bars, part_glyph, BarStroke, OpenBar, bar_cell, bar_cell_part, Write, if◌then◌else◌, flat_map, code_cell}
-use Rattle.snippet_strokes.proofs.Common.{PlacedEntry, is_primary, strokes_of, stroke_role, stems_of, connector_of, corner_of, label_of, first_glyph, mark_end}
-use Rattle.snippet_strokes.proofs.Common.{connectors_of, corners_of, labels_of, glyph_at, stretch_of, Bool, ◌&&◌, option_map_or, inner_cell, label_role}
-use Rattle.snippet_strokes.proofs.Common.{label_text, is_start_part, label_place, LineAnnotationType, gives_way, separator_row, bar_at, foot_glyph, bare_row}
-use Rattle.snippet_strokes.proofs.Common.{column_of, list_any, LineAnnotation, UnderlinePrimary, UnderlineSecondary, highlights, replaced_within}
+use Rattle.snippet_strokes.proofs.Common.{places, same_lists, All-take, All-drop, chars-nil, each_fails, uncovered_short, part_short, Margin, nat_tests}
+use Rattle.snippet_strokes.proofs.Common.{width_of, reaching, fitting, window_left, window_right, inner_part, covered_columns, uncovered_part, covered_end}
+use Rattle.snippet_strokes.proofs.Common.{DecorStyle, Ascii, Unicode, ElementStyle, LineNumber, Quotation, placeholder_of, cells_written, Cell, SPACE}
+use Rattle.snippet_strokes.proofs.Common.{text_cells, written, cells_written_last, length-text_cells, length-written, is_listed, norm, IsFree, window_cells}
+use Rattle.snippet_strokes.proofs.Common.{with_cells, begun_cells, ended_cells, free_drawn, free_written, chars_some, Layout, with_bars, part_glyph, BarStroke}
+use Rattle.snippet_strokes.proofs.Common.{OpenBar, bar_cell, bar_cell_part, Write, if◌then◌else◌, flat_map, code_cell, PlacedEntry, is_primary}
+use Rattle.snippet_strokes.proofs.Common.{strokes_of, stroke_role, stems_of, connector_of, corner_of, label_of, first_glyph, mark_end, connectors_of}
+use Rattle.snippet_strokes.proofs.Common.{corners_of, labels_of, glyph_at, stretch_of, Bool, ◌&&◌, option_map_or, inner_cell, label_role, label_text}
+use Rattle.snippet_strokes.proofs.Common.{is_start_part, label_place, LineAnnotationType, gives_way, separator_row, bar_at, foot_glyph, bare_row, column_of}
+use Rattle.snippet_strokes.proofs.Common.{list_any, LineAnnotation, UnderlinePrimary, UnderlineSecondary, highlights, replaced_within, rules}
 use Rattle.std.proofs.Common.{chars}
 use Rattle.std.specs.Prelude.{replicate, fold}
 use Rattle.snippet_strokes.proofs.CutWords.{Stretch}
@@ -39,9 +39,7 @@ put_more : (code k : ℕ) (cells row : List Cell) (y : Cell) (ys : List Cell) �
     → written SPACE (with_cells code cells row) (code + k) (y ∷ ys) ≡ with_cells code (written SPACE cells k (y ∷ ys)) row
 put_more code k [] row y ys ends =
     written_first code k row (y ∷ ys) ends ∙ sym (with_cells-some code (written SPACE [] k (y ∷ ys)) row (omega (arith, length-written SPACE [] k (y ∷ ys))))
-put_more code k (c ∷ cells) row y ys ends =
-    written_after code k (c ∷ cells) row (y ∷ ys) ends (omega arith)
-    ∙ sym (with_cells-some code (written SPACE (c ∷ cells) k (y ∷ ys)) row (omega (arith, length-written SPACE (c ∷ cells) k (y ∷ ys))))
+put_more code k (c ∷ cells) row y ys ends = grind (arith, written_after, with_cells-some, length-written)
 
 -- a text that is put after the cells of the last row
 pub put_text : (above mid new : List (List Cell)) (cells row : List Cell) (r code k : ℕ) (bytes : List ℕ) (role : ElementStyle) → IsUtf8 bytes
@@ -115,30 +113,13 @@ begun_short : (decor : DecorStyle) (start : Option ℕ) (text : List ℕ) → If
     → length (begun_cells decor start text) < 2 ^ 61
 begun_short decor None text few short = omega (arith, length-text_cells Quotation text)
 begun_short decor (Some columns) [] few short = omega (arith, placeholder_short decor)
-begun_short decor (Some columns) (c ∷ cs) few short =
-    omega (
-      arith,
-      placeholder_short decor,
-      length-written SPACE (text_cells LineNumber (placeholder_of decor)) columns
-          (text_cells Quotation (c ∷ cs)),
-      length-text_cells Quotation (c ∷ cs),
-      few,
-      short,
-    )
+begun_short decor (Some columns) (c ∷ cs) few short = grind (arith, placeholder_short, length-written, length-text_cells)
 
 -- the cells that show a short text are few
 pub shown_short : (decor : DecorStyle) (start : Option ℕ) (text : List ℕ) (end : Option ℕ) → IfSome start (λ s. s < 2 ^ 59) → length text < 2 ^ 60
     → IfSome end (λ at. at < 2 ^ 61) → length (ended_cells decor end (begun_cells decor start text)) < 2 ^ 61 + 4
 shown_short decor start text None few short ends = omega (arith, begun_short decor start text few short)
-shown_short decor start text (Some at) few short ends =
-    omega (
-      arith,
-      begun_short decor start text few short,
-      length-written SPACE (begun_cells decor start text) at
-          (text_cells LineNumber (placeholder_of decor)),
-      placeholder_short decor,
-      ends,
-    )
+shown_short decor start text (Some at) few short ends = grind (arith, begun_short, length-written, placeholder_short)
 
 -- the text of a window holds no listed character
 pub unlisted_part : (left room from right : ℕ) (placeholder text : List ℕ) → All (λ c. is_listed c ≡ false) text
@@ -192,15 +173,7 @@ ended_cut decor end at above old new row cells r code placeholder some utf8 is w
 
 -- the text of a window is no longer than its line
 pub part_few : (left room from right : ℕ) (placeholder text : List ℕ) → length (uncovered_part left placeholder (inner_part room from right text)) ≤ length text
-part_few left room from right placeholder text =
-    let inner = inner_part room from right text in
-    omega (
-      arith,
-      uncovered_short left placeholder inner,
-      part_short (reaching (window_left from text) text)
-          (fitting (window_right room from right text - window_left from text) (drop (reaching (window_left from text) text) text))
-          text (drop (reaching (window_left from text) text) text) inner refl refl,
-    )
+part_few left room from right placeholder text = grind (arith, uncovered_short, part_short)
 
 -- the cells of a window that was found
 pub cells_are : (decor : DecorStyle) (margin : Margin) (start end : Option ℕ) (shown placeholder cs text : List ℕ)
@@ -209,24 +182,11 @@ pub cells_are : (decor : DecorStyle) (margin : Margin) (start end : Option ℕ) 
     → shown ≡ uncovered_part margin.computed_left placeholder (inner_part margin.term_width margin.computed_left margin.computed_right cs)
     → end ≡ covered_end margin.term_width margin.computed_left margin.computed_right placeholder cs
     → ended_cells decor end (begun_cells decor start shown) ≡ window_cells decor margin text
-cells_are decor margin start end shown placeholder cs text is_placeholder is_text is_start is_shown is_end =
-    let left = margin.computed_left in
-    let right = margin.computed_right in
-    let room = margin.term_width in
-    let inner : List ℕ = inner_part room left right cs in
-    ap (λ s. ended_cells decor end (begun_cells decor s shown)) is_start
-    ∙ ap (λ t. ended_cells decor end (begun_cells decor (covered_columns left placeholder inner) t)) is_shown
-    ∙ ap (λ e. ended_cells decor e (begun_cells decor (covered_columns left placeholder inner) (uncovered_part left placeholder inner))) is_end
-    ∙ ap (λ p. ended_cells decor (covered_end room left right p cs) (begun_cells decor (covered_columns left p inner) (uncovered_part left p inner)))
-    is_placeholder ∙ ap (λ t. window_cells decor margin t) is_text
+cells_are decor margin start end shown placeholder cs text is_placeholder is_text is_start is_shown is_end = search rules
 
 -- nothing stands in the window of a line with no text, where lines aren't cut on the left
 pub no_window : (decor : DecorStyle) (margin : Margin) → margin.computed_left ≡ 0 → window_cells decor margin [] ≡ []
-no_window decor margin uncut =
-    let zero : (margin.computed_left == 0) ≡ true = grind (arith, nat_tests, uncut) in
-    let never : nat_lt (window_right margin.term_width margin.computed_left margin.computed_right []) 0 ≡ false = grind (arith, nat_tests) in
-    sym (cells_are decor margin None None [] (placeholder_of decor) [] [] refl refl (sym (cond-true (margin.computed_left == 0) None _ zero))
-    (sym (cond-true (margin.computed_left == 0) [] _ zero)) (sym (cond-false (nat_lt _ 0) _ None never)))
+no_window decor margin uncut = search rules
 
 -- and nothing is shown of such a line
 pub nothing_shown : (line : List ℕ) → length line ≡ 0 → norm (chars line) ≡ []
@@ -251,10 +211,6 @@ abbrev pub line_to : Layout → ℕ → PlacedEntry → ℕ → List Write
 line_to layout row e depth =
     stretch_of (row + e.position) (inner_cell layout + depth) (code_cell layout e.entry.start.display)
     (strokes_of layout.decor (is_primary e.entry.kind)).connector (stroke_role e)
-
--- the line to the bar of an entry that stands for this part of a span
-abbrev pub connector_by : Layout → ℕ → PlacedEntry → LineAnnotationType → List Write
-connector_by layout row e part = option_map_or (λ bar. line_to layout row e bar.depth) (bar_at part (is_primary e.entry.kind)) []
 
 -- a bar in the rows from one to before another
 abbrev pub bar_writes : Layout → PlacedEntry → ℕ → ℕ → ℕ → List Write

@@ -22,11 +22,7 @@ written_none blank xs at =
 -- a write of one into a list that reaches as far replaces what stands there
 pub written_set : {X : Type 0} (blank : X) (xs : List X) (at : ℕ) (y : X) → at < length xs → written blank xs at (y ∷ []) ≡ set xs at y
 unfolding written
-written_set blank xs at y within =
-    let none : at - length xs ≡ 0 = omega (arith, within) in
-    ap (λ n. take at (xs ++ replicate n blank) ++ y ∷ [] ++ drop (at + 1) xs) none ∙ ap (λ ys. take at ys ++ y ∷ [] ++ drop (at + 1) xs) (append-nil xs)
-    ∙ append_assoc (take at xs) (y ∷ []) (drop (at + 1) xs)
-    ∙ ap (λ n. take at xs ++ y ∷ drop n xs) (let next : at + 1 ≡ suc at = omega arith in next) ∙ sym (set_split xs at y within)
+written_set blank xs at y within = grind (arith, append-nil, append_assoc, set_split)
 
 -- a write past all that is there
 pub written_past : {X : Type 0} (blank : X) (xs : List X) (at : ℕ) (ys : List X) → length xs ≤ at
@@ -43,10 +39,7 @@ set_cell xs at new within =
 -- and after one is added
 pub add_cell : (xs mid : List StyledChar) (at : ℕ) (new : StyledChar) → length xs ≤ at → map cell_of mid ≡ written SPACE (map cell_of xs) at []
     → map cell_of (mid ++ new ∷ []) ≡ written SPACE (map cell_of xs) at (cell_of new ∷ [])
-add_cell xs mid at new past filled =
-    let cells : List Cell = map cell_of xs in
-    map-append cell_of mid (new ∷ []) ∙ ap (λ ys. ys ++ cell_of new ∷ []) (filled ∙ written_none SPACE cells at)
-    ∙ sym (written_past SPACE cells at (cell_of new ∷ []) (omega (arith, past, length-map xs cell_of)))
+add_cell xs mid at new past filled = grind (arith, map-append, written_none, written_past, length-map)
 
 -- one character more of a write
 pub more_cells : (xs mid new : List Cell) (at next : ℕ) (ys : List Cell) (y : Cell) → next ≡ at + length ys → mid ≡ written SPACE xs at ys
@@ -71,9 +64,7 @@ blank_part (b ∷ bs) (suc n) within are =
 -- more blanks after some
 pub more_blanks : (xs mid new : List Cell) (a b n : ℕ) → a + b ≡ n → mid ≡ xs ++ replicate a SPACE → new ≡ mid ++ replicate b SPACE
     → new ≡ xs ++ replicate n SPACE
-more_blanks xs mid new a b n sums so_far adds =
-    adds ∙ ap (λ ys. ys ++ replicate b SPACE) so_far ∙ append_assoc xs (replicate a SPACE) (replicate b SPACE)
-    ∙ ap (λ ys. xs ++ ys) (replicate-append-replicate a b SPACE ∙ ap (λ k. replicate k SPACE) sums)
+more_blanks xs mid new a b n sums so_far adds = grind (arith, append_assoc, replicate-append-replicate)
 
 -- characters that are all the same
 cells-replicate : (n : ℕ) (new : StyledChar) → map cell_of (replicate n new) ≡ replicate n (cell_of new)

@@ -114,6 +114,7 @@ pub use Rattle.std.proofs.Math.Utf8.{scalars}
 pub use Rattle.std.proofs.lemmas.Bool.{cases_lt, cases_Bool, cases_eq, false≢true, and_parts, eq-eqb, cond-false, cond-true, or_parts, eqb-true, both_ways}
 pub use Rattle.std.proofs.lemmas.Bool.{and_from, and_left, and_right, le-leb, lt-leb, false_from_ne_true, not-true, leb-true, ltb-true, le-ltb, lt-ltb}
 pub use Rattle.std.proofs.lemmas.Bool.Decides.{nat_tests}
+pub use Rattle.std.proofs.lemmas.Grind.{common_steps}
 pub use Rattle.std.proofs.lemmas.Iterator.{YieldsList-from_chars}
 pub use Rattle.std.proofs.lemmas.Iterator.Consumers.{YieldsList-turn, YieldsList-end}
 pub use Rattle.std.proofs.lemmas.List.{length-map, length-replicate, take_all, get_or-map, length-append, length-drop, length_push, get_or_past, append-nil}

@@ -5,13 +5,11 @@ use Rattle.snippet_strokes.proofs.Common.{cases_lt, get_or-map, get_or_past, len
 use Rattle.snippet_strokes.proofs.Common.{All-replicate, All-weaker, Cell, SPACE, unlinked_cell, strokes_of, closing_row, separator_row, cell_at, row_at}
 use Rattle.snippet_strokes.proofs.Common.{is_primary, LineAnnotation, Layout, PlacedEntry, shifted, painting_order, stroke_role, bare_row, Write, painted}
 use Rattle.snippet_strokes.proofs.Common.{entries_all, Solid, Top, Bar, bars_apart, ends_of_bars, row_count, IsNoBar, connector_of, corner_of, connectors_of}
-use Rattle.snippet_strokes.proofs.Common.{corners_of, labels_of, has_depth, is_whole_line, stems_of, ◌&&◌, max, slice_index_or, list_any, and_left}
-use Rattle.snippet_strokes.proofs.Common.{and_right, lt-leb, ext_get_or, list_any_none, ElementStyle, row_text, highlights, ◌≤◌, cases_eq}
-use Rattle.snippet_strokes.proofs.Common.{row_at-cells_written_same, cells_written, length-written, slice_index_or-written_after, slice_index_or-written_before}
-use Rattle.snippet_strokes.proofs.Common.{slice_index_or-written_inside, text_cells, written, first_glyph, mark_end, glyph_at, stretch_of}
-use Rattle.std.specs.Prelude.{not, nat_le, nat_lt}
-use Rattle.snippet_strokes.proofs.CellLemmas.{with_parts, drawn_strokes, marks_of, begun_rows, role_in_source, drawn_mark}
-use Rattle.snippet_strokes.proofs.WriteLaws.{AreLineRows, AreOwnRows, StrokesPainted, All-flat_map, painted-cell, IsHighlighted, less, stretch_of-none}
+use Rattle.snippet_strokes.proofs.Common.{corners_of, labels_of, has_depth, is_whole_line, stems_of, slice_index_or, and_right, ext_get_or, list_any_none}
+use Rattle.snippet_strokes.proofs.Common.{ElementStyle, row_text, highlights, rules}
+use Rattle.std.specs.Prelude.{not}
+use Rattle.snippet_strokes.proofs.CellLemmas.{with_parts, drawn_strokes, marks_of, begun_rows, role_in_source}
+use Rattle.snippet_strokes.proofs.WriteLaws.{AreLineRows, AreOwnRows, StrokesPainted, All-flat_map, painted-cell, IsHighlighted}
 use Rattle.snippet_strokes.proofs.LineFromValue.{rows_cut}
 use Rattle.snippet_strokes.proofs.Reach.{Reaches, cell_of_write}
 use Rattle.snippet_strokes.proofs.BarWrites.{All-connector_of, All-stretch_of}
@@ -81,11 +79,7 @@ module _ (layout : Layout) (depth : ℕ) (some : 0 < depth) (room : layout.gutte
   HasSpace row = get_or row cell SPACE ≡ SPACE
 
   spaces_in : (rows : List (List Cell)) → All HasSpace rows → (r : ℕ) → NoBar (cell_at rows r cell)
-  spaces_in rows all r =
-      elim (cases_lt r (length rows)) [
-        | inl within ↦ inl (All-get_or HasSpace rows r [] within all)
-        | inr past ↦ inl (ap (λ (row : List Cell). get_or row cell SPACE) (get_or_past rows r [] past))
-      ]
+  spaces_in rows all r = grind (arith, cases_lt, All-get_or, get_or_past)
 
   bare_space : (closes : Bool) → HasSpace (bare_row layout.decor layout.gutter closes)
   bare_space closes = bare_row_right layout.decor layout.gutter closes cell (omega (arith, some))
@@ -171,140 +165,12 @@ highlighted_text code dropped es plain row is =
 
 -- nothing is highlighted left of the code
 unasked_left : (code dropped c : ℕ) → c < code → (e : LineAnnotation) → highlights code dropped c e ≡ false
-unasked_left code dropped c left e =
-    let first = max code (code + e.start.char - dropped) in
-    let out : nat_le first c ≡ false = lt-leb first c (omega (arith, left)) in
-    and_right e.highlight_source _ (and_left (nat_le first c) (nat_lt c (code + e.end.char - dropped)) out)
+unasked_left code dropped c left e = search rules
 
 role_left : (code dropped c : ℕ) → c < code → (es : List LineAnnotation) (role : ElementStyle) → role_in_source code dropped es c role ≡ role
-role_left code dropped c left es role =
-    let unasked = unasked_left code dropped c left in
-    let primary : list_any (λ e. is_primary e.kind && highlights code dropped c e) es
-    ≡ false = list_any_none _ es (λ k d within. and_right (is_primary (get_or es k d).kind) (highlights code dropped c (get_or es k d))
-    (unasked (get_or es k d))) in
-    let any : list_any (highlights code dropped c) es ≡ false = list_any_none _ es (λ k d within. unasked (get_or es k d)) in
-    rw (primary, any)
+role_left code dropped c left es role = simp (unasked_left, list_any_none, and_right)
 
 -- highlighting changes no cell left of the code
 pub highlighted_left : (code dropped : ℕ) (es : List LineAnnotation) (plain row : List Cell) → IsHighlighted code dropped es plain row → (c : ℕ) → c < code
     → slice_index_or row c SPACE ≡ slice_index_or plain c SPACE
-highlighted_left code dropped es plain row is c left =
-    elim (cases_lt c (length plain)) [
-      | inl inside ↦
-          let cell = slice_index_or plain c SPACE in
-          is.cells c inside ∙ ap (λ (role : ElementStyle). record cell { role = role }) (role_left code dropped c left es cell.role)
-      | inr past ↦ get_or_past row c SPACE (omega (arith, past, is.width)) ∙ sym (get_or_past plain c SPACE past)
-    ]
-
--- A mark whose first glyph is its underline is one text.
--- one thing and then others right of it are all of them
-written-cons : {X : Type 0} (blank : X) (row ys : List X) (at : ℕ) (x : X)
-    → written blank (written blank row at (x ∷ [])) (at + 1) ys ≡ written blank row at (x ∷ ys)
-written-cons blank row ys at x =
-    let low = written blank row at (x ∷ []) in
-    ext_get_or blank (written blank low (at + 1) ys) (written blank row at (x ∷ ys))
-    (omega (arith, length-written blank low (at + 1) ys, length-written blank row at (x ∷ []), length-written blank row at (x ∷ ys)))
-    (λ k within. elim (cases_lt k at) [
-      | inl before ↦
-          slice_index_or-written_before blank low (at + 1) ys k (omega (arith, before)) ∙ slice_index_or-written_before blank row at (x ∷ []) k before
-          ∙ sym (slice_index_or-written_before blank row at (x ∷ ys) k before)
-      | inr from ↦ elim (cases_eq k at) [
-        | inl here ↦
-            let place : at + 0 ≡ k = omega (arith, here) in
-            slice_index_or-written_before blank low (at + 1) ys k (omega (arith, here)) ∙ ap (λ i. get_or low i blank) (sym place)
-            ∙ slice_index_or-written_inside blank row at (x ∷ []) 0 blank (omega arith)
-            ∙ sym (ap (λ i. get_or (written blank row at (x ∷ ys)) i blank) (sym place)
-            ∙ slice_index_or-written_inside blank row at (x ∷ ys) 0 blank (omega arith))
-        | inr after ↦
-            let j : ℕ = k - (at + 1) in
-            let low_place : at + 1 + j ≡ k = omega (arith, from, after) in
-            let high_place : at + suc j ≡ k = omega (arith, from, after) in
-            elim (cases_lt j (length ys)) [
-              | inl inside ↦
-                  ap (λ i. get_or (written blank low (at + 1) ys) i blank) (sym low_place)
-                  ∙ slice_index_or-written_inside blank low (at + 1) ys j blank inside
-                  ∙ sym (ap (λ i. get_or (written blank row at (x ∷ ys)) i blank) (sym high_place)
-                  ∙ slice_index_or-written_inside blank row at (x ∷ ys) (suc j) blank (omega (arith, inside)))
-              | inr beyond ↦
-                  slice_index_or-written_after blank low (at + 1) ys k blank (omega (arith, beyond, low_place))
-                  ∙ slice_index_or-written_after blank row at (x ∷ []) k blank (omega (arith, beyond, low_place))
-                  ∙ sym (slice_index_or-written_after blank row at (x ∷ ys) k blank (omega (arith, beyond, low_place)))
-            ]
-      ]
-    ])
-
--- one thing after another at the same place
-written-again : {X : Type 0} (blank : X) (row : List X) (at : ℕ) (x y : X)
-    → written blank (written blank row at (x ∷ [])) at (y ∷ []) ≡ written blank row at (y ∷ [])
-written-again blank row at x y =
-    let low = written blank row at (x ∷ []) in
-    ext_get_or blank (written blank low at (y ∷ [])) (written blank row at (y ∷ []))
-    (omega (arith, length-written blank low at (y ∷ []), length-written blank row at (x ∷ []), length-written blank row at (y ∷ [])))
-    (λ k within. elim (cases_lt k at) [
-      | inl before ↦
-          slice_index_or-written_before blank low at (y ∷ []) k before ∙ slice_index_or-written_before blank row at (x ∷ []) k before
-          ∙ sym (slice_index_or-written_before blank row at (y ∷ []) k before)
-      | inr from ↦ elim (cases_eq k at) [
-        | inl here ↦
-            let place : at + 0 ≡ k = omega (arith, here) in
-            ap (λ i. get_or (written blank low at (y ∷ [])) i blank) (sym place)
-            ∙ slice_index_or-written_inside blank low at (y ∷ []) 0 blank (omega arith)
-            ∙ sym (ap (λ i. get_or (written blank row at (y ∷ [])) i blank) (sym place)
-            ∙ slice_index_or-written_inside blank row at (y ∷ []) 0 blank (omega arith))
-        | inr after ↦
-            let past : at + 1 ≤ k = omega (arith, from, after) in
-            slice_index_or-written_after blank low at (y ∷ []) k blank past ∙ slice_index_or-written_after blank row at (x ∷ []) k blank past
-            ∙ sym (slice_index_or-written_after blank row at (y ∷ []) k blank past)
-      ]
-    ])
-
-cells-cons : (rows : List (List Cell)) (r at : ℕ) (x : Cell) (ys : List Cell)
-    → cells_written (cells_written rows r at (x ∷ [])) r (at + 1) ys ≡ cells_written rows r at (x ∷ ys)
-cells-cons rows r at x ys =
-    let first : List Cell = written SPACE (row_at rows r) at (x ∷ []) in
-    let low : List (List Cell) = cells_written rows r at (x ∷ []) in
-    ap (λ row. written [] low r (written SPACE row (at + 1) ys ∷ [])) (row_at-cells_written_same rows r at (x ∷ []))
-    ∙ ap (λ row. written [] low r (row ∷ [])) (written-cons SPACE (row_at rows r) ys at x)
-    ∙ written-again [] rows r first (written SPACE (row_at rows r) at (x ∷ ys))
-
--- a glyph and a stretch of it right of it are one stretch
-pub stretch_whole : (row from to glyph : ℕ) (role : ElementStyle) (rows : List (List Cell)) → from < to
-    → painted (glyph_at row from glyph role ∷ stretch_of row (from + 1) to glyph role) rows ≡ painted (stretch_of row from to glyph role) rows
-stretch_whole row from to glyph role rows some =
-    let n : ℕ = to - (from + 1) in
-    let w : Write = record { row = row; cell = from; text = replicate (to - from) glyph; role = role } in
-    let v : Write = record { row = row; cell = from + 1; text = replicate n glyph; role = role } in
-    let one : List (List Cell) = cells_written rows row from (unlinked_cell role glyph ∷ []) in
-    let long : to - from ≡ suc n = omega (arith, some) in
-    let whole : painted (stretch_of row from to glyph role) rows ≡ cells_written rows row from (text_cells role (glyph ∷ replicate n glyph)) =
-    ap (λ b. painted (cond b (w ∷ []) []) rows) (less from to some)
-    ∙ ap (λ m. cells_written rows row from (text_cells role (replicate m glyph))) long in
-    elim (cases_lt (from + 1) to) [
-      | inl more ↦
-          ap (λ b. painted (cond b (v ∷ []) []) one) (less (from + 1) to more)
-          ∙ cells-cons rows row from (unlinked_cell role glyph) (text_cells role (replicate n glyph)) ∙ sym whole
-      | inr last ↦
-          let none : n ≡ 0 = omega (arith, last) in
-          ap (λ ws. painted ws one) (stretch_of-none row (from + 1) to glyph role last)
-          ∙ sym (whole ∙ ap (λ m. cells_written rows row from (text_cells role (glyph ∷ replicate m glyph))) none)
-    ]
-
--- so such a mark is painted by one
-pub mark_whole : (layout : Layout) (row : ℕ) (e : PlacedEntry) (first underline : ℕ) (role : ElementStyle) (end : ℕ) (old new : List (List Cell))
-    → e.entry.start.display < mark_end e → end ≡ mark_end e → first ≡ first_glyph layout.decor e
-    → underline ≡ (strokes_of layout.decor (is_primary e.entry.kind)).underline → role ≡ stroke_role e → first ≡ underline
-    → new ≡ painted (stretch_of row (layout.code + e.entry.start.display) (layout.code + end) first role) old → new ≡ painted (drawn_mark layout row e) old
-mark_whole layout row e first underline role end old new some is_end is_first is_underline is_role same drawn =
-    let from = layout.code + e.entry.start.display in
-    let to = layout.code + mark_end e in
-    let line : ℕ = (strokes_of layout.decor (is_primary e.entry.kind)).underline in
-    let glyph : ℕ = first_glyph layout.decor e in
-    let ws : List Write = glyph_at row from glyph (stroke_role e) ∷ stretch_of row (from + 1) to line (stroke_role e) in
-    let lt : from < to = omega (arith, some) in
-    let alike : line ≡ glyph = sym is_underline ∙ sym same ∙ is_first in
-    drawn ∙ ap (λ n. painted (stretch_of row from (layout.code + n) first role) old) is_end
-    ∙ ap (λ g. painted (stretch_of row from to g role) old) is_first
-    ∙ ap (λ r. painted (stretch_of row from to glyph r) old) is_role
-    ∙ sym (stretch_whole row from to glyph (stroke_role e) old lt)
-    ∙ sym (ap (λ b. painted (cond b ws []) old) (less from to lt)
-    ∙ ap (λ g. painted (glyph_at row from glyph (stroke_role e) ∷ stretch_of row (from + 1) to g (stroke_role e)) old) alike)
+highlighted_left code dropped es plain row is c left = grind (arith, cases_lt, role_left, get_or_past)

@@ -2,11 +2,11 @@
 use Rattle.snippet_strokes.proofs.Common.{◌≡◌, ◌∙◌, true, false, ℕ, zero, suc, ◌+◌, ◌-◌, ◌<◌, ◌≤◌, Bool, List, [], ◌∷◌}
 use Rattle.snippet_strokes.proofs.Common.{◌++◌, length, map, take, drop, set, get_or, cond, refl, sym, ap, subst, arith, inl, inr, fold, and_parts}
 use Rattle.snippet_strokes.proofs.Common.{cases_lt, or_parts, places, same_lists, map-append, append_assoc, length-append, drop_more, drop_all, sum_by-cons}
-use Rattle.snippet_strokes.proofs.Common.{All-append, All-take, All-drop, set-append_seam, ◌/◌, list_all, list_any, slice_index_or, flat_map, zip}
+use Rattle.snippet_strokes.proofs.Common.{All-append, All-take, All-drop, set-append_seam, ◌/◌, list_all, list_any, slice_index_or, flat_map}
 use Rattle.snippet_strokes.proofs.Common.{LineAnnotation, is_wide_entry, AreReplaced, DecorStyle, LineNumber, placeholder_of, replaced_within, cells_replaced}
 use Rattle.snippet_strokes.proofs.Common.{Cell, text_cells, row_text, changed_within_one, replaced_there, replaced_empty, replaced_past, Layout, code_cell}
 use Rattle.snippet_strokes.proofs.Common.{PlacedEntry, IsFreeCell, is_wide_at, row_text-text_cells, cut_middle, is_cut, overlapped, row_count, painting_order}
-use Rattle.snippet_strokes.proofs.Common.{placed_of, stroke_rows, painted}
+use Rattle.snippet_strokes.proofs.Common.{placed_of, stroke_rows, painted, rules}
 use Rattle.std.specs.Prelude.{◌&&◌, max, not}
 use Rattle.snippet_strokes.proofs.CutWords.{Stretch, cut_of, cut_rows, cuts_of}
 use Rattle.snippet_strokes.proofs.CellLemmas.{cut_row, free_placeholder, drawn_strokes, begun_rows}
@@ -47,24 +47,11 @@ AreReplaced-more placeholder (suc m) n before now after (inr first) are =
 
 -- a row that stays is cut nowhere
 IsCut-none : (layout : Layout) (n : ℕ) (row : List Cell) → IsCut layout n row row
-IsCut-none layout n row =
-    record {
-      left = refl;
-      text = AreReplaced-none (placeholder_of layout.decor) n (row_text (drop layout.code row));
-      uncut = λ _. refl;
-      free = λ free. free;
-    }
+IsCut-none layout n row = search rules
 
 -- a row that was cut, and then once more
 IsCut-more : (layout : Layout) (m n : ℕ) (whole now row : List Cell) → IsCut layout m whole now → IsCut layout n now row → IsCut layout (m + n) whole row
-IsCut-more layout m n whole now row first then =
-    record {
-      left = then.left ∙ first.left;
-      text = AreReplaced-more (placeholder_of layout.decor) m n (row_text (drop layout.code whole)) (row_text (drop layout.code now))
-          (row_text (drop layout.code row)) first.text then.text;
-      uncut = λ none. then.uncut (omega arith) ∙ first.uncut (omega arith);
-      free = λ free. then.free (first.free free);
-    }
+IsCut-more layout m n whole now row first then = grind (arith, AreReplaced-more)
 
 -- the parts of a list from an element on
 three_parts : {X : Type 0} (xs : List X) (code start end : ℕ) → code ≤ start → start < end → end ≤ length xs
@@ -83,9 +70,7 @@ front_stays xs new code start end from some within =
     same_lists _ _ (grind (arith, places)) (λ i d h. grind (arith, places))
 
 row_text-parts : (xs ys zs : List Cell) → row_text (xs ++ ys ++ zs) ≡ row_text xs ++ row_text ys ++ row_text zs
-row_text-parts xs ys zs =
-    let f : Cell → ℕ = λ c. c.ch in
-    map-append f (xs ++ ys) zs ∙ ap (λ t. t ++ row_text zs) (map-append f xs ys)
+row_text-parts xs ys zs = simp (map-append)
 
 -- a row of which a stretch gave its place to the placeholder, right of the code's first cell
 IsCut-there : (layout : Layout) (start end : ℕ) (row : List Cell) → layout.code ≤ start → start < end → end ≤ length row
@@ -146,9 +131,7 @@ pub cuts_of-more : (layout : Layout) (room : ℕ) (placed : List PlacedEntry) (f
     → k < length placed → k < length flags
     → cuts_of layout room (drop k placed) (drop k flags) ≡ cut_of layout room (get_or placed k e, get_or flags k flag)
     ++ cuts_of layout room (drop (k + 1) placed) (drop (k + 1) flags)
-cuts_of-more layout room placed flags k e flag within there =
-    ap (λ es. cuts_of layout room es (drop k flags)) (drop_more placed k e within)
-    ∙ ap (cuts_of layout room (get_or placed k e ∷ drop (k + 1) placed)) (drop_more flags k flag there)
+cuts_of-more layout room placed flags k e flag within there = grind (arith, drop_more)
 
 -- no flag is left, so no cut
 cuts_of-nil : (layout : Layout) (room : ℕ) (placed : List PlacedEntry) → cuts_of layout room placed [] ≡ []
@@ -235,23 +218,13 @@ IsCut-cuts layout room (e ∷ es) (flag ∷ flags) row =
 -- what is cut for one entry
 pub cut_one : (layout : Layout) (room : ℕ) (pair : PlacedEntry × Bool) (row : List Cell)
     → cut_row layout.decor (cut_of layout room pair) row ≡ cut_middle layout room row pair
-cut_one layout room pair row =
-    either (is_wide_entry room (length (placeholder_of layout.decor)) pair.0.entry && not pair.1)
-  where
-    either : (b : Bool) → cut_row layout.decor (cond b (middle_of layout room pair.0.entry ∷ []) []) row
-        ≡ cond b (replaced_within (middle_of layout room pair.0.entry).from (middle_of layout room pair.0.entry).to
-        (text_cells LineNumber (placeholder_of layout.decor)) row) row
-    either true = refl
-    either false = refl
+cut_one layout room pair row = search rules
 
 -- a row that is cut for one entry after another is cut at the stretches of all
 pub cut_each : (layout : Layout) (room : ℕ) (pairs : List (PlacedEntry × Bool)) (row : List Cell)
     → fold (cut_middle layout room) row pairs ≡ cut_row layout.decor (flat_map (cut_of layout room) pairs) row
 cut_each layout room [] row = refl
-cut_each layout room (pair ∷ pairs) row =
-    let rest : List Stretch = flat_map (cut_of layout room) pairs in
-    cut_each layout room pairs (cut_middle layout room row pair) ∙ ap (cut_row layout.decor rest) (sym (cut_one layout room pair row))
-    ∙ sym (cut_row-append layout.decor (cut_of layout room pair) rest row)
+cut_each layout room (pair ∷ pairs) row = simp (cut_one, cut_row-append, cut_each layout room pairs (cut_middle layout room row pair))
 
 -- a row stays where no entry is cut
 pub uncut_row : (layout : Layout) (room : ℕ) (pairs : List (PlacedEntry × Bool)) (row : List Cell)
@@ -281,14 +254,4 @@ rows_of_strokes layout room closes es source =
 
 pub stroke_rows-cut : (layout : Layout) (room : ℕ) (closes : Bool) (es : List LineAnnotation) (source : List Cell)
     → stroke_rows layout room closes es source ≡ rows_of_strokes layout room closes es source
-stroke_rows-cut layout room closes es source =
-    let placed = placed_of es in
-    let order = painting_order placed in
-    let count = row_count placed in
-    let bare = begun_rows layout closes count source in
-    let whole = painted (drawn_strokes layout 0 (count + 1) placed order) bare in
-    let pairs = zip order (overlapped placed) in
-    ap (λ rows. map (λ row. fold (cut_middle layout room) row pairs) (take 2 rows) ++ drop 2 rows)
-    (strokes_painted layout 0 (count + 1) placed order bare)
-    ∙ ap (λ rows. rows ++ drop 2 whole) (map_alike (λ row. fold (cut_middle layout room) row pairs)
-    (cut_row layout.decor (flat_map (cut_of layout room) pairs)) (take 2 whole) (cut_each layout room pairs))
+stroke_rows-cut layout room closes es source = simp (strokes_painted, map_alike, cut_each)

@@ -3,20 +3,10 @@ use Rattle.snippet_strokes.proofs.Common.{◌≡◌, ℕ, ◌+◌, ◌-◌, ◌<
 use Rattle.snippet_strokes.proofs.Common.{length, drop, get_or, refl, sym, ap, ◌∙◌, subst, arith, inl, inr, All, cases_lt, cases_eq, cell_at, row_at}
 use Rattle.snippet_strokes.proofs.Common.{WritesCells, Cell, SPACE, unlinked_cell, bars_among, bar_glyphs, strokes_of, DecorStyle, Ascii, Unicode, ElementStyle}
 use Rattle.snippet_strokes.proofs.Common.{list_any, nat_tests, length-drop, get_or-drop, ext_get_or, All-head, All-tail, All-cons, All-nil, is_listed, Layout}
-use Rattle.snippet_strokes.proofs.Common.{IsBarCell, IsFreeCell, each_fails}
+use Rattle.snippet_strokes.proofs.Common.{IsBarCell, IsFreeCell, each_fails, rules}
 use Rattle.snippet_strokes.proofs.DrawnCells.{DrawsFrom, KeepsBarCells, DrawsBarCells}
 
--- nothing is drawn yet
-pub DrawsFrom-none : (row from : ℕ) (rows : List (List Cell)) → DrawsFrom row from rows rows
-DrawsFrom-none row from rows =
-    record {
-      above = λ r _. refl;
-      left = λ r c _. refl;
-      free = λ r free. free;
-      count = refl;
-    }
-
--- and then something more
+-- what is drawn one after another
 pub DrawsFrom-more : (row from : ℕ) (old mid new : List (List Cell)) → DrawsFrom row from old mid → DrawsFrom row from mid new → DrawsFrom row from old new
 DrawsFrom-more row from old mid new done more =
     record {
@@ -63,9 +53,6 @@ DrawsFrom-writes row r from at old new cells writes lower within right all =
     }
 
 -- what is drawn in cells from the code on is no part of a bar
-pub KeepsBarCells-none : (layout : Layout) (rows : List (List Cell)) → KeepsBarCells layout rows rows
-KeepsBarCells-none layout rows = λ r c left is. is
-
 pub KeepsBarCells-more : (layout : Layout) (old mid new : List (List Cell)) → KeepsBarCells layout old mid → KeepsBarCells layout mid new
     → KeepsBarCells layout old new
 KeepsBarCells-more layout old mid new done more = λ r c left is. more r c left (done r c left is)
@@ -134,13 +121,7 @@ bar_bottom decor primary role ch is =
 
 -- bars beside rows: none yet, some more, and one cell
 pub DrawsBarCells-none : (layout : Layout) (row : ℕ) (rows : List (List Cell)) → DrawsBarCells layout row rows rows
-DrawsBarCells-none layout row rows =
-    record {
-      draws = DrawsFrom-none row (layout.gutter + 3) rows;
-      bar_cells = KeepsBarCells-none layout rows;
-      code = λ r. refl;
-      longer = λ r. omega arith;
-    }
+DrawsBarCells-none layout row rows = search rules
 
 -- cells of bars drawn and further ones drawn are cells of bars drawn
 pub DrawsBarCells-more : (layout : Layout) (row : ℕ) (old mid new : List (List Cell)) → DrawsBarCells layout row old mid → DrawsBarCells layout row mid new

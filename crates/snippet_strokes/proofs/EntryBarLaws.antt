@@ -6,9 +6,9 @@ use Rattle.snippet_strokes.proofs.Common.{All-cons, All-nil, All-weaker, Cell, S
 use Rattle.snippet_strokes.proofs.Common.{is_primary, LineAnnotationType, Singleline, MultilineStart, MultilineEnd, MultilineLine, contains-here}
 use Rattle.snippet_strokes.proofs.Common.{contains-there, Layout, PlacedEntry, stroke_role, Write, glyph_at, painted, stretch_of, Solid, Bar, column_of}
 use Rattle.snippet_strokes.proofs.Common.{corner_of, label_of, bar_cell_part, first_glyph, mark_end, connectors_of, corners_of, labels_of, stems_of, sym}
-use Rattle.snippet_strokes.proofs.Common.{map-range_with_len_more, text_cells, cells_written, label_role, label_text, has_label, label_place, foot_glyph}
+use Rattle.snippet_strokes.proofs.Common.{map-range_with_len_more, text_cells, cells_written, label_role, label_text, has_label, label_place, foot_glyph, rules}
 use Rattle.std.specs.Prelude.{nat_lt}
-use Rattle.snippet_strokes.proofs.CellLemmas.{written_by, corner_by, bar_writes, drawn_mark, drawn_strokes, marks_of, label_write, stem_write}
+use Rattle.snippet_strokes.proofs.CellLemmas.{written_by, corner_by, bar_writes, drawn_mark, drawn_strokes, marks_of, stem_write}
 use Rattle.snippet_strokes.proofs.CellLemmas.{drawn_under_marks}
 use Rattle.snippet_strokes.proofs.WriteLaws.{painted-append, All-label_of, All-flat_map, cell-unwritten, cell-written, painted-last, painted-untouched}
 use Rattle.snippet_strokes.proofs.BarFacts.{end_corner, start_corner}
@@ -268,15 +268,7 @@ pub label_painted : (layout : Layout) (row : ℕ) (e : PlacedEntry) (place : ℕ
     → place ≡ label_place e → role ≡ label_role e.entry.kind → text ≡ label_text e.entry
     → (has_label e ≡ true → new ≡ cells_written old (row + place.0) (layout.code + place.1) (text_cells role text))
     → (has_label e ≡ false → new ≡ old) → new ≡ painted (label_of layout row e) old
-label_painted layout row e place role text old new is_place is_role is_text writes stays =
-    elim (cases_Bool (has_label e)) [
-      | inl has ↦
-          writes has ∙ ap (λ (p : ℕ × ℕ). cells_written old (row + p.0) (layout.code + p.1) (text_cells role text)) is_place
-          ∙ ap (λ r. cells_written old (row + (label_place e).0) (layout.code + (label_place e).1) (text_cells r text)) is_role
-          ∙ ap (λ cs. cells_written old (row + (label_place e).0) (layout.code + (label_place e).1) (text_cells (label_role e.entry.kind) cs))
-          is_text ∙ sym (ap (λ b. painted (cond b (label_write layout row e ∷ []) []) old) has)
-      | inr none ↦ stays none ∙ sym (ap (λ b. painted (cond b (label_write layout row e ∷ []) []) old) none)
-    ]
+label_painted layout row e place role text old new is_place is_role is_text writes stays = search rules
 
 -- one cell more of a stem
 pub stem_drawn : (layout : Layout) (row : ℕ) (e : PlacedEntry) (n foot stem glyph : ℕ) (role : ElementStyle) (old mid new : List (List Cell))
@@ -318,21 +310,10 @@ pub under_painted : (layout : Layout) (row count all : ℕ) (placed : List Place
     → count ≡ all → joined ≡ painted (connectors_of layout (row + 1) placed) begun → barred ≡ painted (corners_of layout row count placed) joined
     → stemmed ≡ painted (stems_of layout (row + 1) placed) barred → labelled ≡ painted (labels_of layout (row + 1) placed) stemmed
     → labelled ≡ painted (drawn_under_marks layout row all placed) begun
-under_painted layout row count all placed begun joined barred stemmed labelled is_all lines bars stems labels =
-    let one : List Write = connectors_of layout (row + 1) placed in
-    let two : List Write = corners_of layout row all placed in
-    let three : List Write = stems_of layout (row + 1) placed in
-    let four : List Write = labels_of layout (row + 1) placed in
-    let after_two : barred ≡ painted two (painted one begun) = bars ∙ ap (λ n. painted (corners_of layout row n placed) joined) is_all
-    ∙ ap (painted two) lines in
-    let after_three : stemmed ≡ painted three (painted two (painted one begun)) = stems ∙ ap (painted three) after_two in
-    labels ∙ ap (painted four) after_three ∙ sym (painted-append (one ++ two ++ three) four begun
-    ∙ ap (painted four) (painted-append (one ++ two) three begun ∙ ap (painted three) (painted-append one two begun)))
+under_painted layout row count all placed begun joined barred stemmed labelled is_all lines bars stems labels = grind (arith, painted-append)
 
 -- and the marks over them
 pub marks_painted : (layout : Layout) (row all : ℕ) (placed order : List PlacedEntry) (begun labelled new : List (List Cell))
     → labelled ≡ painted (drawn_under_marks layout row all placed) begun → new ≡ painted (marks_of layout (row + 1) order) labelled
     → new ≡ painted (drawn_strokes layout row all placed order) begun
-marks_painted layout row all placed order begun labelled new under marks =
-    marks ∙ ap (painted (marks_of layout (row + 1) order)) under
-    ∙ sym (painted-append (drawn_under_marks layout row all placed) (marks_of layout (row + 1) order) begun)
+marks_painted layout row all placed order begun labelled new under marks = grind (arith, painted-append)

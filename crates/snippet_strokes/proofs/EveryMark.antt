@@ -1,12 +1,12 @@
 -- A mark that is drawn from its first glyph on is its underline, and over it the glyph of its own.
-use Rattle.snippet_strokes.proofs.Common.{◌≡◌, ℕ, suc, ◌+◌, ◌-◌, ◌<◌, ◌≤◌, ◌==◌, ◌&&◌, ◌||◌, nat_le, cond, Bool, true}
-use Rattle.snippet_strokes.proofs.Common.{false, List, [], ◌∷◌, ◌++◌, replicate, inl, inr, refl, sym, ap, ◌∙◌, arith, flat_map, cases_Bool}
-use Rattle.snippet_strokes.proofs.Common.{cases_lt, or_parts, nat_tests, places, same_lists, row_at-cells_written_same, cells_written, row_at, Layout}
-use Rattle.snippet_strokes.proofs.Common.{PlacedEntry, has_stem, takes_space, is_primary, Cell, SPACE, text_cells, written, strokes_of, Strokes, ElementStyle}
-use Rattle.snippet_strokes.proofs.Common.{mark_of, stroke_role, first_glyph, mark_end, Write, glyph_at, painted, stretch_of, connector_of, corner_of, label_of}
-use Rattle.snippet_strokes.proofs.Common.{line_strokes, stem_of, connectors_of, corners_of, labels_of, strokes_under_marks, stems_of}
+use Rattle.snippet_strokes.proofs.Common.{◌≡◌, ℕ, ◌+◌, ◌-◌, ◌<◌, ◌≤◌, ◌==◌, ◌&&◌, ◌||◌, nat_le, cond, Bool, true, false}
+use Rattle.snippet_strokes.proofs.Common.{List, [], ◌∷◌, ◌++◌, replicate, inl, inr, refl, sym, ap, ◌∙◌, arith, flat_map, cases_Bool, cases_lt}
+use Rattle.snippet_strokes.proofs.Common.{nat_tests, places, same_lists, row_at-cells_written_same, cells_written, row_at, Layout, PlacedEntry, has_stem}
+use Rattle.snippet_strokes.proofs.Common.{takes_space, is_primary, Cell, SPACE, text_cells, written, strokes_of, Strokes, ElementStyle, mark_of, stroke_role}
+use Rattle.snippet_strokes.proofs.Common.{first_glyph, mark_end, Write, glyph_at, painted, stretch_of, line_strokes, strokes_under_marks, rules}
 use Rattle.snippet_strokes.proofs.CellLemmas.{drawn_mark, drawn_strokes, drawn_under_marks}
-use Rattle.snippet_strokes.proofs.EveryStem.{rewritten, stems_painted}
+use Rattle.snippet_strokes.proofs.EveryStem.{stems_painted}
+use Rattle.snippet_strokes.proofs.SwapLemmas.{written-again}
 use Rattle.snippet_strokes.proofs.WriteLaws.{drawn_mark-none, less, painted-append, stretch_of-none}
 
 -- ---- cells of one row, written one after another
@@ -24,50 +24,35 @@ first_over row at x y xs =
 same_row : (rows : List (List Cell)) (r at from n : ℕ) (xs ys zs : List Cell)
     → written SPACE (written SPACE (row_at rows r) at xs) from ys ≡ written SPACE (row_at rows r) n zs
     → cells_written (cells_written rows r at xs) r from ys ≡ cells_written rows r n zs
-same_row rows r at from n xs ys zs same =
-    let row : List Cell = row_at rows r in
-    let low : List (List Cell) = cells_written rows r at xs in
-    ap (λ cells. written [] low r (written SPACE cells from ys ∷ [])) (row_at-cells_written_same rows r at xs)
-    ∙ ap (λ cells. written [] low r (cells ∷ [])) same
-    ∙ rewritten [] rows r (written SPACE row at xs) (written SPACE row n zs)
+same_row rows r at from n xs ys zs same = grind (arith, row_at-cells_written_same, written-again)
 
 -- ---- a stretch, with another glyph first
-
-more_cells : (from to : ℕ) → from < to → to - from ≡ suc (to - (from + 1))
-more_cells from to some = omega (arith, some)
 
 -- a stretch is its first glyph and as many after it
 stretch_whole : (row from to glyph : ℕ) (role : ElementStyle) (rows : List (List Cell)) → from < to
     → painted (stretch_of row from to glyph role) rows ≡ cells_written rows row from (text_cells role (glyph ∷ replicate (to - (from + 1)) glyph))
-stretch_whole row from to glyph role rows some =
-    let w : List ℕ → Write = λ text. record { row = row; cell = from; text = text; role = role } in
-    ap (λ b. painted (cond b (w (replicate (to - from) glyph) ∷ []) []) rows) (less from to some)
-    ∙ ap (λ n. cells_written rows row from (text_cells role (replicate n glyph))) (more_cells from to some)
+stretch_whole row from to glyph role rows some = search rules
 
 -- a glyph, and a stretch after it
 glyph_and_stretch : (row from to first glyph : ℕ) (role : ElementStyle) (rows : List (List Cell)) → from < to
     → painted (glyph_at row from first role ∷ stretch_of row (from + 1) to glyph role) rows
     ≡ cells_written rows row from (text_cells role (first ∷ replicate (to - (from + 1)) glyph))
-glyph_and_stretch row from to first glyph role rows some =
-    let one : List (List Cell) = cells_written rows row from (text_cells role (first ∷ [])) in
-    let w : Write = record { row = row; cell = from + 1; text = replicate (to - (from + 1)) glyph; role = role } in
-    elim (cases_lt (from + 1) to) [
-      | inl more ↦ ap (λ b. painted (cond b (w ∷ []) []) one) (less (from + 1) to more)
-          ∙ same_row rows row from (from + 1) from _ _ _ (first_after (row_at rows row) from _ (text_cells role (replicate (to - (from + 1)) glyph)))
-      | inr alone ↦
-          let none : to - (from + 1) ≡ 0 = omega (arith, alone) in
-          ap (λ ws. painted ws one) (stretch_of-none row (from + 1) to glyph role alone)
-          ∙ sym (ap (λ n. cells_written rows row from (text_cells role (first ∷ replicate n glyph))) none)
-    ]
+glyph_and_stretch row from to first glyph role rows some = grind (arith, cases_lt, less, same_row, first_after, stretch_of-none)
 
 -- a stretch, and a glyph over its first
 stretch_and_glyph : (row from to first glyph : ℕ) (role : ElementStyle) (rows : List (List Cell)) → from < to
     → painted (stretch_of row from to glyph role ++ glyph_at row from first role ∷ []) rows
     ≡ cells_written rows row from (text_cells role (first ∷ replicate (to - (from + 1)) glyph))
-stretch_and_glyph row from to first glyph role rows some =
-    painted-append (stretch_of row from to glyph role) (glyph_at row from first role ∷ []) rows
-    ∙ ap (λ x. cells_written x row from (text_cells role (first ∷ []))) (stretch_whole row from to glyph role rows some)
-    ∙ same_row rows row from from from _ _ _ (first_over (row_at rows row) from _ _ (text_cells role (replicate (to - (from + 1)) glyph)))
+stretch_and_glyph row from to first glyph role rows some = grind (arith, painted-append, stretch_whole, same_row, first_over)
+
+-- so a mark whose first glyph is its underline is painted by one text
+pub mark_whole : (layout : Layout) (row : ℕ) (e : PlacedEntry) (first underline : ℕ) (role : ElementStyle) (end : ℕ) (old new : List (List Cell))
+    → e.entry.start.display < mark_end e → end ≡ mark_end e → first ≡ first_glyph layout.decor e
+    → underline ≡ (strokes_of layout.decor (is_primary e.entry.kind)).underline → role ≡ stroke_role e → first ≡ underline
+    → new ≡ painted (stretch_of row (layout.code + e.entry.start.display) (layout.code + end) first role) old
+    → new ≡ painted (drawn_mark layout row e) old
+mark_whole layout row e first underline role end old new some is_end is_first is_underline is_role same drawn =
+    grind (arith, stretch_whole, glyph_and_stretch, less)
 
 -- ---- the mark of an entry
 
@@ -95,46 +80,26 @@ module _ (layout : Layout) (row : ℕ) (e : PlacedEntry) (rows : List (List Cell
 
   -- where it has a glyph of its own that glyph is the first, and else the underline is
   first_own : has_own ≡ true → first_glyph layout.decor e ≡ own
-  first_own some = by (takes_space e) (has_stem e) some
-    where
-      by : (space stem : Bool) → (space || stem) ≡ true
-          → cond space (cond stem strokes.end_down strokes.end_flat) (cond stem strokes.label_start strokes.underline)
-          ≡ cond space (cond stem strokes.end_down strokes.end_flat) strokes.label_start
-      by true stem is = refl
-      by false true is = refl
-      by false false is = cc
+  first_own some = search rules
 
   first_plain : has_own ≡ false → first_glyph layout.decor e ≡ strokes.underline
-  first_plain none =
-      let parts = or_parts (takes_space e) (has_stem e) none in
-      ap (λ b. cond b (cond (has_stem e) strokes.end_down strokes.end_flat) (cond (has_stem e) strokes.label_start strokes.underline)) parts.0
-      ∙ ap (λ b. cond b strokes.label_start strokes.underline) parts.1
+  first_plain none = search rules
 
   -- the end of the mark
   end_apart : (start == end) ≡ false → mark_end e ≡ end
   end_apart apart = ap (λ b. cond (b && has_own) (end + 1) end) apart
 
   end_plain : has_own ≡ false → mark_end e ≡ end
-  end_plain none = ap (λ b. cond ((start == end) && b) (end + 1) end) none ∙ either (start == end)
-    where
-      either : (b : Bool) → cond (b && false) (end + 1) end ≡ end
-      either true = refl
-      either false = refl
+  end_plain none = search rules
 
   end_own : start ≡ end → has_own ≡ true → mark_end e ≡ end + 1
-  end_own same some =
-      let here : (start == end) ≡ true = grind (arith, nat_tests, same) in
-      ap (λ b. cond (b && has_own) (end + 1) end) here ∙ ap (λ b. cond b (end + 1) end) some
+  end_own same some = search rules
 
   -- what is drawn, up to this column
   drawn : (to : ℕ) → mark_end e ≡ to → start < to → painted (drawn_mark layout row e) rows
       ≡ painted (glyph_at row from (first_glyph layout.decor e) (stroke_role e)
       ∷ stretch_of row (from + 1) (layout.code + to) strokes.underline (stroke_role e)) rows
-  drawn to is some =
-      let all : ℕ → List Write = λ n. glyph_at row from (first_glyph layout.decor e) (stroke_role e)
-      ∷ stretch_of row (from + 1) (layout.code + n) strokes.underline (stroke_role e) in
-      ap (λ b. painted (cond b (all (mark_end e)) []) rows) (less from (layout.code + mark_end e) (omega (arith, is, some)))
-      ∙ ap (λ n. painted (all n) rows) is
+  drawn to is some = search rules
 
   -- what the rule says, by its test
   ruled : (test : Bool) → (nat_le start end && has_own) ≡ test
@@ -142,9 +107,7 @@ module _ (layout : Layout) (row : ℕ) (e : PlacedEntry) (rows : List (List Cell
   ruled test is = ap (λ b. painted (line ++ cond b (glyph_at row from own (stroke_role e) ∷ []) []) rows) is
 
   le_test : (b : Bool) → start ≤ end → (nat_le start end && b) ≡ b
-  le_test b up =
-      let yes : nat_le start end ≡ true = grind (arith, nat_tests, up) in
-      ap (λ t. t && b) yes
+  le_test b up = search rules
 
   no_line : end ≤ start → line ≡ []
   no_line past = stretch_of-none row from (layout.code + end) strokes.underline (stroke_role e) (omega (arith, past))
@@ -193,34 +156,14 @@ module _ (layout : Layout) (row : ℕ) (e : PlacedEntry) (rows : List (List Cell
 pub every_mark : (layout : Layout) (row : ℕ) (es : List PlacedEntry) (rows : List (List Cell))
     → painted (flat_map (mark_of layout row) es) rows ≡ painted (flat_map (drawn_mark layout row) es) rows
 every_mark layout row [] rows = refl
-every_mark layout row (e ∷ es) rows =
-    painted-append (mark_of layout row e) (flat_map (mark_of layout row) es) rows
-    ∙ ap (painted (flat_map (mark_of layout row) es)) (mark_same layout row e rows)
-    ∙ every_mark layout row es (painted (drawn_mark layout row e) rows)
-    ∙ sym (painted-append (drawn_mark layout row e) (flat_map (drawn_mark layout row) es) rows)
+every_mark layout row (e ∷ es) rows = grind (arith, painted-append, mark_same, every_mark layout row es (painted (drawn_mark layout row e) rows))
 
 -- The strokes of a line, as the rule names them, are those that the code draws.
 pub strokes_painted : (layout : Layout) (row count : ℕ) (placed order : List PlacedEntry) (rows : List (List Cell))
     → painted (line_strokes layout row count placed order) rows ≡ painted (drawn_strokes layout row count placed order) rows
-strokes_painted layout row count placed order rows =
-    let bars : List Write = flat_map (connector_of layout (row + 1)) placed ++ flat_map (corner_of layout row count) placed in
-    let all : List Write = flat_map (stem_of layout (row + 1)) placed in
-    let drawn : List Write = stems_of layout (row + 1) placed in
-    let labels : List Write = flat_map (label_of layout (row + 1)) placed in
-    let marks : List Write = flat_map (mark_of layout (row + 1)) order in
-    painted-append (bars ++ all ++ labels) marks rows
-    ∙ ap (painted marks) (painted-append (bars ++ all) labels rows ∙ ap (painted labels) (painted-append bars all rows
-    ∙ stems_painted layout (row + 1) placed (painted bars rows) ∙ sym (painted-append bars drawn rows)) ∙ sym (painted-append (bars ++ drawn) labels rows))
-    ∙ every_mark layout (row + 1) order (painted (bars ++ drawn ++ labels) rows)
-    ∙ sym (painted-append (bars ++ drawn ++ labels) (flat_map (drawn_mark layout (row + 1)) order) rows)
+strokes_painted layout row count placed order rows = simp (drawn, painted-append, stems_painted, every_mark)
 
 -- so are those but the marks
 pub under_marks_painted : (layout : Layout) (row count : ℕ) (placed : List PlacedEntry) (rows : List (List Cell))
     → painted (strokes_under_marks layout row count placed) rows ≡ painted (drawn_under_marks layout row count placed) rows
-under_marks_painted layout row count placed rows =
-    let bars : List Write = connectors_of layout (row + 1) placed ++ corners_of layout row count placed in
-    let all : List Write = flat_map (stem_of layout (row + 1)) placed in
-    let drawn : List Write = stems_of layout (row + 1) placed in
-    let labels : List Write = labels_of layout (row + 1) placed in
-    painted-append (bars ++ all) labels rows ∙ ap (painted labels) (painted-append bars all rows
-    ∙ stems_painted layout (row + 1) placed (painted bars rows) ∙ sym (painted-append bars drawn rows)) ∙ sym (painted-append (bars ++ drawn) labels rows)
+under_marks_painted layout row count placed rows = simp (drawn, painted-append, stems_painted)

@@ -1,11 +1,11 @@
 -- The stem of an entry that the next one's covers leaves nothing of its own: to draw all stems is to draw those that none covers.
 use Rattle.snippet_strokes.proofs.Common.{◌≡◌, ℕ, zero, suc, ◌+◌, ◌-◌, ◌<◌, ◌≤◌, ◌==◌, ◌&&◌, nat_le, cond, true, List, []}
 use Rattle.snippet_strokes.proofs.Common.{◌∷◌, ◌++◌, map, inl, inr, refl, sym, ap, ◌∙◌, arith, All, flat_map, range_with_len, and_parts}
-use Rattle.snippet_strokes.proofs.Common.{cases_Bool, eqb-true, leb-true, places, same_lists, All-cons, All-nil, row_at-cells_written_same, cells_written}
-use Rattle.snippet_strokes.proofs.Common.{row_at, Layout, code_cell, PlacedEntry, has_stem, is_primary, Cell, SPACE, text_cells, written, strokes_of}
-use Rattle.snippet_strokes.proofs.Common.{ElementStyle, is_stem_covered, stems_of, stem_of, foot_glyph, stroke_role, Write, glyph_at, painted}
+use Rattle.snippet_strokes.proofs.Common.{cases_Bool, eqb-true, leb-true, All-cons, All-nil, row_at-cells_written_same, cells_written, Layout, code_cell}
+use Rattle.snippet_strokes.proofs.Common.{PlacedEntry, has_stem, is_primary, Cell, text_cells, strokes_of, ElementStyle, is_stem_covered, stems_of, stem_of}
+use Rattle.snippet_strokes.proofs.Common.{foot_glyph, stroke_role, Write, glyph_at, painted, rules}
 use Rattle.snippet_strokes.proofs.CellLemmas.{written_by, stem_write}
-use Rattle.snippet_strokes.proofs.RowsSwapped.{move_rows}
+use Rattle.snippet_strokes.proofs.SwapLemmas.{move_rows, written-again}
 use Rattle.snippet_strokes.proofs.WriteLaws.{painted-append}
 
 -- ---- a stem
@@ -39,25 +39,13 @@ stem_down row below s = map (cell_of_stem row s) (range_with_len below (s.positi
 
 down_rows : (row n k : ℕ) (s : Stem) → All (λ w. row + k ≤ w.row) (map (cell_of_stem row s) (range_with_len k n))
 down_rows row zero k s = All-nil (λ (w : Write). row + k ≤ w.row)
-down_rows row (suc n) k s =
-    All-cons (λ (w : Write). row + k ≤ w.row) (cell_of_stem row s k) (map (cell_of_stem row s) (range_with_len (k + 1) n)) (omega arith)
-    (λ j d within. let next = down_rows row n (k + 1) s j d within in omega (arith, next))
+down_rows row (suc n) k s = grind (arith, All-cons, down_rows row n (k + 1) s)
 
 -- ---- one write over another
 
--- what was written at a place is gone where something else is
-pub rewritten : {X : Type 0} (pad : X) (xs : List X) (at : ℕ) (x y : X) → written pad (written pad xs at (x ∷ [])) at (y ∷ []) ≡ written pad xs at (y ∷ [])
-rewritten pad xs at x y =
-    same_lists _ _ (unfold written in grind (arith, places)) (λ i d h. unfold written in grind (arith, places))
-
-cells_rewritten : (rows : List (List Cell)) (r at : ℕ) (x y : Cell)
+cells_written-again : (rows : List (List Cell)) (r at : ℕ) (x y : Cell)
     → cells_written (cells_written rows r at (x ∷ [])) r at (y ∷ []) ≡ cells_written rows r at (y ∷ [])
-cells_rewritten rows r at x y =
-    let row : List Cell = row_at rows r in
-    let low : List (List Cell) = cells_written rows r at (x ∷ []) in
-    ap (λ cells. written [] low r (written SPACE cells at (y ∷ []) ∷ [])) (row_at-cells_written_same rows r at (x ∷ []))
-    ∙ ap (λ cells. written [] low r (cells ∷ [])) (rewritten SPACE row at x y)
-    ∙ rewritten [] rows r (written SPACE row at (x ∷ [])) (written SPACE row at (y ∷ []))
+cells_written-again rows r at x y = simp (row_at-cells_written_same, written-again)
 
 -- ---- one stem over another
 
@@ -76,7 +64,7 @@ covers_down row (suc n) k s t rows same many far =
     let low : All (λ (w : Write). row + k < w.row) rest = λ j d within. let next = down_rows row n (k + 1) s j d within in omega (arith, next) in
     let over : written_by (written_by rows a) b ≡ written_by rows b =
     ap (λ c. written_by (cells_written rows (row + k) c (text_cells a.role a.text)) b) same
-    ∙ cells_rewritten rows (row + k) t.cell _ _ in
+    ∙ cells_written-again rows (row + k) t.cell _ _ in
     ap (λ ws. painted ws (painted rest (written_by rows a))) split
     ∙ ap (painted below) (move_rows (row + k) rest (b ∷ []) (written_by rows a) low here ∙ ap (painted rest) over)
     ∙ covers_down row n (k + 1) s t (written_by rows b) same (omega (arith, many)) far
@@ -84,10 +72,7 @@ covers_down row (suc n) k s t rows same many far =
 
 -- the stem of an entry that has one
 own_down : (layout : Layout) (row : ℕ) (e : PlacedEntry) → has_stem e ≡ true → stem_of layout row e ≡ stem_down row 0 (stem_from layout e)
-own_down layout row e has =
-    let whole : e.position + 1 ≡ e.position + 1 - 0 = omega arith in
-    ap (λ b. cond b (map (stem_write layout row e) (range_with_len 0 (e.position + 1))) []) has
-    ∙ ap (λ n. map (stem_write layout row e) (range_with_len 0 n)) whole
+own_down layout row e has = search rules
 
 -- ---- the stems of a line
 

@@ -1,12 +1,12 @@
 -- Rows of which one is highlighted, entry by entry.
 use Rattle.snippet_strokes.proofs.Common.{◌≡◌, ℕ, ◌+◌, ◌-◌, ◌<◌, ◌≤◌, ◌&&◌, ◌||◌, cond, Bool, true, false, List, []}
 use Rattle.snippet_strokes.proofs.Common.{◌∷◌, ◌++◌, filter, get_or, length, max, nat_le, nat_lt, not, take, refl, sym, ap, ◌∙◌, arith, inl}
-use Rattle.snippet_strokes.proofs.Common.{inr, list_any, and_from, and_left, and_right, cases_Bool, cases_eq, cases_lt, cond-false, cond-true, le-leb, le-ltb}
-use Rattle.snippet_strokes.proofs.Common.{lt-leb, lt-ltb, nat_tests, append-nil, ext_get_or, get_or_append_left, get_or_past, get_or_push, length_push}
-use Rattle.snippet_strokes.proofs.Common.{take_more, filter-append, list_any-append, changed_within, restyled, row_at, cells_changed, cells_restyled}
+use Rattle.snippet_strokes.proofs.Common.{inr, and_from, and_left, and_right, cases_Bool, cases_eq, cases_lt, cond-false, cond-true, le-leb, le-ltb, lt-leb}
+use Rattle.snippet_strokes.proofs.Common.{lt-ltb, nat_tests, append-nil, ext_get_or, get_or_append_left, get_or_past, get_or_push, length_push, take_more}
+use Rattle.snippet_strokes.proofs.Common.{filter-append, list_any-append, changed_within, restyled, row_at, cells_changed, cells_restyled}
 use Rattle.snippet_strokes.proofs.Common.{length-changed_within, slice_index_or-changed_within_after, slice_index_or-changed_within_before}
 use Rattle.snippet_strokes.proofs.Common.{slice_index_or-changed_within_inside, is_end_part, is_primary, LineAnnotation, Cell, SPACE, gives_way, underline_role}
-use Rattle.snippet_strokes.proofs.Common.{UnderlinePrimary, UnderlineSecondary, highlighted_row, highlights}
+use Rattle.snippet_strokes.proofs.Common.{UnderlinePrimary, UnderlineSecondary, highlighted_row, highlights, common_steps}
 use Rattle.snippet_strokes.proofs.CellLemmas.{role_in_source}
 use Rattle.snippet_strokes.proofs.LineFromValue.{highlighted_row_is}
 
@@ -16,20 +16,22 @@ use Rattle.snippet_strokes.proofs.LineFromValue.{highlighted_row_is}
 changed_at : {X : Type 0} (f : X → X) (from to : ℕ) (xs : List X) (k : ℕ) (d : X) → k < length xs
     → get_or (changed_within f from to xs) k d ≡ cond (nat_le from k && nat_lt k to) (f (get_or xs k d)) (get_or xs k d)
 changed_at f from to xs k d there =
-    let x = get_or xs k d in
-    elim (cases_lt k from) [
-      | inl less ↦
-          slice_index_or-changed_within_before f from to xs k d less
-          ∙ sym (cond-false _ (f x) x (and_left (nat_le from k) (nat_lt k to) (lt-leb from k less)))
-      | inr reached ↦ elim (cases_lt k to) [
-        | inl left ↦
-            slice_index_or-changed_within_inside f from to xs k d (omega (arith, reached)) left there
-            ∙ sym (cond-true _ (f x) x (and_from (nat_le from k) (nat_lt k to) (le-leb from k (omega (arith, reached))) (lt-ltb k to left)))
-        | inr past ↦
-            slice_index_or-changed_within_after f from to xs k d (omega (arith, past))
-            ∙ sym (cond-false _ (f x) x (and_right (nat_le from k) (nat_lt k to) (le-ltb k to (omega (arith, past)))))
-      ]
-    ]
+    grind (
+      arith,
+      cases_lt,
+      slice_index_or-changed_within_before,
+      cond-false,
+      and_left,
+      lt-leb,
+      slice_index_or-changed_within_inside,
+      cond-true,
+      and_from,
+      le-leb,
+      lt-ltb,
+      slice_index_or-changed_within_after,
+      and_right,
+      le-ltb,
+    )
 
 -- so a list is known by what becomes of each element in the stretch, and of each beside it
 changed_is : {X : Type 0} (f : X → X) (from to : ℕ) (xs ys : List X) (d : X) → length ys ≡ length xs
@@ -141,19 +143,7 @@ module _ (code dropped : ℕ) (es : List LineAnnotation) (e : LineAnnotation) wh
   -- a cell with one more entry
   cell_next : (c : ℕ) (cell : Cell) → (let before = record cell { role = role_in_source code dropped es c cell.role } in
       cond (highlights code dropped c e) (restyle_cell before) before) ≡ record cell { role = role_in_source code dropped (es ++ e ∷ []) c cell.role }
-  cell_next c cell =
-      let primary : LineAnnotation → Bool = λ x. is_primary x.kind && highlights code dropped c x in
-      let a : Bool = list_any primary es in
-      cell_told (highlights code dropped c e) a (list_any (highlights code dropped c) es) (is_primary e.kind) (gives_way cell.role) cell refl
-      ∙ ap (λ b. record cell {
-        role = cond (a || (is_primary e.kind && highlights code dropped c e || false)) UnderlinePrimary
-            (cond (b && gives_way cell.role) UnderlineSecondary cell.role);
-      }) (sym (list_any-append (highlights code dropped c) es (e ∷ [])))
-      ∙ ap (λ b. record cell {
-        role = cond b UnderlinePrimary
-            (cond (list_any (highlights code dropped c) (es ++ e ∷ []) && gives_way cell.role) UnderlineSecondary cell.role);
-      })
-      (sym (list_any-append primary es (e ∷ [])))
+  cell_next c cell = simp (cell_told, list_any-append)
 
   -- a row whose cells of one more entry are restyled, if it asks
   row_next : (cells new : List Cell) → length new ≡ length cells → ((c : ℕ) → c < length cells → get_or new c SPACE
@@ -202,9 +192,7 @@ module _ (code dropped row : ℕ) (old : List (List Cell)) (es : List LineAnnota
       ext_get_or SPACE (highlighted_row code dropped [] cells) cells is.width (λ c within. is.cells c (omega (arith, within, is.width)))))
 
   asking_more : (i : ℕ) (e : LineAnnotation) → e ≡ get_or es i e → i < length es → asking (take (i + 1) es) ≡ asking (take i es) ++ asking (e ∷ [])
-  asking_more i e is within =
-      ap asking (take_more es i e within ∙ ap (λ x. take i es ++ x ∷ []) (sym is))
-      ∙ filter-append (λ (x : LineAnnotation). not (is_end_part x.annotation_type)) (take i es) (e ∷ [])
+  asking_more i e is within = grind (arith, common_steps, nat_tests, take_more, filter-append)
 
   abbrev ends_part : LineAnnotation → Bool
   ends_part e = is_end_part e.annotation_type
@@ -213,20 +201,11 @@ module _ (code dropped row : ℕ) (old : List (List Cell)) (es : List LineAnnota
   pub lit_by-asked : (i : ℕ) (e : LineAnnotation) → e ≡ get_or es i e → i < length es → is_end_part e.annotation_type ≡ false
       → e.highlight_source ≡ true → cells_restyled (lit_by i) row (max code (code + e.start.char - dropped))
       (code + e.end.char - dropped) (underline_role (is_primary e.kind)) (is_primary e.kind) ≡ lit_by (i + 1)
-  lit_by-asked i e is within other asks =
-      let so_far : List LineAnnotation = asking (take i es) in
-      let one : asking (e ∷ []) ≡ e ∷ [] = cond-true (not (ends_part e)) (e ∷ []) [] (ap not other) in
-      changed_again row old (highlighted_row code dropped so_far) (restyle code dropped so_far e) (highlighted_row code dropped (so_far ++ e ∷ []))
-      (restyled_next code dropped so_far e asks)
-      ∙ ap (λ xs. changed_within (highlighted_row code dropped xs) row (row + 1) old) (sym (asking_more i e is within ∙ ap (λ xs. so_far ++ xs) one))
+  lit_by-asked i e is within other asks = grind (arith, cond-true, changed_again, restyled_next, asking_more)
 
   -- or doesn't
   pub lit_by-end : (i : ℕ) (e : LineAnnotation) → e ≡ get_or es i e → i < length es → is_end_part e.annotation_type ≡ true → lit_by i ≡ lit_by (i + 1)
-  lit_by-end i e is within end =
-      let so_far : List LineAnnotation = asking (take i es) in
-      let none : asking (e ∷ []) ≡ [] = cond-false (not (ends_part e)) (e ∷ []) [] (ap not end) in
-      ap (λ xs. changed_within (highlighted_row code dropped xs) row (row + 1) old)
-      (sym (asking_more i e is within ∙ ap (λ xs. so_far ++ xs) none ∙ append-nil so_far))
+  lit_by-end i e is within end = grind (arith, common_steps, nat_tests, cond-false, asking_more, append-nil)
 
   pub lit_by-unasked : (i : ℕ) (e : LineAnnotation) → e ≡ get_or es i e → i < length es → e.highlight_source ≡ false → lit_by i ≡ lit_by (i + 1)
   lit_by-unasked i e is within none =
@@ -242,14 +221,4 @@ module _ (code dropped row : ℕ) (old : List (List Cell)) (es : List LineAnnota
 
   -- the row stays as long
   pub lit_by-width : (i : ℕ) → length (row_at (lit_by i) row) ≡ length (row_at old row)
-  lit_by-width i =
-      let own : List LineAnnotation = asking (take i es) in
-      let lit : List Cell → List Cell = highlighted_row code dropped own in
-      elim (cases_lt row (length old)) [
-        | inl there ↦
-            ap length (slice_index_or-changed_within_inside lit row (row + 1) old row [] (omega arith) (omega arith) there)
-            ∙ (highlighted_row_is code dropped own (row_at old row)).width
-        | inr past ↦
-            ap length (get_or_past (lit_by i) row [] (omega (arith, past, length-changed_within lit row (row + 1) old)))
-            ∙ sym (ap length (get_or_past old row [] past))
-      ]
+  lit_by-width i = grind (arith, cases_lt, slice_index_or-changed_within_inside, highlighted_row_is, get_or_past, length-changed_within)

@@ -1,12 +1,12 @@
 -- The labels of entries, in the order in which the entries are given.
-use Rattle.snippet_strokes.proofs.Common.{◌≡◌, ℕ, suc, ◌+◌, ◌<◌, ◌≤◌, ◌==◌, ◌&&◌, nat_le, nat_lt, not, max, cond, Bool, true}
-use Rattle.snippet_strokes.proofs.Common.{false, List, [], ◌∷◌, length, map, get_or, set, refl, sym, ap, subst, ◌∙◌, arith, inl, inr, ◌⊎◌}
-use Rattle.snippet_strokes.proofs.Common.{All, count_by, swap, IsPermutation, and_parts, cases_Bool, eq-eqb, false≢true, nat_tests, get_or-map, map-set}
-use Rattle.snippet_strokes.proofs.Common.{All-cons, All-map, All-nil, All-permutation, IsPermutation-keeps, IsPermutation-refl, IsPermutation-swap}
-use Rattle.snippet_strokes.proofs.Common.{IsPermutation-sym, IsPermutation-trans, sum_by-IsPermutation, sum_by-cons, cell_at, Cell, SPACE, LineAnnotation}
-use Rattle.snippet_strokes.proofs.Common.{Layout, PlacedEntry, label_text, IsStemCell, IsStrokeCell, has_label, label_place, HasPlace, ArePlaced, HasItsLabel}
-use Rattle.snippet_strokes.proofs.Common.{count-map, zero, row_at, inner_cell, IsBarCell, is_mark_role, closing_row}
-use Rattle.std.proofs.Common.{chars, if◌then◌else◌}
+use Rattle.snippet_strokes.proofs.Common.{◌≡◌, ℕ, suc, ◌+◌, ◌<◌, ◌≤◌, ◌==◌, ◌&&◌, nat_le, nat_lt, max, cond, Bool, true, false}
+use Rattle.snippet_strokes.proofs.Common.{List, [], ◌∷◌, length, map, get_or, refl, sym, ap, subst, ◌∙◌, arith, inl, inr, ◌⊎◌, All, count_by}
+use Rattle.snippet_strokes.proofs.Common.{swap, IsPermutation, cases_Bool, false≢true, nat_tests, get_or-map, map-set, All-cons, All-map, All-nil}
+use Rattle.snippet_strokes.proofs.Common.{All-permutation, IsPermutation-keeps, IsPermutation-refl, IsPermutation-swap, IsPermutation-sym, IsPermutation-trans}
+use Rattle.snippet_strokes.proofs.Common.{sum_by-IsPermutation, sum_by-cons, cell_at, Cell, SPACE, LineAnnotation, Layout, PlacedEntry, label_text, IsStemCell}
+use Rattle.snippet_strokes.proofs.Common.{IsStrokeCell, has_label, label_place, HasPlace, ArePlaced, HasItsLabel, count-map, zero, row_at, inner_cell}
+use Rattle.snippet_strokes.proofs.Common.{IsBarCell, is_mark_role, closing_row, common_steps, rules}
+use Rattle.std.proofs.Common.{if◌then◌else◌}
 use Rattle.snippet_strokes.proofs.SeenLabels.{IsLedTo, LabelsStand, PlacedLabel, StandsIn, is_cell_of}
 use Rattle.snippet_strokes.proofs.PaintedMarks.{StandsWhole}
 use Rattle.snippet_strokes.proofs.CellLemmas.{label_write}
@@ -22,11 +22,7 @@ use Rattle.snippet_strokes.proofs.RowLemmas.{bare_row_right, free_bare_row}
 
 map-swap : {X Y : Type 0} (f : X → Y) (xs : List X) (i j : ℕ) → i < length xs → j < length xs → map f (swap xs i j) ≡ swap (map f xs) i j
 map-swap f [] i j first second = refl
-map-swap f (d ∷ ys) i j first second =
-    let xs = d ∷ ys in
-    map-set f (set xs i (get_or xs j d)) j (get_or xs i d) ∙ ap (λ l. set l j (f (get_or xs i d))) (map-set f xs i (get_or xs j d))
-    ∙ ap (λ y. set (set (map f xs) i y) j (f (get_or xs i d))) (sym (get_or-map f xs j d (f d) second))
-    ∙ ap (λ y. set (set (map f xs) i (get_or (map f xs) j (f d))) j y) (sym (get_or-map f xs i d (f d) first))
+map-swap f (d ∷ ys) i j first second = grind (arith, map-set, get_or-map)
 
 -- things whose values were put in another order, in that order
 pub record Reordered {X Y : Type 0} (f : X → Y) (xs : List X) (ys : List Y) : Type 0 where
@@ -63,14 +59,7 @@ none_pass q (x ∷ xs) none =
 -- if so many pass that none does, each fails
 all_fail : {X : Type 0} (q : X → Bool) (xs : List X) → count_by q xs ≡ 0 → All (λ x. q x ≡ false) xs
 all_fail q [] none = All-nil (λ x. q x ≡ false)
-all_fail {X} q (x ∷ xs) none =
-    let F : X → Type 0 = λ y. q y ≡ false in
-    let parts = sum_by-cons (λ y. cond (q y) 1 0) x xs in
-    All-cons F x xs (fails (q x) (omega (arith, parts, none))) (all_fail q xs (omega (arith, parts, none)))
-  where
-    fails : (b : Bool) → ◌≡◌ {A = ℕ} (cond b 1 0) 0 → b ≡ false
-    fails true is = cc is
-    fails false is = refl
+all_fail {X} q (x ∷ xs) none = grind (arith, common_steps, nat_tests, sum_by-cons, All-cons)
 
 one_passes : {X : Type 0} (q : X → Bool) (xs : List X)
     → ((i j : ℕ) (d d2 : X) → i < j → j < length xs → q (get_or xs i d) ≡ true → q (get_or xs j d2) ≡ true → ⊥) → count_by q xs ≤ 1
@@ -104,61 +93,22 @@ placed_label layout e =
 
 -- a label that shows anything is one
 pub shows_label : (e : PlacedEntry) → HasItsLabel e → 0 < length (label_text e.entry) → has_label e ≡ true
-shows_label e has some = by_length (length (chars e.label)) (omega (arith, ap length has, some))
-  where
-    by_length : (n : ℕ) → 0 < n → not (n == 0) ≡ true
-    by_length n is = grind (arith, nat_tests, is)
+shows_label e has some = search rules
 
 -- where a label begins
 stands-at : (layout : Layout) (e : PlacedEntry)
     → let l = placed_label layout e in ((l.row ≡ 0) × (l.cell ≡ layout.code + max e.entry.end.display 1 + 1))
     ⊎ ((0 < l.row) × (l.cell ≡ layout.code + e.entry.start.display))
-stands-at layout e =
-    elim (label_parts e) [
-      | inl at ↦
-          let place : label_place e ≡ (0, cond (e.entry.end.display == 0) 2 (e.entry.end.display + 1)) = ap (λ b.
-          cond b (0, cond (e.entry.end.display == 0) 2 (e.entry.end.display + 1)) (e.position + 1, e.entry.start.display))
-          (eq-eqb e.position 0 at.position) in
-          let column : (label_place e).1 ≡ cond (e.entry.end.display == 0) 2 (e.entry.end.display + 1) = ap (λ (x : ℕ × ℕ). x.1) place in
-          inl (at.row, omega (arith, column, after e.entry.end.display))
-      | inr at ↦ inr (omega (arith, at.row), omega (arith, at.column))
-    ]
-  where
-    after : (n : ℕ) → cond (n == 0) 2 (n + 1) ≡ max n 1 + 1
-    after n = grind (arith, nat_tests)
+stands-at layout e = search rules
 
 -- the cell is reached by the label's write
 reached : (layout : Layout) (e : PlacedEntry) (r c : ℕ) → is_cell_of r c (placed_label layout e) ≡ true → Reaches r c (label_write layout 0 e)
-reached layout e r c is =
-    let outer = and_parts ((label_place e).0 == r) (nat_le (layout.code + (label_place e).1) c
-    && nat_lt c (layout.code + (label_place e).1 + length (label_text e.entry))) is in
-    let inner = and_parts (nat_le (layout.code + (label_place e).1) c) (nat_lt c (layout.code + (label_place e).1 + length (label_text e.entry))) outer.1 in
-    record {
-      row = omega (arith, same (label_place e).0 r outer.0);
-      from = le (layout.code + (label_place e).1) c inner.0;
-      to = lt c (layout.code + (label_place e).1 + length (label_text e.entry)) inner.1;
-    }
-  where
-    same : (a b : ℕ) → (a == b) ≡ true → a ≡ b
-    same a b is = grind (arith, nat_tests, is)
-
-    le : (a b : ℕ) → nat_le a b ≡ true → a ≤ b
-    le a b is = grind (arith, nat_tests, is)
-
-    lt : (a b : ℕ) → nat_lt a b ≡ true → a < b
-    lt a b is = grind (arith, nat_tests, is)
+reached layout e r c is = search rules
 
 -- no label of placed entries has a cell, if none has it where they are given
 beside_labels : (layout : Layout) (row r c : ℕ) (placed : List PlacedEntry) → count_by (λ e. is_cell_of r c (placed_label layout e)) placed ≡ 0
     → BesideLabels layout row (row + r) c placed
-beside_labels layout row r c placed none k d within has there =
-    let e : PlacedEntry = get_or placed k d in
-    let at : ℕ = layout.code + (label_place e).1 in
-    false≢true (sym (all_fail (λ x. is_cell_of r c (placed_label layout x)) placed none k d within)
-    ∙ inside (label_place e).0 r at c (length (label_text e.entry)) (omega (arith, there.row)) there.from there.to)
-  where
-    inside : (a r b c n : ℕ) → a ≡ r → b ≤ c → c < b + n → (a == r && (nat_le b c && nat_lt c (b + n))) ≡ true
-    inside a r b c n same from to = grind (arith, nat_tests, same, from, to)
+beside_labels layout row r c placed none k d within has there = search (rules, false≢true, all_fail)
 
 -- in the rows from `row` on each cell from the code on that no label reaches is a space or a stroke's
 abbrev pub HasStrokesBeside : Layout → ℕ → List PlacedEntry → List (List Cell) → Type 0
@@ -250,31 +200,7 @@ LabelsStand-none layout es rows none blank =
 -- labels that stand in some rows stand in others, whose cells from the code on are the same
 pub LabelsStand-kept : (layout : Layout) (es : List LineAnnotation) (old new : List (List Cell)) → LabelsStand layout es old
     → ((r c : ℕ) → layout.code ≤ c → cell_at new r c ≡ cell_at old r c) → LabelsStand layout es new
-LabelsStand-kept layout es old new is same =
-    record {
-      labels = is.labels;
-      are = is.are;
-      stand = λ k d within some.
-          let stands : StandsIn layout old (get_or is.labels k d) = is.stand k d within some in
-          record {
-            whole = λ n inside. same (get_or is.labels k d).row ((get_or is.labels k d).cell + n) (right (get_or is.labels k d) n stands.place)
-                ∙ stands.whole n inside;
-            place = stands.place;
-          };
-      led = λ k d within some r under above none.
-          let l : PlacedLabel = get_or is.labels k d in
-          let first : l.cell + 0 ≡ l.cell = omega arith in
-          let inside : layout.code ≤ l.cell = omega (arith, first, right l 0 (is.stand k d within some).place) in
-          subst (IsStemCell layout.decor) (sym (same r l.cell inside)) (is.led k d within some r under above none);
-      apart = is.apart;
-      others = λ r c right none. subst (IsStrokeCell layout.decor) (sym (same r c right)) (is.others r c right none);
-    }
-  where
-    right : (l : PlacedLabel) (n : ℕ)
-        → ((l.row ≡ 0) × (l.cell ≡ layout.code + max l.entry.end.display 1 + 1)) ⊎ ((0 < l.row) × (l.cell ≡ layout.code + l.entry.start.display))
-        → layout.code ≤ l.cell + n
-    right l n (inl at) = omega (arith, at.1)
-    right l n (inr at) = omega (arith, at.1)
+LabelsStand-kept layout es old new is same = search rules
 
 -- The rows of a line with no entries.
 -- a line with no entries has no strokes, but a row that closes the window where it closes there

@@ -41,7 +41,6 @@ pub mod PositionLemmas
 pub mod Reach
 pub mod ReadyLemmas
 pub mod RowLemmas
-pub mod RowsSwapped
 pub mod SeenLabels
 pub mod SeenRows
 pub mod ShiftLemmas

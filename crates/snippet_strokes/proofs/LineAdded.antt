@@ -43,9 +43,7 @@ module _ (layout : Layout) (view : LineView) (open_bars : List OpenBar) (info : 
   -- the last row is highlighted
   lit_last : (source : List Cell) (mid high : List (List Cell)) → mid ≡ old ++ source ∷ []
       → high ≡ changed_within (highlighted_row layout.code dropped (asking es)) row (row + 1) mid → high ≡ old ++ lit source ∷ []
-  lit_last source mid high mid_is is =
-      is ∙ ap (λ d. changed_within (highlighted_row layout.code d (asking es)) row (row + 1) mid) dropped_is
-      ∙ ap (λ r. changed_within lit r (r + 1) mid) last ∙ ap (changed_within lit (length old) (length old + 1)) mid_is ∙ changed_last lit old source
+  lit_last source mid high mid_is is = grind (arith, changed_last)
 
   -- a line that isn't marked as a whole: below its source row, which is highlighted, come its own rows, and bars run past beside all
   pub marked_added : (past : List OpenBar) (mid high done new : List (List Cell)) → past ≡ past_bars → mid ≡ old ++ plain ∷ []
@@ -53,12 +51,7 @@ module _ (layout : Layout) (view : LineView) (open_bars : List OpenBar) (info : 
       → ((above : List (List Cell)) (source : List Cell) → high ≡ above ++ source ∷ []
       → done ≡ above ++ own_rows layout view.margin.term_width view.closes text dropped es source)
       → new ≡ barred layout Solid past row done → new ≡ old ++ info_rows layout view open_bars info
-  marked_added past mid high done new past_is mid_is is drawn barred_is =
-      let bright : List Cell = lit plain in
-      let done_is : done ≡ old ++ own bright = drawn old bright (lit_last plain mid high mid_is is)
-      ∙ ap (λ d. old ++ own_rows layout view.margin.term_width view.closes text d es bright) dropped_is in
-      barred_is ∙ ap (λ bars. barred layout Solid bars row done) past_is ∙ ap (λ r. barred layout Solid past_bars r done) last
-      ∙ ap (barred layout Solid past_bars (length old)) done_is ∙ barred-below layout Solid past_bars old (own bright)
+  marked_added past mid high done new past_is mid_is is drawn barred_is = grind (arith, lit_last, barred-below)
 
   -- a line that is: its source row with the bars beside it is highlighted
   pub whole_added : (tops past : List OpenBar) (mid new : List (List Cell)) → tops ≡ ends_of_bars es → past ≡ past_bars → is_whole_line text es ≡ true

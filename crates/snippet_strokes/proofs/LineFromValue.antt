@@ -2,16 +2,15 @@
 use Rattle.snippet_strokes.proofs.Common.{◌≡◌, ℕ, suc, ◌+◌, ◌-◌, ◌<◌, ◌≤◌, ◌^◌, Bool, false, List, [], ◌∷◌, ◌++◌, All}
 use Rattle.snippet_strokes.proofs.Common.{drop, filter, get_or, length, map, not, take, refl, sym, ap, ◌∙◌, subst, arith, inl, inr, cases_lt, cond-false}
 use Rattle.snippet_strokes.proofs.Common.{cond-true, false≢true, get_or-map-range_with_len, length-map-range_with_len, shown_number, LineNumbers}
-use Rattle.snippet_strokes.proofs.Common.{shown_number_unlisted, IsFree, each_fails, is_bar, AnnotatedLineInfo, LineAnnotation, Cell, SPACE, placeholder_of}
-use Rattle.snippet_strokes.proofs.Common.{DecorStyle, is_listed, norm, char_width, width_of, list_any-norm, char_width-bound, StandsClear, covered_columns}
-use Rattle.snippet_strokes.proofs.Common.{covered_end, dropped_part, inner_part, reaching, uncovered_part, window_left, Margin, reaching-cons, reaching-none}
-use Rattle.snippet_strokes.proofs.Common.{width-cons, Layout, inner_cell, separator_cell, is_end_part, shifted, placed_of, PlacedEntry, Top, OpenBar, LineView}
-use Rattle.snippet_strokes.proofs.Common.{ends_of_bars, overlapped, row_count, line_rows, own_rows, painting_order, info_rows, is_whole_line, source_row}
-use Rattle.snippet_strokes.proofs.Common.{window_cells, highlighted_row, stroke_rows, painted, true, replicate, if◌then◌else◌, list_all, list_any}
-use Rattle.snippet_strokes.proofs.Common.{list_any-IsPermutation, cases_Bool, append_assoc, length-append, length_push, closing_row, separator_row, ArePlaced}
-use Rattle.snippet_strokes.proofs.Common.{is_wide_at, bare_row, is_cut, cut_pairs, is_uncut, Write}
+use Rattle.snippet_strokes.proofs.Common.{shown_number_unlisted, IsFree, each_fails, is_bar, AnnotatedLineInfo, LineAnnotation, Cell, DecorStyle, is_listed}
+use Rattle.snippet_strokes.proofs.Common.{norm, char_width, width_of, list_any-norm, char_width-bound, StandsClear, dropped_part, reaching, Margin}
+use Rattle.snippet_strokes.proofs.Common.{reaching-cons, reaching-none, width-cons, Layout, inner_cell, separator_cell, is_end_part, shifted, placed_of}
+use Rattle.snippet_strokes.proofs.Common.{PlacedEntry, Top, OpenBar, LineView, ends_of_bars, overlapped, row_count, line_rows, own_rows, painting_order}
+use Rattle.snippet_strokes.proofs.Common.{info_rows, is_whole_line, source_row, window_cells, highlighted_row, stroke_rows, painted, true, replicate}
+use Rattle.snippet_strokes.proofs.Common.{if◌then◌else◌, list_all, list_any, list_any-IsPermutation, cases_Bool, append_assoc, length-append, length_push}
+use Rattle.snippet_strokes.proofs.Common.{closing_row, separator_row, ArePlaced, is_wide_at, bare_row, is_cut, cut_pairs, is_uncut, Write, rules}
 use Rattle.std.proofs.Common.{chars}
-use Rattle.snippet_strokes.proofs.CellLemmas.{with_parts, cut_row, role_in_source, begun_rows, drawn_strokes, free_shown, unlisted_part}
+use Rattle.snippet_strokes.proofs.CellLemmas.{with_parts, cut_row, begun_rows, drawn_strokes, free_shown, unlisted_part}
 use Rattle.snippet_strokes.proofs.CutWords.{cuts_of, Stretch, cut_rows}
 use Rattle.snippet_strokes.proofs.WriteLaws.{AreLineRows, AreOwnRows, CanBeShown, IsHighlighted, IsSourceRow, ShowsLine, StrokesPainted}
 use Rattle.snippet_strokes.proofs.PlacedOf.{HasTextLabel, placed_of_are, texts-shifted}
@@ -51,34 +50,19 @@ source_row_shows layout shown cells place short free_shown free_cells = source_c
 
 -- the window of a normalised text holds no listed character
 pub free_window : (decor : DecorStyle) (margin : Margin) (line : List ℕ) → IsFree (window_cells decor margin (norm line))
-free_window decor margin line =
-    let left : ℕ = margin.computed_left in
-    let right : ℕ = margin.computed_right in
-    let placeholder : List ℕ = placeholder_of decor in
-    let text : List ℕ = norm line in
-    let inner : List ℕ = inner_part margin.term_width left right text in
-    free_shown decor (covered_columns left placeholder inner) (uncovered_part left placeholder inner)
-    (covered_end margin.term_width left right placeholder text)
-    (unlisted_part left margin.term_width left right placeholder text (each_fails is_listed text (list_any-norm line)))
+free_window decor margin line = search (rules, free_shown, unlisted_part, each_fails, list_any-norm)
 
 -- the source row of a line
 pub line_source_shows : (layout : Layout) (margin : Margin) (numbers : LineNumbers) (index : ℕ) (line : List ℕ) → inner_cell layout ≤ layout.code
     → index < 2 ^ 64 → length (shown_number numbers layout.gutter index) ≤ separator_cell layout
     → IsSourceRow layout (shown_number numbers layout.gutter index) (window_cells layout.decor margin (norm line))
     (source_row layout (shown_number numbers layout.gutter index) (window_cells layout.decor margin (norm line)))
-line_source_shows layout margin numbers index line place small short =
-    source_row_shows layout (shown_number numbers layout.gutter index) (window_cells layout.decor margin (norm line)) place short
-    (shown_number_unlisted numbers layout.gutter index small) (free_window layout.decor margin line)
+line_source_shows layout margin numbers index line place small short = search (rules, source_row_shows, shown_number_unlisted, free_window)
 
 -- a highlighted row, read cell by cell
 pub highlighted_row_is : (code dropped : ℕ) (es : List LineAnnotation) (plain : List Cell)
     → IsHighlighted code dropped es plain (highlighted_row code dropped es plain)
-highlighted_row_is code dropped es plain =
-    let lit : ℕ → Cell = λ c. let cell = get_or plain c SPACE in record cell { role = role_in_source code dropped es c cell.role } in
-    record {
-      width = length-map-range_with_len lit 0 (length plain);
-      cells = λ c within. get_or-map-range_with_len lit 0 (length plain) c c SPACE within (omega arith);
-    }
+highlighted_row_is code dropped es plain = grind (arith, length-map-range_with_len, get_or-map-range_with_len)
 
 -- ---- the rows of its strokes
 
@@ -114,12 +98,7 @@ module _ (layout : Layout) (room : ℕ) (closes : Bool) (text : List ℕ) (dropp
   -- the rows that a line has by its own entries
   pub own_rows_are_rows : (es : List LineAnnotation) (source : List Cell) → All HasTextLabel es
       → AreOwnRows layout room closes text dropped es source (own_rows layout room closes text dropped es source)
-  own_rows_are_rows [] source texts =
-      record {
-        whole = λ is. absurd (false≢true is);
-        none = λ _. refl;
-        strokes = λ _ some. absurd (omega (arith, some));
-      }
+  own_rows_are_rows [] source texts = search rules
   own_rows_are_rows (e ∷ es) source texts =
       let all : List LineAnnotation = e ∷ es in
       let tops : List (List Cell) = with_parts layout Top (ends_of_bars all) source ∷ [] in
@@ -171,16 +150,7 @@ reached_near n (c ∷ cs) =
 -- entries that stand after the padding of the margin's left bound start in no column that is dropped
 pub entries_clear : (margin : Margin) (text : List ℕ) (es : List LineAnnotation) → All (StandsClear margin) es
     → All (λ e. is_bar e.annotation_type ≡ false → width_of (dropped_part margin.computed_left text) ≤ e.start.display) es
-entries_clear margin text es clear k d within columns =
-    let left : ℕ = margin.computed_left in
-    let near = reached_near (window_left left text) text in
-    elim (cases_lt 0 left) [
-      | inl cut ↦ omega (arith, clear k d within columns cut, near)
-      | inr whole ↦
-          let zero : window_left left text ≡ 0 = omega (arith, whole) in
-          let stop : reaching (window_left left text) text ≡ 0 = ap (λ n. reaching n text) zero ∙ reaching-none text in
-          omega (arith, ap (λ n. width_of (take n text)) stop)
-    ]
+entries_clear margin text es clear k d within columns = grind (arith, reached_near, cases_lt, reaching-none)
 
 -- the rows of a line that is shown
 pub info_rows_show : (layout : Layout) (view : LineView) (open_bars : List OpenBar) (info : AnnotatedLineInfo) → inner_cell layout ≤ layout.code
@@ -211,10 +181,7 @@ info_rows_show layout view open_bars info place can =
 begun_below : (layout : Layout) (closes : Bool) (count : ℕ) (above : List (List Cell)) (source : List Cell)
     → (above ++ source ∷ []) ++ replicate (count - 1) (separator_row layout.decor layout.gutter) ++ bare_row layout.decor layout.gutter closes ∷ [] ≡ above
     ++ begun_rows layout closes count source
-begun_below layout closes count above source =
-    let seps = replicate (count - 1) (separator_row layout.decor layout.gutter) in
-    let end = bare_row layout.decor layout.gutter closes ∷ [] in
-    append_assoc (above ++ source ∷ []) seps end ∙ append_assoc above (source ∷ []) (seps ++ end)
+begun_below layout closes count above source = simp (append_assoc)
 
 -- of rows with the strokes of a line the first two are cut where entries are wide
 pub rows_cut : (layout : Layout) (room : ℕ) (closes : Bool) (es : List LineAnnotation) (source : List Cell) (rows : List (List Cell))
@@ -267,27 +234,11 @@ module _ (layout : Layout) (room : ℕ) (closes : Bool) (es : List LineAnnotatio
   all_rows = omega (arith, ap length old_is, length_push above source)
 
   new_below : new ≡ above ++ own
-  new_below =
-      let seps : List (List Cell) = replicate (count - 1) (separator_row layout.decor layout.gutter) in
-      let end : List (List Cell) = bare_row layout.decor layout.gutter closes ∷ [] in
-      let n : ℕ = length above in
-      let begun : old ++ seps ++ end ≡ above ++ bare = ap (λ rs. rs ++ seps ++ end) old_is ∙ begun_below layout closes count above source in
-      let by_row = ap (λ r. painted (drawn_strokes layout r (length old + count) placed order) (old ++ seps ++ end)) row_is in
-      let by_count = ap (λ m. painted (drawn_strokes layout n m placed order) (old ++ seps ++ end)) all_rows in
-      let by_rows = ap (painted (drawn_strokes layout n (n + (count + 1)) placed order)) begun in
-      let lower = ap (λ ws. painted ws (above ++ bare)) (strokes-lowered layout n (count + 1) placed order) in
-      new_is ∙ by_row ∙ by_count ∙ by_rows ∙ lower ∙ painted-below above strokes bare
+  new_below = grind (arith, begun_below, all_rows, strokes-lowered, painted-below)
 
   -- what is cut: where an entry is wide, it is known which are overlapped
   cuts_are : cuts_of layout room order flags ≡ cuts_of layout room order (overlapped placed)
-  cuts_are =
-      elim (cases_Bool (list_any (is_wide_at room layout.decor) placed)) [
-        | inl wide_one ↦ ap (cuts_of layout room order) (flags_are wide_one)
-        | inr narrow ↦
-            let none : list_any (is_wide_at room layout.decor) order ≡ false = sym
-            (list_any-IsPermutation (is_wide_at room layout.decor) placed order (IsPermutation-painting_order placed)) ∙ narrow in
-            cuts_of-narrow layout room order flags none ∙ sym (cuts_of-narrow layout room order (overlapped placed) none)
-      ]
+  cuts_are = grind (arith, cases_Bool, list_any-IsPermutation, IsPermutation-painting_order, cuts_of-narrow)
 
   -- the rows of a line are its strokes, painted, and cut where entries are wide
   pub painted_added : final ≡ above ++ stroke_rows layout room closes es source

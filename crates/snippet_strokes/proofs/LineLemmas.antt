@@ -1,5 +1,5 @@
 -- A glyph that is repeated.
-use Rattle.snippet_strokes.proofs.Common.{◌≡◌, ℕ, zero, suc, ◌+◌, ◌<◌, List, [], ◌∷◌, ◌++◌, length, replicate, refl, subst, sym, ap}
+use Rattle.snippet_strokes.proofs.Common.{◌≡◌, ℕ, zero, suc, ◌+◌, ◌<◌, List, [], ◌∷◌, ◌++◌, length, replicate, refl, sym, ap}
 use Rattle.snippet_strokes.proofs.Common.{◌∙◌, arith, get_or-replicate, length-replicate, replicate-append-replicate, chars_from_encodes, chars-nil}
 use Rattle.snippet_strokes.proofs.Common.{IsAscii-from_all, repeat, IsAscii, encode_utf8, Cell, text_cells, unlinked_cell, ElementStyle}
 use Rattle.std.specs.Str.{chars, IsUtf8}
@@ -25,9 +25,7 @@ some_bytes (b ∷ bs) n ch is some = omega arith
 
 -- a glyph of ASCII, repeated
 pub IsAscii-replicate : (n ch : ℕ) → ch < 128 → IsAscii (replicate n ch)
-IsAscii-replicate n ch small =
-    IsAscii-from_all (replicate n ch) (λ k d within. subst (λ b. b < 128)
-    (sym (get_or-replicate n k ch d (omega (arith, within, length-replicate {A = ℕ} n ch)))) small)
+IsAscii-replicate n ch small = grind (arith, IsAscii-from_all, get_or-replicate, length-replicate)
 
 -- more of the same glyph
 pub glyphs_more : (old new added : List ℕ) (glyph m n all : ℕ) → m + n ≡ all → old ≡ replicate m glyph → added ≡ replicate n glyph → new ≡ old ++ added

@@ -1,7 +1,7 @@
 -- Which entries are overlapped: what the code finds step by step is what the rule says.
 use Rattle.snippet_strokes.proofs.Common.{◌≡◌, ◌∙◌, ℕ, zero, suc, ◌+◌, ◌-◌, ◌≤◌, Bool, true, false, ◌&&◌, ◌||◌, List, []}
 use Rattle.snippet_strokes.proofs.Common.{◌∷◌, ◌++◌, take, drop, length, map, refl, sym, ap, inl, inr, arith, enumerate_from, list_any}
-use Rattle.snippet_strokes.proofs.Common.{slice_index_or, append_assoc, length-append, get_or-append_seam, cases_lt, nat_tests, PlacedEntry, do_overlap}
+use Rattle.snippet_strokes.proofs.Common.{append_assoc, length-append, get_or-append_seam, cases_lt, nat_tests, PlacedEntry, do_overlap}
 use Rattle.snippet_strokes.proofs.Common.{overlapped, sees, is_met, look_ends, meets, overlapped_by}
 use Rattle.std.specs.Prelude.{nat_le, nat_lt}
 
@@ -13,16 +13,9 @@ list_any-and true p xs = refl
 list_any-and false p [] = refl
 list_any-and false p (x ∷ xs) = list_any-and false p xs
 
-swapped : (a b c d : Bool) → ((a || b) || (c || d)) ≡ ((a || c) || (b || d))
-swapped true b c d = refl
-swapped false true true d = refl
-swapped false true false d = refl
-swapped false false true d = refl
-swapped false false false d = refl
-
 list_any-or : {X : Type 0} (p q : X → Bool) (xs : List X) → (list_any p xs || list_any q xs) ≡ list_any (λ x. p x || q x) xs
 list_any-or p q [] = refl
-list_any-or p q (x ∷ xs) = swapped (p x) (list_any p xs) (q x) (list_any q xs) ∙ ap (λ b. (p x || q x) || b) (list_any-or p q xs)
+list_any-or p q (x ∷ xs) = grind (arith, list_any-or p q xs)
 
 -- ---- elements with their numbers
 
@@ -92,17 +85,11 @@ is_seen : (placed : List PlacedEntry) (k n : ℕ) (e : PlacedEntry) → n ≡ k 
     → (meets e (take n placed) || (nat_le 2 k && is_met k e placed (look_ends 0 placed)))
     ≡ list_any (λ y. sees k e y.0 y.1 || sees y.0 y.1 k e) (enumerate_from 0 placed)
 is_seen placed k n e end =
-    let numbered = enumerate_from 0 placed in
     let is_hit : PlacedEntry → Bool = λ other. do_overlap other 0 e in
-    let from_it : meets e (take n placed) ≡ list_any (λ y. sees k e y.0 y.1) numbered =
+    let from_it : meets e (take n placed) ≡ list_any (λ y. sees k e y.0 y.1) (enumerate_from 0 placed) =
     ap (λ m. list_any is_hit (drop 2 (take m placed))) (omega (arith, end))
     ∙ any_within is_hit 2 (k + 1 + e.looked) 0 placed in
-    let to_it : (nat_le 2 k && is_met k e placed (look_ends 0 placed)) ≡ list_any (λ y. sees y.0 y.1 k e) numbered =
-    ap (λ b. nat_le 2 k && b) (met_by_number k e 0 placed)
-    ∙ list_any-and (nat_le 2 k) (λ (y : ℕ × PlacedEntry). nat_lt k (y.0 + 1 + y.1.looked) && do_overlap e 0 y.1) numbered in
-    ap (λ b. b || (nat_le 2 k && is_met k e placed (look_ends 0 placed))) from_it
-    ∙ ap (λ b. list_any (λ y. sees k e y.0 y.1) numbered || b) to_it
-    ∙ list_any-or (λ y. sees k e y.0 y.1) (λ y. sees y.0 y.1 k e) numbered
+    simp (from_it, met_by_number, list_any-and, list_any-or)
 
 -- the flags from one entry on, before which there are so many
 flags_from : (placed : List PlacedEntry) (front : List ℕ) (k : ℕ) (es : List PlacedEntry) → look_ends 0 placed ≡ front ++ look_ends k es → length front ≡ k
@@ -110,15 +97,10 @@ flags_from : (placed : List PlacedEntry) (front : List ℕ) (k : ℕ) (es : List
     ≡ map (λ x. list_any (λ y. sees x.0 x.1 y.0 y.1 || sees y.0 y.1 x.0 x.1) (enumerate_from 0 placed)) (enumerate_from k es)
 flags_from placed front k [] parts count = refl
 flags_from placed front k (e ∷ es) parts count =
-    let numbered = enumerate_from 0 placed in
-    let end : slice_index_or (look_ends 0 placed) k 0 ≡ k + 1 + e.looked = ap (λ ns. slice_index_or ns k 0) parts
-    ∙ ap (λ i. slice_index_or (front ++ look_ends k (e ∷ es)) i 0) (sym count)
-    ∙ get_or-append_seam front (k + 1 + e.looked) (look_ends (k + 1) es) 0 in
     let next : look_ends 0 placed ≡ (front ++ (k + 1 + e.looked) ∷ []) ++ look_ends (k + 1) es = parts
     ∙ sym (append_assoc front ((k + 1 + e.looked) ∷ []) (look_ends (k + 1) es)) in
-    ap (λ b. b ∷ overlapped_by placed (look_ends 0 placed) (k + 1) es) (is_seen placed k (slice_index_or (look_ends 0 placed) k 0) e end)
-    ∙ ap (λ bs. list_any (λ y. sees k e y.0 y.1 || sees y.0 y.1 k e) numbered ∷ bs)
-    (flags_from placed (front ++ (k + 1 + e.looked) ∷ []) (k + 1) es next (omega (arith, count, length-append front ((k + 1 + e.looked) ∷ []))))
+    let rest = flags_from placed (front ++ (k + 1 + e.looked) ∷ []) (k + 1) es next (omega (arith, count, length-append front ((k + 1 + e.looked) ∷ []))) in
+    grind (arith, get_or-append_seam, is_seen)
 
 -- what the code finds is the rule
 pub overlapped_looked : (placed : List PlacedEntry) → overlapped_by placed (look_ends 0 placed) 0 placed ≡ overlapped placed

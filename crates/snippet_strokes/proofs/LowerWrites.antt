@@ -1,11 +1,10 @@
 -- Writes into rows that stand below others are writes into these rows alone.
-use Rattle.snippet_strokes.proofs.Common.{◌≡◌, ℕ, zero, suc, ◌+◌, ◌-◌, ◌==◌, nat_lt, cond, true, false, Bool, List, [], ◌∷◌, ◌++◌}
-use Rattle.snippet_strokes.proofs.Common.{length, map, take, drop, replicate, refl, sym, ap, ◌∙◌, arith, flat_map, range_with_len, map-append}
-use Rattle.snippet_strokes.proofs.Common.{flat_map-cons, row_at, is_primary, Cell, SPACE, text_cells, written, strokes_of, ElementStyle, LineAnnotationType}
-use Rattle.snippet_strokes.proofs.Common.{Singleline, MultilineStart, MultilineEnd, MultilineLine, Layout, PlacedEntry, stroke_role, has_label, has_stem}
-use Rattle.snippet_strokes.proofs.Common.{label_place, connector_of, corner_of, label_of, stem_of, column_of, first_glyph, mark_end, foot_glyph, connectors_of}
-use Rattle.snippet_strokes.proofs.Common.{corners_of, labels_of, is_stem_covered, stems_of, Write, glyph_at, painted, stretch_of}
-use Rattle.snippet_strokes.proofs.CellLemmas.{bar_writes, connector_by, corner_by, drawn_mark, drawn_strokes, marks_of, label_write, line_to, stem_write}
+use Rattle.snippet_strokes.proofs.Common.{◌≡◌, ℕ, zero, suc, ◌+◌, ◌==◌, cond, true, false, Bool, List, [], ◌∷◌, ◌++◌, length, map}
+use Rattle.snippet_strokes.proofs.Common.{refl, sym, ap, ◌∙◌, arith, flat_map, range_with_len, map-append, flat_map-cons, row_at, is_primary, Cell}
+use Rattle.snippet_strokes.proofs.Common.{written, strokes_of, ElementStyle, LineAnnotationType, Singleline, MultilineStart, MultilineEnd, MultilineLine}
+use Rattle.snippet_strokes.proofs.Common.{Layout, PlacedEntry, stroke_role, has_stem, corner_of, stem_of, column_of, foot_glyph, connectors_of, corners_of}
+use Rattle.snippet_strokes.proofs.Common.{labels_of, stems_of, Write, glyph_at, painted, stretch_of, rules}
+use Rattle.snippet_strokes.proofs.CellLemmas.{bar_writes, corner_by, drawn_strokes, marks_of, stem_write}
 use Rattle.snippet_strokes.proofs.CellLemmas.{written_by}
 
 -- a write so many rows farther down
@@ -16,11 +15,7 @@ lowered n w = record w { row = n + w.row }
 
 pub written-cons : (x : List Cell) (xs : List (List Cell)) (at : ℕ) (new : List (List Cell)) → written [] (x ∷ xs) (suc at) new ≡ x ∷ written [] xs at new
 unfolding written
-written-cons x xs at new =
-    let fill : suc at - suc (length xs) ≡ at - length xs = omega arith in
-    let past : suc at + length new ≡ suc (at + length new) = omega arith in
-    ap (λ n. take (suc at) ((x ∷ xs) ++ replicate n []) ++ new ++ drop (suc at + length new) (x ∷ xs)) fill
-    ∙ ap (λ n. (x ∷ take at (xs ++ replicate (at - length xs) [])) ++ new ++ drop n (x ∷ xs)) past
+written-cons x xs at new = search rules
 
 written-below : (above xs : List (List Cell)) (at : ℕ) (new : List (List Cell))
     → written [] (above ++ xs) (length above + at) new ≡ above ++ written [] xs at new
@@ -32,15 +27,10 @@ written-below (x ∷ above) xs at new =
 
 row_at-below : (above xs : List (List Cell)) (r : ℕ) → row_at (above ++ xs) (length above + r) ≡ row_at xs r
 row_at-below [] xs r = ap (row_at xs) (let none : 0 + r ≡ r = omega arith in none)
-row_at-below (x ∷ above) xs r =
-    let next : suc (length above) + r ≡ suc (length above + r) = omega arith in
-    ap (row_at (x ∷ (above ++ xs))) next ∙ row_at-below above xs r
+row_at-below (x ∷ above) xs r = grind (arith, row_at-below above xs r)
 
 painted_one : (above rows : List (List Cell)) (w : Write) → written_by (above ++ rows) (lowered (length above) w) ≡ above ++ written_by rows w
-painted_one above rows w =
-    let cells : List Cell = text_cells w.role w.text in
-    ap (λ row. written [] (above ++ rows) (length above + w.row) (written SPACE row w.cell cells ∷ [])) (row_at-below above rows w.row)
-    ∙ written-below above rows w.row (written SPACE (row_at rows w.row) w.cell cells ∷ [])
+painted_one above rows w = simp (row_at-below, written-below)
 
 -- writes that are lowered past some rows leave these, and paint those below
 pub painted-below : (above : List (List Cell)) (ws : List Write) (rows : List (List Cell))
@@ -55,52 +45,25 @@ painted-below above (w ∷ ws) rows =
 pub flat_map-lowered : {X : Type 0} (n : ℕ) (f g : X → List Write) → ((x : X) → f x ≡ map (lowered n) (g x)) → (xs : List X)
     → flat_map f xs ≡ map (lowered n) (flat_map g xs)
 flat_map-lowered n f g same [] = refl
-flat_map-lowered n f g same (x ∷ xs) =
-    flat_map-cons f x xs ∙ ap (λ ws. ws ++ flat_map f xs) (same x) ∙ ap (λ ws. map (lowered n) (g x) ++ ws) (flat_map-lowered n f g same xs)
-    ∙ sym (ap (map (lowered n)) (flat_map-cons g x xs) ∙ map-append (lowered n) (g x) (flat_map g xs))
+flat_map-lowered n f g same (x ∷ xs) = grind (arith, flat_map-cons, map-append, flat_map-lowered n f g same xs)
 
 stretch-lowered : (n low row from to glyph : ℕ) (role : ElementStyle) → low ≡ n + row
     → stretch_of low from to glyph role ≡ map (lowered n) (stretch_of row from to glyph role)
-stretch-lowered n low row from to glyph role is =
-    ap (λ r. stretch_of r from to glyph role) is ∙ either (nat_lt from to)
-  where
-    w : Write
-    w = record { row = row; cell = from; text = replicate (to - from) glyph; role = role }
-
-    either : (some : Bool) → cond some (lowered n w ∷ []) [] ≡ map (lowered n) (cond some (w ∷ []) [])
-    either true = refl
-    either false = refl
+stretch-lowered n low row from to glyph role is = search rules
 
 -- numbers in a row, each so much greater
 range-lowered : (f g : ℕ → Write) (n a low count : ℕ) → low ≡ n + a → ((r : ℕ) → f (n + r) ≡ lowered n (g r))
     → map f (range_with_len low count) ≡ map (lowered n) (map g (range_with_len a count))
 range-lowered f g n a low zero is same = refl
-range-lowered f g n a low (suc count) is same =
-    ap (λ w. w ∷ map f (range_with_len (low + 1) count)) (ap f is ∙ same a)
-    ∙ ap (λ ws. lowered n (g a) ∷ ws) (range-lowered f g n (a + 1) (low + 1) count (omega (arith, is)) same)
+range-lowered f g n a low (suc count) is same = grind (arith, range-lowered f g n (a + 1) (low + 1) count (omega (arith, is)) same)
 
 column-lowered : (n start end cell glyph : ℕ) (role : ElementStyle)
     → column_of (n + start) (n + end) cell glyph role ≡ map (lowered n) (column_of start end cell glyph role)
-column-lowered n start end cell glyph role =
-    let f : ℕ → Write = λ r. glyph_at r cell glyph role in
-    let many : n + end - (n + start) ≡ end - start = omega arith in
-    ap (λ k. map f (range_with_len (n + start) k)) many ∙ range-lowered f f n start (n + start) (end - start) refl (λ r. refl)
+column-lowered n start end cell glyph role = grind (arith, range-lowered)
 
 module _ (layout : Layout) (n : ℕ) where
   connectors-lowered : (row : ℕ) (es : List PlacedEntry) → connectors_of layout (n + row) es ≡ map (lowered n) (connectors_of layout row es)
-  connectors-lowered row es =
-      flat_map-lowered n (connector_of layout (n + row)) (connector_of layout row) (λ e. by_part e e.entry.annotation_type) es
-    where
-      line : (e : PlacedEntry) (depth : ℕ) → line_to layout (n + row) e depth ≡ map (lowered n) (line_to layout row e depth)
-      line e depth =
-          stretch-lowered n (n + row + e.position) (row + e.position) (layout.gutter + 3 + depth) (layout.code + e.entry.start.display)
-          (strokes_of layout.decor (is_primary e.entry.kind)).connector (stroke_role e) (omega arith)
-
-      by_part : (e : PlacedEntry) (part : LineAnnotationType) → connector_by layout (n + row) e part ≡ map (lowered n) (connector_by layout row e part)
-      by_part e Singleline = refl
-      by_part e (MultilineStart depth) = line e depth
-      by_part e (MultilineEnd depth) = line e depth
-      by_part e (MultilineLine depth) = refl
+  connectors-lowered row es = grind (arith, flat_map-lowered, stretch-lowered)
 
   corners-lowered : (row count : ℕ) (es : List PlacedEntry) → corners_of layout (n + row) (n + count) es ≡ map (lowered n) (corners_of layout row count es)
   corners-lowered row count es =
@@ -166,48 +129,13 @@ module _ (layout : Layout) (n : ℕ) where
 
   stems-lowered : (row : ℕ) (es : List PlacedEntry) → stems_of layout (n + row) es ≡ map (lowered n) (stems_of layout row es)
   stems-lowered row [] = refl
-  stems-lowered row (e ∷ later) =
-      ap (λ ws. ws ++ stems_of layout (n + row) later) (either (is_stem_covered e later))
-      ∙ ap (λ ws. map (lowered n) (cond (is_stem_covered e later) [] (stem_of layout row e)) ++ ws) (stems-lowered row later)
-      ∙ sym (map-append (lowered n) (cond (is_stem_covered e later) [] (stem_of layout row e)) (stems_of layout row later))
-    where
-      either : (hidden : Bool) → cond hidden [] (stem_of layout (n + row) e) ≡ map (lowered n) (cond hidden [] (stem_of layout row e))
-      either true = refl
-      either false = stem-lowered row e
+  stems-lowered row (e ∷ later) = grind (arith, map-append, stem-lowered, stems-lowered row later)
 
   labels-lowered : (row : ℕ) (es : List PlacedEntry) → labels_of layout (n + row) es ≡ map (lowered n) (labels_of layout row es)
-  labels-lowered row es =
-      flat_map-lowered n (label_of layout (n + row)) (label_of layout row) (λ e. either e (has_label e)) es
-    where
-      one : (e : PlacedEntry) → label_write layout (n + row) e ≡ lowered n (label_write layout row e)
-      one e =
-          let w : Write = label_write layout row e in
-          ap (λ (r : ℕ). record w { row = r }) (let same : n + row + (label_place e).0 ≡ n + (row + (label_place e).0) = omega arith in same)
-
-      either : (e : PlacedEntry) (labelled : Bool)
-          → cond labelled (label_write layout (n + row) e ∷ []) [] ≡ map (lowered n) (cond labelled (label_write layout row e ∷ []) [])
-      either e true = ap (λ w. w ∷ []) (one e)
-      either e false = refl
+  labels-lowered row es = grind (arith, flat_map-lowered)
 
   marks-lowered : (row : ℕ) (es : List PlacedEntry) → marks_of layout (n + row) es ≡ map (lowered n) (marks_of layout row es)
-  marks-lowered row es =
-      flat_map-lowered n (drawn_mark layout (n + row)) (drawn_mark layout row) (λ e.
-      either e (nat_lt (layout.code + e.entry.start.display) (layout.code + mark_end e))) es
-    where
-      from : PlacedEntry → ℕ
-      from e = layout.code + e.entry.start.display
-
-      line : PlacedEntry → ℕ → List Write
-      line e r = stretch_of r (layout.code + e.entry.start.display + 1) (layout.code + mark_end e)
-          (strokes_of layout.decor (is_primary e.entry.kind)).underline (stroke_role e)
-
-      first : PlacedEntry → ℕ → Write
-      first e r = glyph_at r (layout.code + e.entry.start.display) (first_glyph layout.decor e) (stroke_role e)
-
-      either : (e : PlacedEntry) (some : Bool) → cond some (first e (n + row) ∷ line e (n + row)) [] ≡ map (lowered n) (cond some (first e row ∷ line e row) [])
-      either e true = ap (λ ws. lowered n (first e row) ∷ ws) (stretch-lowered n (n + row) row (layout.code + e.entry.start.display + 1)
-          (layout.code + mark_end e) (strokes_of layout.decor (is_primary e.entry.kind)).underline (stroke_role e) refl)
-      either e false = refl
+  marks-lowered row es = grind (arith, flat_map-lowered, stretch-lowered)
 
   -- all strokes of a line
   pub strokes-lowered : (count : ℕ) (placed order : List PlacedEntry)

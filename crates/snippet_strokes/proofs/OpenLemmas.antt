@@ -1,26 +1,19 @@
 -- Which bars are open, and where they have their place.
-use Rattle.snippet_strokes.proofs.Common.{◌≡◌, ℕ, ◌+◌, ◌<◌, ◌++◌, ◌∷◌, [], Bool, Option, None, Some, List, All, length, take, get_or}
-use Rattle.snippet_strokes.proofs.Common.{refl, sym, ap, ◌∙◌, arith, filter_map, option_to_list, take_more, All-append, All-cons, All-nil, All-filter}
-use Rattle.snippet_strokes.proofs.Common.{All-same, All-tail, filter_map-append, LineAnnotation, LineAnnotationType, Singleline, MultilineStart, MultilineEnd}
-use Rattle.snippet_strokes.proofs.Common.{MultilineLine, Layout, OpenBar, is_primary, bar_at, bars_apart, ends_of_bars, HasBarRoom, bar_of, has_depth}
-use Rattle.snippet_strokes.proofs.Common.{open_below, HasBarCell, HasBarCellAt}
+use Rattle.snippet_strokes.proofs.Common.{◌≡◌, ℕ, ◌+◌, ◌<◌, ◌++◌, ◌∷◌, [], Bool, Option, List, All, length, take, get_or, arith}
+use Rattle.snippet_strokes.proofs.Common.{option_to_list, take_more, All-append, All-cons, All-nil, All-filter, All-same, All-tail, filter_map-append}
+use Rattle.snippet_strokes.proofs.Common.{LineAnnotation, LineAnnotationType, Singleline, MultilineStart, MultilineEnd, MultilineLine, Layout, OpenBar}
+use Rattle.snippet_strokes.proofs.Common.{is_primary, bar_at, bars_apart, ends_of_bars, HasBarRoom, bar_of, has_depth, open_below, HasBarCell, HasBarCellAt}
+use Rattle.snippet_strokes.proofs.Common.{common_steps, nat_tests, rules}
 use Rattle.std.specs.Prelude.{not}
 
 -- the bars of one entry
 one_end : (e : LineAnnotation) → ends_of_bars (e ∷ []) ≡ option_to_list (bar_of e)
-one_end e = known (bar_of e)
-  where
-    known : (o : Option OpenBar) → filter_map (λ (p : Option OpenBar). p) (o ∷ []) ≡ option_to_list o
-    known None = refl
-    known (Some bar) = refl
+one_end e = search rules
 
 -- one entry more is read
 pub ends_more : (es : List LineAnnotation) (i : ℕ) (d : LineAnnotation) (bars next : List OpenBar) (found : Option OpenBar) → i < length es
     → bars ≡ ends_of_bars (take i es) → found ≡ bar_of (get_or es i d) → next ≡ bars ++ option_to_list found → next ≡ ends_of_bars (take (i + 1) es)
-ends_more es i d bars next found within before is pushed =
-    let e = get_or es i d in
-    pushed ∙ ap (λ bs. bs ++ option_to_list found) before ∙ sym (ap ends_of_bars (take_more es i d within) ∙ filter_map-append bar_of (take i es) (e ∷ [])
-    ∙ ap (λ bs. ends_of_bars (take i es) ++ bs) (one_end e ∙ ap option_to_list (sym is)))
+ends_more es i d bars next found within before is pushed = grind (arith, common_steps, nat_tests, take_more, filter_map-append, one_end)
 
 -- the bar of an entry has its place where the entry has
 room_at : (layout : Layout) (t : LineAnnotationType) (primary : Bool) → HasBarCellAt layout t → All (HasBarRoom layout) (option_to_list (bar_at t primary))
@@ -50,7 +43,4 @@ room_apart layout bars others all =
 -- the bars that are open below a line have room, where those above it and its entries' bars do
 pub room_below : (layout : Layout) (bars : List OpenBar) (es : List LineAnnotation) → All (HasBarRoom layout) bars → All (HasBarCell layout) es
     → All (HasBarRoom layout) (open_below bars es)
-room_below layout bars es all bar_cells =
-    let ends = ends_of_bars es in
-    All-append (HasBarRoom layout) (bars_apart bars ends) (bars_apart ends bars) (room_apart layout bars ends all)
-    (room_apart layout ends bars (room_ends layout es bar_cells))
+room_below layout bars es all bar_cells = search (rules, All-append, room_apart, room_ends)

@@ -1,11 +1,11 @@
 -- The order that entries are painted in.
-use Rattle.snippet_strokes.proofs.Common.{◌≡◌, ℕ, zero, suc, ◌≤◌, ◌==◌, ◌&&◌, ◌||◌, nat_lt, not, Bool, true, false, List, []}
-use Rattle.snippet_strokes.proofs.Common.{◌∷◌, map, get_or, refl, All, ◌<◌, ◌++◌, ◌∙◌, ap, sym, subst, arith, inl, inr, nat_cmp, is_lt}
-use Rattle.snippet_strokes.proofs.Common.{reverse, IsStrictWeakOrder, IsPermutation, IsSortedBy, IsStableBy, ordering_then, bool_cmp, Reverse, cases_Bool}
-use Rattle.snippet_strokes.proofs.Common.{cond-false, cond-true, nat_tests, reverse-append, All-cons, All-nil, All-head, All-tail, All-permutation}
-use Rattle.snippet_strokes.proofs.Common.{IsPermutation-cons, IsPermutation-middle, IsPermutation-refl, IsPermutation-sym, IsPermutation-trans, ordered_by}
-use Rattle.snippet_strokes.proofs.Common.{put_in, All-put_in, map-ordered_by, sorted-only, LineAnnotation, PlacedEntry, entry_width, is_primary}
-use Rattle.snippet_strokes.proofs.Common.{is_painted_before, painting_order, sorted_same, stable_same}
+use Rattle.snippet_strokes.proofs.Common.{◌≡◌, ℕ, zero, suc, ◌==◌, ◌&&◌, ◌||◌, nat_lt, not, Bool, true, false, List, [], ◌∷◌, map}
+use Rattle.snippet_strokes.proofs.Common.{get_or, refl, All, ◌<◌, ◌++◌, ◌∙◌, ap, sym, subst, arith, inl, inr, nat_cmp, is_lt, reverse}
+use Rattle.snippet_strokes.proofs.Common.{IsStrictWeakOrder, IsPermutation, IsSortedBy, IsStableBy, ordering_then, bool_cmp, Reverse, cases_Bool, cond-false}
+use Rattle.snippet_strokes.proofs.Common.{cond-true, nat_tests, reverse-append, All-cons, All-nil, All-head, All-tail, All-permutation, IsPermutation-cons}
+use Rattle.snippet_strokes.proofs.Common.{IsPermutation-middle, IsPermutation-refl, IsPermutation-sym, IsPermutation-trans, ordered_by, put_in, All-put_in}
+use Rattle.snippet_strokes.proofs.Common.{map-ordered_by, sorted-only, LineAnnotation, PlacedEntry, entry_width, is_primary, is_painted_before, painting_order}
+use Rattle.snippet_strokes.proofs.Common.{sorted_same, stable_same, rules}
 use Rattle.snippet_strokes.proofs.PaintedMarks.{CoversOver, IsPaintingOrder}
 
 -- the key that entries are sorted by
@@ -16,11 +16,7 @@ CoversOver-refl : (e : LineAnnotation) → CoversOver e e
 CoversOver-refl e = record { narrower = omega arith; primary = λ _ h. h }
 
 CoversOver-trans : (a b c : LineAnnotation) → CoversOver a b → CoversOver b c → CoversOver a c
-CoversOver-trans a b c first second =
-    record {
-      narrower = omega (arith, first.narrower, second.narrower);
-      primary = λ same is. second.primary (omega (arith, first.narrower, second.narrower)) (first.primary (omega (arith, first.narrower, second.narrower)) is);
-    }
+CoversOver-trans a b c first second = search rules
 
 -- the code's order of painting is that of the definition
 abbrev pub paint_less : PlacedEntry → PlacedEntry → Bool
@@ -53,48 +49,25 @@ paint_chain m n o false false false g h = grind (arith, nat_tests, g, h)
 
 paint_order : IsStrictWeakOrder painted_before
 unfolding painted_before
-paint_order = record {
-  one_way = λ x y h. paint_one_way (entry_width x.entry) (entry_width y.entry) (is_primary x.entry.kind) (is_primary y.entry.kind) h;
-  chain = λ x y z g h. paint_chain (entry_width x.entry) (entry_width y.entry) (entry_width z.entry) (is_primary x.entry.kind) (is_primary y.entry.kind)
-      (is_primary z.entry.kind) g h;
-}
+paint_order = grind (arith, paint_one_way, paint_chain)
 
 -- entries that are sorted stably by the code's test stand in the order of painting
 pub painting_order_of_sort : (given sorted : List PlacedEntry) → IsSortedBy paint_less sorted → IsStableBy paint_less given sorted
     → sorted ≡ painting_order given
 unfolding painted_before
-painting_order_of_sort given sorted up stable =
-    let same : (x y : PlacedEntry) → paint_less x y ≡ painted_before x y = λ x y.
-    paint_tells (entry_width x.entry) (entry_width y.entry) (is_primary x.entry.kind) (is_primary y.entry.kind) in
-    sorted-only painted_before paint_order given sorted (sorted_same paint_less painted_before same sorted up)
-    (stable_same paint_less painted_before same given sorted stable)
+painting_order_of_sort given sorted up stable = search (rules, painted_before, paint_tells, sorted-only, paint_order, sorted_same, stable_same)
 
 -- each entry may be painted over all before it
 abbrev AllCover : List LineAnnotation → Type 0
 AllCover [] = Unit {0}
 AllCover (e ∷ es) = All (CoversOver e) es × AllCover es
 
--- what the test says of widths and kinds: where it answers yes the second may cover the first, and else the first the second
-paint_yes : (m n : ℕ) (x y : Bool) → (nat_lt n m || (m == n && (not x && y))) ≡ true → (n ≤ m) × (n ≡ m → x ≡ true → y ≡ true)
-paint_yes m n true true h = (grind (arith, nat_tests, h), λ _ _. refl)
-paint_yes m n true false h = (grind (arith, nat_tests, h), λ same _. grind (arith, nat_tests, h))
-paint_yes m n false true h = (grind (arith, nat_tests, h), λ _ _. refl)
-paint_yes m n false false h = (grind (arith, nat_tests, h), λ _ never. never)
-
-paint_no : (m n : ℕ) (x y : Bool) → (nat_lt n m || (m == n && (not x && y))) ≡ false → (m ≤ n) × (m ≡ n → y ≡ true → x ≡ true)
-paint_no m n true y h = (grind (arith, nat_tests, h), λ _ _. refl)
-paint_no m n false true h = (grind (arith, nat_tests, h), λ same _. grind (arith, nat_tests, h))
-paint_no m n false false h = (grind (arith, nat_tests, h), λ _ never. never)
-
+-- where the test answers yes the second may cover the first, and else the first the second
 covers_after : (e f : LineAnnotation) → is_painted_before e f ≡ true → CoversOver e f
-covers_after e f is =
-    let step = paint_yes (entry_width e) (entry_width f) (is_primary e.kind) (is_primary f.kind) is in
-    record { narrower = step.0; primary = step.1 }
+covers_after e f is = search rules
 
 covers_before : (e f : LineAnnotation) → is_painted_before e f ≡ false → CoversOver f e
-covers_before e f is =
-    let step = paint_no (entry_width e) (entry_width f) (is_primary e.kind) (is_primary f.kind) is in
-    record { narrower = step.0; primary = step.1 }
+covers_before e f is = search rules
 
 AllCover-put_in : (e : LineAnnotation) (fs : List LineAnnotation) → AllCover fs → AllCover (put_in is_painted_before e fs)
 AllCover-put_in e [] up = (All-nil (CoversOver e), tt)
@@ -161,20 +134,14 @@ Widens width (e ∷ es) = (width < entry_width e.entry) × Widens (entry_width e
 
 all_wider : (width : ℕ) (es : List PlacedEntry) → Widens width es → All (λ (e : PlacedEntry). width < entry_width e.entry) es
 all_wider width [] up = All-nil (λ (e : PlacedEntry). width < entry_width e.entry)
-all_wider width (e ∷ es) up =
-    All-cons (λ (e : PlacedEntry). width < entry_width e.entry) e es up.0
-    (λ k d within. omega (arith, up.0, all_wider (entry_width e.entry) es up.1 k d within))
+all_wider width (e ∷ es) up = grind (arith, All-cons, all_wider (entry_width e.entry) es up.1)
 
 -- an entry comes after all that are wider
 put_last : (e : PlacedEntry) (fs : List PlacedEntry) → All (λ (f : PlacedEntry). entry_width e.entry < entry_width f.entry) fs
     → put_in (λ (x y : PlacedEntry). is_painted_before x.entry y.entry) e fs ≡ fs ++ e ∷ []
 put_last e [] wider = refl
 put_last e (f ∷ fs) wider =
-    let before : PlacedEntry → PlacedEntry → Bool = λ x y. is_painted_before x.entry y.entry in
-    let first : entry_width e.entry < entry_width f.entry = All-head (λ (g : PlacedEntry). entry_width e.entry < entry_width g.entry) f fs wider in
-    let over : before f e ≡ true = grind (arith, nat_tests, first) in
-    cond-true (before f e) (f ∷ put_in before e fs) (e ∷ f ∷ fs) over
-    ∙ ap (λ gs. f ∷ gs) (put_last e fs (All-tail (λ (g : PlacedEntry). entry_width e.entry < entry_width g.entry) f fs wider))
+    grind (arith, All-head, cond-true, All-tail, put_last e fs (All-tail (λ (g : PlacedEntry). entry_width e.entry < entry_width g.entry) f fs wider))
 
 -- so where each is wider than the one before it, the order turned round is that of painting
 pub reversed_order : (width : ℕ) (es : List PlacedEntry) → Widens width es → reverse es ≡ painting_order es

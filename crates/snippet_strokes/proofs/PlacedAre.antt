@@ -1,7 +1,7 @@
 -- The entries of a line that are placed are those of the value.
 use Rattle.snippet_strokes.proofs.Common.{◌≡◌, ℕ, List, [], ◌∷◌, map, All, refl, sym, ap, ◌∙◌, zip, All-head, All-tail, ordered_by}
 use Rattle.snippet_strokes.proofs.Common.{LineAnnotation, PlacedEntry, is_placed_before, line_positions, look_counts, placed_of, ArePlaced, HasItsBytes}
-use Rattle.snippet_strokes.proofs.Common.{unplaced, line_positions-changed, look_counts-changed, placed_of-at, labelled, placed_at}
+use Rattle.snippet_strokes.proofs.Common.{unplaced, line_positions-changed, look_counts-changed, placed_of-at, labelled, placed_at, arith}
 
 line_positions-unplaced : (es : List PlacedEntry) → line_positions (map unplaced es) ≡ line_positions es
 line_positions-unplaced = line_positions-changed unplaced (λ e. refl) (λ e. refl) (λ p e. refl) refl
@@ -15,10 +15,7 @@ its_label e has = ap (λ bytes. record e { label = bytes }) has
 
 all_unplaced : (es : List PlacedEntry) → All HasItsBytes es → map unplaced es ≡ map unplaced (labelled (map (λ (e : PlacedEntry). e.entry) es))
 all_unplaced [] has = refl
-all_unplaced (e ∷ es) has =
-    let rest = map unplaced (labelled (map (λ (x : PlacedEntry). x.entry) es)) in
-    ap (λ xs. unplaced e ∷ xs) (all_unplaced es (All-tail HasItsBytes e es has))
-    ∙ ap (λ x. unplaced x ∷ rest) (its_label e (All-head HasItsBytes e es has))
+all_unplaced (e ∷ es) has = grind (arith, its_label, All-head, all_unplaced es (All-tail HasItsBytes e es has))
 
 -- the positions of entries, each with its count
 abbrev places : List PlacedEntry → List (ℕ × ℕ)
@@ -26,9 +23,7 @@ places es = zip (map (λ (e : PlacedEntry). e.position) es) (map (λ (e : Placed
 
 all_placed : (es : List PlacedEntry) → All HasItsBytes es → es ≡ map placed_at (zip (map (λ (e : PlacedEntry). e.entry) es) (places es))
 all_placed [] has = refl
-all_placed (e ∷ es) has =
-    let rest = map placed_at (zip (map (λ (x : PlacedEntry). x.entry) es) (places es)) in
-    ap (λ xs. e ∷ xs) (all_placed es (All-tail HasItsBytes e es has)) ∙ ap (λ x. x ∷ rest) (its_label e (All-head HasItsBytes e es has))
+all_placed (e ∷ es) has = grind (arith, its_label, All-head, all_placed es (All-tail HasItsBytes e es has))
 
 -- entries that are placed are the placed entries of the line
 pub placed_are : (es : List LineAnnotation) (placed : List PlacedEntry) → ArePlaced es placed → placed ≡ placed_of es

@@ -1,11 +1,10 @@
 -- The placed entries of a line, as the value that the rule gives: they are placed as painters place them, where labels are texts.
-use Rattle.snippet_strokes.proofs.Common.{◌≡◌, ℕ, suc, zero, ◌≤◌, ◌==◌, ◌&&◌, ◌||◌, true, false, IfSome, List, [], ◌∷◌}
-use Rattle.snippet_strokes.proofs.Common.{◌++◌, Option, None, Some, All, IsUtf8, encode_utf8_all, get_or, length, map, nat_lt, refl, sym, ap, ◌∙◌}
-use Rattle.snippet_strokes.proofs.Common.{subst, arith, inl, inr, scalars, flat_map, zip, cases_Bool, cond-false, cond-true, nat_tests, length-map, All-cons}
-use Rattle.snippet_strokes.proofs.Common.{All-head, All-nil, All-tail, IsPermutation-map, chars-encodes, chars-nil, scalars-chars, ordered_by, put_in}
-use Rattle.snippet_strokes.proofs.Common.{All-put_in, LineAnnotation, norm, shown, shifted, is_placed_before, line_positions, look_counts, placed_of}
-use Rattle.snippet_strokes.proofs.Common.{position_after, position_at, ArePlaced, HasItsBytes, HasItsLabel, IsFromRight, StandsLeft, unplaced, PlacedEntry}
-use Rattle.snippet_strokes.proofs.Common.{label_chars, labelled, label_text, placed_at, ArePlaced-from, placed_of-at}
+use Rattle.snippet_strokes.proofs.Common.{◌≡◌, ℕ, suc, zero, true, false, IfSome, List, [], ◌∷◌, ◌++◌, All, IsUtf8, encode_utf8_all, get_or}
+use Rattle.snippet_strokes.proofs.Common.{length, map, refl, sym, ap, ◌∙◌, subst, arith, inl, inr, scalars, zip, cases_Bool, cond-false, cond-true}
+use Rattle.snippet_strokes.proofs.Common.{nat_tests, length-map, All-cons, All-head, All-nil, All-tail, IsPermutation-map, chars-encodes, chars-nil}
+use Rattle.snippet_strokes.proofs.Common.{scalars-chars, ordered_by, put_in, All-put_in, LineAnnotation, norm, shown, shifted, is_placed_before, line_positions}
+use Rattle.snippet_strokes.proofs.Common.{look_counts, placed_of, position_after, position_at, ArePlaced, HasItsBytes, HasItsLabel, IsFromRight, StandsLeft}
+use Rattle.snippet_strokes.proofs.Common.{unplaced, PlacedEntry, labelled, label_text, placed_at, ArePlaced-from, placed_of-at, rules}
 use Rattle.std.proofs.Common.{chars}
 use Rattle.snippet_strokes.proofs.PositionLemmas.{length-line_positions}
 use Rattle.snippet_strokes.proofs.PaintOrder.{IsPermutation-ordered_by}
@@ -18,9 +17,7 @@ HasTextLabel e = IfSome e.label IsUtf8
 
 scalars-append : (xs ys : List ℕ) → scalars xs ≡ true → scalars ys ≡ true → scalars (xs ++ ys) ≡ true
 scalars-append [] ys first rest = rest
-scalars-append (x ∷ xs) ys first rest =
-    let later : scalars (xs ++ ys) ≡ true = scalars-append xs ys (grind (arith, first)) rest in
-    grind (arith, first, later)
+scalars-append (x ∷ xs) ys first rest = grind (arith, scalars, scalars-append xs ys (grind (arith, first)) rest)
 
 scalars-shown : (c : ℕ) → scalars (c ∷ []) ≡ true → scalars (shown c) ≡ true
 scalars-shown c is = grind (arith, nat_tests, is)
@@ -28,48 +25,23 @@ scalars-shown c is = grind (arith, nat_tests, is)
 scalars-norm : (cs : List ℕ) → scalars cs ≡ true → scalars (norm cs) ≡ true
 unfolding norm
 scalars-norm [] are = refl
-scalars-norm (c ∷ cs) are =
-    let later : scalars (flat_map shown cs) ≡ true = scalars-norm cs (grind (arith, are)) in
-    scalars-append (shown c) (flat_map shown cs) (scalars-shown c (grind (arith, are))) later
+scalars-norm (c ∷ cs) are = grind (arith, scalars, scalars-append, scalars-shown, scalars-norm cs (grind (arith, are)))
 
 -- the bytes of a label spell the characters that it shows
 label_spelled : (e : LineAnnotation) → HasTextLabel e → chars (encode_utf8_all (label_text e)) ≡ label_text e
-label_spelled e = by_label e.label
-  where
-    by_label : (label : Option (List ℕ)) → IfSome label IsUtf8
-        → chars (encode_utf8_all (label_chars label)) ≡ label_chars label
-    by_label None text = chars-nil
-    by_label (Some t) text = chars-encodes (norm (chars t)) (scalars-norm (chars t) (scalars-chars t text))
+label_spelled e = grind (arith, chars-nil, chars-encodes, scalars-norm, scalars-chars)
 
 -- ---- the order from right to left
 
 -- of two entries the one that is placed first stands no farther left
-first_right : (a b c d : ℕ) → (nat_lt b a || (a == b && nat_lt d c)) ≡ true → (b ≤ a) × (b ≡ a → d ≤ c)
-first_right a b c d is = (grind (arith, nat_tests, is), λ same. grind (arith, nat_tests, is, same))
-
-not_first : (a b c d : ℕ) → (nat_lt b a || (a == b && nat_lt d c)) ≡ false → (a ≤ b) × (a ≡ b → c ≤ d)
-not_first a b c d is = (grind (arith, nat_tests, is), λ same. grind (arith, nat_tests, is, same))
-
 StandsLeft-before : (e f : LineAnnotation) → is_placed_before e f ≡ true → StandsLeft e f
-StandsLeft-before e f is =
-    let told = first_right e.start.display f.start.display e.start.char f.start.char is in
-    record { column = told.0; character = told.1 }
+StandsLeft-before e f is = search rules
 
 StandsLeft-after : (e f : LineAnnotation) → is_placed_before e f ≡ false → StandsLeft f e
-StandsLeft-after e f is =
-    let told = not_first e.start.display f.start.display e.start.char f.start.char is in
-    record { column = told.0; character = told.1 }
+StandsLeft-after e f is = search rules
 
 StandsLeft-over : (a b c : LineAnnotation) → StandsLeft a b → StandsLeft b c → StandsLeft a c
-StandsLeft-over a b c first second =
-    record {
-      column = omega (arith, first.column, second.column);
-      character = λ same. omega (
-        arith,
-        first.character (omega (arith, first.column, second.column, same)),
-        second.character (omega (arith, first.column, second.column, same)),
-      );
-    }
+StandsLeft-over a b c first second = search rules
 
 -- each entry of a list stands right of all after it
 abbrev Falls : List LineAnnotation → Type 0
@@ -112,9 +84,7 @@ entries-labelled (e ∷ es) = ap (λ xs. e ∷ xs) (entries-labelled es)
 
 labels-labelled : (es : List LineAnnotation) → All HasTextLabel es → All HasItsLabel (labelled es)
 labels-labelled [] texts = All-nil HasItsLabel
-labels-labelled (e ∷ es) texts =
-    All-cons HasItsLabel (placed_at (e, (0, 0))) (labelled es) (label_spelled e (All-head HasTextLabel e es texts))
-    (labels-labelled es (All-tail HasTextLabel e es texts))
+labels-labelled (e ∷ es) texts = grind (arith, All-cons, label_spelled, All-head, All-tail, labels-labelled es (All-tail HasTextLabel e es texts))
 
 bytes-labelled : (es : List LineAnnotation) → All HasItsBytes (labelled es)
 bytes-labelled [] = All-nil HasItsBytes
@@ -176,6 +146,4 @@ placed_of_are es texts =
 -- columns that are dropped are none of a label's
 pub texts-shifted : (dropped : ℕ) (es : List LineAnnotation) → All HasTextLabel es → All HasTextLabel (map (shifted dropped) es)
 texts-shifted dropped [] texts = All-nil HasTextLabel
-texts-shifted dropped (e ∷ es) texts =
-    All-cons HasTextLabel (shifted dropped e) (map (shifted dropped) es) (All-head HasTextLabel e es texts)
-    (texts-shifted dropped es (All-tail HasTextLabel e es texts))
+texts-shifted dropped (e ∷ es) texts = grind (arith, All-cons, All-head, All-tail, texts-shifted dropped es (All-tail HasTextLabel e es texts))

@@ -1,12 +1,10 @@
 -- The positions of labels.
-use Rattle.snippet_strokes.proofs.Common.{◌≡◌, ℕ, suc, ◌+◌, ◌-◌, ◌<◌, ◌≤◌, ◌^◌, ◌==◌, ◌&&◌, ◌||◌, cond, max, nat_lt, not}
-use Rattle.snippet_strokes.proofs.Common.{None, Some, Bool, true, false, List, [], ◌∷◌, length, map, fold, get_or, refl, sym, ap, ◌∙◌, subst, arith}
-use Rattle.snippet_strokes.proofs.Common.{inl, inr, All, list_any, position, position_or_len, cases_Bool, cases_eq, eq-eqb, ltb-true, and_parts, nat_tests}
-use Rattle.snippet_strokes.proofs.Common.{length-map, get_or-map, All-cons, All-nil, All-head, All-tail, All-map, list_any_none, AllPass-from_list_all}
-use Rattle.snippet_strokes.proofs.Common.{LineAnnotation, PlacedEntry, has_label, takes_space, has_stem, is_start_part, are_starts, crosses, position_at}
-use Rattle.snippet_strokes.proofs.Common.{position_after, positions, line_positions, label_place, look_counts, looked_after, row_count, HasRows, greatest}
-use Rattle.snippet_strokes.proofs.Common.{lowest_position, ArePlaced, HasPlace, crowds, flipped, is_start, up_to}
-use Rattle.snippet_strokes.proofs.CellLemmas.{above_zero}
+use Rattle.snippet_strokes.proofs.Common.{◌≡◌, ℕ, suc, ◌+◌, ◌-◌, ◌<◌, ◌≤◌, ◌^◌, ◌==◌, ◌&&◌, ◌||◌, cond, max, nat_lt}
+use Rattle.snippet_strokes.proofs.Common.{Bool, true, false, List, [], ◌∷◌, length, map, fold, get_or, refl, sym, ap, ◌∙◌, subst, arith, All}
+use Rattle.snippet_strokes.proofs.Common.{list_any, cases_Bool, ltb-true, and_parts, length-map, get_or-map, All-cons, All-nil, All-head, All-tail, All-map}
+use Rattle.snippet_strokes.proofs.Common.{list_any_none, AllPass-from_list_all, LineAnnotation, PlacedEntry, has_label, takes_space, has_stem, are_starts}
+use Rattle.snippet_strokes.proofs.Common.{crosses, position_at, position_after, positions, line_positions, label_place, look_counts, row_count, HasRows}
+use Rattle.snippet_strokes.proofs.Common.{greatest, lowest_position, ArePlaced, HasPlace, crowds, flipped, rules}
 
 -- there are as many positions as entries
 pub length-positions : (p : ℕ) (es : List PlacedEntry) → length (positions p es) ≡ length es
@@ -15,11 +13,7 @@ length-positions p (e ∷ others) =
     ap suc (length-positions (position_after (position_at p e others) e others) others)
 
 pub length-line_positions : (es : List PlacedEntry) → length (line_positions es) ≡ length es
-length-line_positions es =
-    elim (are_starts es) as (λ b. length (cond b (flipped (positions 0 es)) (positions 0 es)) ≡ length es) [
-      | true ↦ length-map (positions 0 es) (λ p. greatest (positions 0 es) - p) ∙ length-positions 0 es
-      | false ↦ length-positions 0 es
-    ]
+length-line_positions es = grind (arith, length-map, length-positions)
 
 -- the positions of a list that has no labels
 pub positions-unlabelled : (p : ℕ) (es : List PlacedEntry) → All (λ e. has_label e ≡ false) es → All (λ e. takes_space e ≡ false) es
@@ -53,11 +47,7 @@ positions-unlabelled p (e ∷ others) none flat =
 
 -- the positions of a list of one
 pub positions_sole : (e : PlacedEntry) → positions 0 (e ∷ []) ≡ 0 ∷ []
-positions_sole e = ap (λ (q : ℕ). q ∷ []) (nothing (has_label e))
-  where
-    nothing : (b : Bool) → (let q : ℕ = cond (b && false) 1 0 in q) ≡ 0
-    nothing true = refl
-    nothing false = refl
+positions_sole e = search rules
 
 -- positions are as low as there are entries
 pub positions_low : (p n : ℕ) (es : List PlacedEntry) → max p 1 + length es ≤ n + 1 → All (λ q. q ≤ n) (positions p es)
@@ -84,9 +74,7 @@ fold-max_ge (e ∷ es) m = omega (arith, fold-max_ge es (max m e.position))
 
 fold-max_all : (es : List PlacedEntry) (m : ℕ) → All (λ (e : PlacedEntry). e.position ≤ fold (λ lowest (f : PlacedEntry). max lowest f.position) m es) es
 fold-max_all [] m = All-nil (λ (e : PlacedEntry). e.position ≤ m)
-fold-max_all (e ∷ es) m =
-    All-cons (λ (f : PlacedEntry). f.position ≤ fold (λ lowest (g : PlacedEntry). max lowest g.position) (max m e.position) es) e es
-    (omega (arith, fold-max_ge es (max m e.position))) (fold-max_all es (max m e.position))
+fold-max_all (e ∷ es) m = grind (arith, All-cons, fold-max_ge, fold-max_all es (max m e.position))
 
 pub positions_at_most : (es : List PlacedEntry) → All (λ e. e.position ≤ lowest_position es) es
 positions_at_most es = fold-max_all es 0
@@ -116,72 +104,23 @@ of_positions = of_numbers (λ e. e.position)
 
 -- where a label begins: in a row that is there, and not left of its entry
 pub label_stands : (row n : ℕ) (e : PlacedEntry) → HasRows row n e → HasPlace e.entry → has_label e ≡ true → row + (label_place e).0 < n
-label_stands row n e rows place labelled =
-    elim (cases_eq e.position 0) [
-      | inl zero_here ↦ rw (eq-eqb e.position 0 zero_here) (omega (arith, rows.mark, zero_here))
-      | inr some ↦
-          let hung : 0 < e.position = omega (arith, some) in
-          rw (above_zero e.position hung) (omega (arith, rows.label hung labelled))
-    ]
+label_stands row n e rows place labelled = search rules
 
 -- a label's column isn't left of its entry, and fits
 pub label_column : (e : PlacedEntry) → HasPlace e.entry → (e.entry.start.display ≤ (label_place e).1) × ((label_place e).1 < 2 ^ 61)
-label_column e place =
-    elim (cases_eq e.position 0) [
-      | inl zero_here ↦ rw (eq-eqb e.position 0 zero_here) (elim (cases_eq e.entry.end.display 0) [
-        | inl none ↦ rw (eq-eqb e.entry.end.display 0 none) (omega (arith, place.ordered, none), omega arith)
-        | inr more ↦ rw (above_zero e.entry.end.display (omega (arith, more))) (omega (arith, place.ordered), omega (arith, place.near))
-      ])
-      | inr some ↦
-          let hung : 0 < e.position = omega (arith, some) in
-          rw (above_zero e.position hung) (omega arith, omega (arith, place.ordered, place.near))
-    ]
+label_column e place = search rules
 
 -- an entry without a label has no stem where it takes no space, nor has one at position 0
 pub stemless_bare : (e : PlacedEntry) → has_label e ≡ false → takes_space e ≡ false → has_stem e ≡ false
-stemless_bare e bare flat =
-    ap (λ b. nat_lt 0 e.position && (b || takes_space e)) bare ∙ ap (λ b. nat_lt 0 e.position && b) flat ∙ none (nat_lt 0 e.position)
-  where
-    none : (b : Bool) → (b && false) ≡ false
-    none true = refl
-    none false = refl
+stemless_bare e bare flat = search rules
 
 -- an entry whose label stands beside the marks has no stem
 pub stemless_beside : (e : PlacedEntry) → e.position ≡ 0 → has_stem e ≡ false
 stemless_beside e beside = ap (λ n. nat_lt 0 n && (has_label e || takes_space e)) beside
 
--- at position 0 a label begins in the row of the marks, one column after its entry
-pub label_beside : (e : PlacedEntry) → e.position ≡ 0 → 0 < e.entry.end.display → label_place e ≡ (0, e.entry.end.display + 1)
-label_beside e beside some = rw (eq-eqb e.position 0 beside, above_zero e.entry.end.display some) refl
-
 -- the rows down to each label are among those that are begun
 pub HasRows-row_count : (row n : ℕ) (es : List PlacedEntry) → n ≡ row + row_count es → All (HasRows row n) es
-HasRows-row_count row n es is k d within =
-    let e : PlacedEntry = get_or es k d in
-    let low : e.position ≤ lowest_position es = positions_at_most es k d within in
-    record {
-      mark = omega (arith, is, low, deep (lowest_position es) (are_starts es));
-      label = λ hung labelled. elim (cases_Bool (are_starts es)) [
-        | inl starts ↦ cc (startless e (AllPass-from_list_all is_start es starts k d within), labelled)
-        | inr others ↦
-            omega (arith, is, low, deeper (lowest_position es) (are_starts es) others (omega (arith, low, hung)))
-      ];
-    }
-  where
-    deep : (n : ℕ) (b : Bool) → n + 1 ≤ cond (n == 0) 1 (cond b (n + 1) (n + 2))
-    deep n true = grind (arith, nat_tests)
-    deep n false = grind (arith, nat_tests)
-
-    deeper : (n : ℕ) (b : Bool) → b ≡ false → 0 < n → n + 2 ≤ cond (n == 0) 1 (cond b (n + 1) (n + 2))
-    deeper n true other some = cc other
-    deeper n false other some = grind (arith, nat_tests)
-
-    unlabelled : (b : Bool) → not b ≡ true → b ≡ false
-    unlabelled true is = cc is
-    unlabelled false is = refl
-
-    startless : (e : PlacedEntry) → is_start e ≡ true → has_label e ≡ false
-    startless e start = unlabelled (has_label e) (and_parts (is_start_part e.entry.annotation_type) (not (has_label e)) start).1
+HasRows-row_count row n es is k d within = grind (arith, positions_at_most, cases_Bool, AllPass-from_list_all, and_parts)
 
 -- where all labels stand in the row of the marks that row is the only one
 pub row_count_one : (es : List PlacedEntry) → All (λ e. e.position ≤ 0) es → row_count es ≡ 1
@@ -192,11 +131,7 @@ row_count_one es zero_all =
 
 -- a line's strokes have at least one row
 pub row_count_some : (es : List PlacedEntry) → 0 < row_count es
-row_count_some es = some (lowest_position es) (are_starts es)
-  where
-    some : (n : ℕ) (b : Bool) → 0 < cond (n == 0) 1 (cond b (n + 1) (n + 2))
-    some n true = grind (arith, nat_tests)
-    some n false = grind (arith, nat_tests)
+row_count_some es = search rules
 
 -- positions that are flipped are no lower than those given
 greatest_from : (ps : List ℕ) (m n : ℕ) → m ≤ n → All (λ q. q ≤ n) ps → fold (λ m n. max m n) m ps ≤ n
@@ -224,23 +159,7 @@ positions_of_placed es placed is =
 look_counts_low : (p n : ℕ) (es : List PlacedEntry) → length es ≤ n → All (λ q. q ≤ n) (look_counts p es)
 look_counts_low p n [] low = All-nil (λ q. q ≤ n)
 look_counts_low p n (e ∷ others) low =
-    All-cons (λ q. q ≤ n) (looked_after p e others) _ (omega (arith, looked_low p e others, low))
-    (look_counts_low (position_after (position_at p e others) e others) n others (omega (arith, low)))
-  where
-    first_low : {X : Type 0} (q : X → Bool) (xs : List X) → up_to (position q xs) (length xs) ≤ length xs
-    first_low q xs = by_test (nat_lt (position_or_len q xs) (length xs)) refl
-      where
-        by_test : (b : Bool) → nat_lt (position_or_len q xs) (length xs) ≡ b
-            → up_to (cond b (Some (position_or_len q xs)) None) (length xs) ≤ length xs
-        by_test true less = omega (arith, ltb-true (position_or_len q xs) (length xs) less)
-        by_test false none = omega arith
-
-    looked_low : (p : ℕ) (e : PlacedEntry) (others : List PlacedEntry) → looked_after p e others ≤ length others
-    looked_low p e others = by_test ((p == 0) && has_label e)
-      where
-        by_test : (b : Bool) → cond b (up_to (position (crosses e) others) (length others)) (length others) ≤ length others
-        by_test true = first_low (crosses e) others
-        by_test false = omega arith
+    grind (arith, All-cons, ltb-true, look_counts_low (position_after (position_at p e others) e others) n others (omega (arith, low)))
 
 pub looked_of_placed : (es : List LineAnnotation) (placed : List PlacedEntry) → ArePlaced es placed → All (λ e. e.looked ≤ length placed) placed
 looked_of_placed es placed is =

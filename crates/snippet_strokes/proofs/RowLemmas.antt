@@ -1,21 +1,17 @@
 -- Rows of strokes before any stroke is drawn, read cell by cell.
-use Rattle.snippet_strokes.proofs.Common.{◌≡◌, ℕ, ◌+◌, ◌<◌, ◌≤◌, Bool, true, false, List, ◌++◌, length, replicate, refl, ap}
-use Rattle.snippet_strokes.proofs.Common.{◌∙◌, arith, All, slice_index_or, length-replicate, length-append, get_or_past, All-append, All-replicate}
-use Rattle.snippet_strokes.proofs.Common.{each_fails, DecorStyle, Ascii, Unicode, LineNumber, closing_of, Cell, SPACE, text_cells, length-text_cells, is_listed}
-use Rattle.snippet_strokes.proofs.Common.{IsFreeCell, IsFree, free_drawn, bare_row, led_before, free_separator_row}
+use Rattle.snippet_strokes.proofs.Common.{◌≡◌, ℕ, ◌+◌, ◌≤◌, Bool, true, false, List, ◌++◌, length, replicate, refl, arith, All}
+use Rattle.snippet_strokes.proofs.Common.{slice_index_or, length-replicate, length-append, get_or_past, All-append, All-replicate, each_fails, DecorStyle}
+use Rattle.snippet_strokes.proofs.Common.{Ascii, Unicode, LineNumber, closing_of, SPACE, text_cells, length-text_cells, is_listed, IsFree, free_drawn, bare_row}
+use Rattle.snippet_strokes.proofs.Common.{led_before, free_separator_row, rules}
 use Rattle.snippet_strokes.proofs.SourceRowLemmas.{length-separator_row, separator_row_blank}
 
 -- spaces and characters are as many cells as both
 pub length-led : (n : ℕ) (chs : List ℕ) → length (replicate n SPACE ++ text_cells LineNumber chs) ≡ n + length chs
-length-led n chs =
-    length-append (replicate n SPACE) (text_cells LineNumber chs) ∙ ap (λ k. k + length (text_cells LineNumber chs)) (length-replicate n SPACE)
-    ∙ ap (λ k. n + k) (length-text_cells LineNumber chs)
+length-led n chs = simp (length-append, length-replicate, length-text_cells)
 
 -- spaces and characters that aren't listed are free cells
 pub free_led : (n : ℕ) (chs : List ℕ) → All (λ c. is_listed c ≡ false) chs → IsFree (replicate n SPACE ++ text_cells LineNumber chs)
-free_led n chs free =
-    let P : Cell → Type 0 = IsFreeCell in
-    All-append P (replicate n SPACE) (text_cells LineNumber chs) (All-replicate P n SPACE (refl, refl)) (free_drawn LineNumber chs free)
+free_led n chs free = search (rules, All-append, All-replicate, free_drawn)
 
 pub closing_short : (decor : DecorStyle) → length (closing_of decor) ≤ 2
 closing_short Ascii = omega arith
@@ -29,11 +25,6 @@ free_closing Unicode = each_fails is_listed (closing_of Unicode) refl
 pub bare_row_short : (decor : DecorStyle) (gutter : ℕ) (closes : Bool) → length (bare_row decor gutter closes) ≤ gutter + 3
 bare_row_short decor gutter true = omega (arith, length-led (gutter + 1) (closing_of decor), closing_short decor)
 bare_row_short decor gutter false = omega (arith, length-separator_row decor gutter)
-
--- a row that is begun has cells
-pub bare_some : (decor : DecorStyle) (gutter : ℕ) (closes : Bool) → 0 < length (bare_row decor gutter closes)
-bare_some decor gutter true = omega (arith, length-led (gutter + 1) (closing_of decor))
-bare_some decor gutter false = omega (arith, length-separator_row decor gutter)
 
 -- a row of strokes before any stroke is drawn is blank as far as the gutter reaches
 pub bare_row_left : (decor : DecorStyle) (gutter : ℕ) (closes : Bool) (c : ℕ) → c ≤ gutter → slice_index_or (bare_row decor gutter closes) c SPACE ≡ SPACE

@@ -1,7 +1,7 @@
 -- The source row of a line with the bars that are drawn in it: left of them and from the code on it is what it was.
 use Rattle.snippet_strokes.proofs.Common.{◌≡◌, ℕ, ◌+◌, ◌<◌, ◌≤◌, List, length, take, drop, sym, ap, ◌∙◌, subst, arith}
 use Rattle.snippet_strokes.proofs.Common.{slice_index_or, take-take, All-from_get_or, AreReplaced, placeholder_of, row_text, cell_at, row_at, Cell, SPACE}
-use Rattle.snippet_strokes.proofs.Common.{Layout, IsBarCell, IsFreeCell, IsFree}
+use Rattle.snippet_strokes.proofs.Common.{Layout, IsBarCell, IsFreeCell, IsFree, rules}
 use Rattle.snippet_strokes.proofs.DrawnCells.{DrawsBarCells}
 use Rattle.snippet_strokes.proofs.SeenRows.{HasNoBars, IsBeside, IsCut}
 use Rattle.snippet_strokes.proofs.BegunLemmas.{free_cell, cut_left}
@@ -13,16 +13,10 @@ module _ (layout : Layout) (n : ℕ) (plain_row source : List Cell) (joined barr
     (joined_source : row_at joined n ≡ plain_row)
     (barred_source : source ≡ row_at barred n) where
   source_left : (c : ℕ) → c < layout.gutter + 3 → slice_index_or source c SPACE ≡ slice_index_or plain_row c SPACE
-  source_left c before =
-      ap (λ cells. slice_index_or cells c SPACE) barred_source ∙ bars.draws.left n c before
-      ∙ ap (λ cells. slice_index_or cells c SPACE) joined_source
+  source_left c before = grind (arith)
 
   source_bar_cells : (c : ℕ) → layout.gutter + 3 ≤ c → c < layout.code → IsBarCell layout.decor (slice_index_or source c SPACE)
-  source_bar_cells c right before =
-      let R : Cell → Type 0 = IsBarCell layout.decor in
-      let begun_here : R (cell_at joined n c) = subst (λ cells.
-      R (slice_index_or cells c SPACE)) (sym joined_source) (bare_bars.1 c right before) in
-      subst (λ cells. R (slice_index_or cells c SPACE)) (sym barred_source) (bars.bar_cells n c before begun_here)
+  source_bar_cells c right before = search rules
 
   source_code : drop layout.code source ≡ drop layout.code plain_row
   source_code = ap (drop layout.code) barred_source ∙ bars.code n ∙ ap (drop layout.code) joined_source

@@ -4,17 +4,16 @@ use Rattle.snippet_strokes.proofs.Common.{◌∙◌, arith, get_or_past, each_fa
 use Rattle.snippet_strokes.proofs.Common.{Cell, SPACE, text_cells, is_listed, Layout, OpenBar, Dotted, HasBarRoom, barred, gap_row, IsFree, IsElisionRow}
 use Rattle.snippet_strokes.proofs.Common.{bare_elision_row, free_drawn, ◌==◌, ◌&&◌, cond, nat_lt, Bool, true, false, None, map, sym, subst, inl, inr}
 use Rattle.snippet_strokes.proofs.Common.{slice_index_or, cases_Bool, cases_lt, false≢true, All-append, All-cons, All-from_get_or, All-get_or, All-head}
-use Rattle.snippet_strokes.proofs.Common.{All-nil, All-same, All-tail, LineNumbers, shown_number, AnnotatedLineInfo, LineAnnotation, ElementStyle, separator_of}
-use Rattle.snippet_strokes.proofs.Common.{gives_way, unlinked_cell, norm, IsFreeCell, Margin, shifted, Solid, Top, bars_apart, ends_of_bars, AreDrawable}
-use Rattle.snippet_strokes.proofs.Common.{LineView, gap_rows, info_rows, infos_rows, is_whole_line, open_below, window_cells, ◌≢◌, not, Some, Contains}
-use Rattle.snippet_strokes.proofs.Common.{false_from_ne_true, eqb-true, get_or-map, length-map, All-filter, All-map, strokes_of, cell_at, row_at, is_primary}
-use Rattle.snippet_strokes.proofs.Common.{LineAnnotationType, Singleline, MultilineStart, MultilineEnd, MultilineLine, all_among, among_filter_map, PlacedEntry}
-use Rattle.snippet_strokes.proofs.Common.{painting_order, stroke_role, Write, glyph_at, painted, entries_all, Bar, bar_at, row_count, column_of, connector_of}
-use Rattle.snippet_strokes.proofs.Common.{corner_of, connectors_of, corners_of, labels_of, HasOwnDepth, bar_of, has_depth, stems_of}
+use Rattle.snippet_strokes.proofs.Common.{All-nil, All-same, All-tail, LineNumbers, shown_number, AnnotatedLineInfo, LineAnnotation, ElementStyle, gives_way}
+use Rattle.snippet_strokes.proofs.Common.{unlinked_cell, IsFreeCell, Margin, shifted, Solid, Top, bars_apart, ends_of_bars, AreDrawable, LineView, gap_rows}
+use Rattle.snippet_strokes.proofs.Common.{info_rows, infos_rows, is_whole_line, open_below, ◌≢◌, not, Some, Contains, false_from_ne_true, eqb-true}
+use Rattle.snippet_strokes.proofs.Common.{get_or-map, length-map, All-filter, All-map, strokes_of, cell_at, row_at, is_primary, LineAnnotationType, Singleline}
+use Rattle.snippet_strokes.proofs.Common.{MultilineStart, MultilineEnd, MultilineLine, all_among, among_filter_map, PlacedEntry, painting_order, stroke_role}
+use Rattle.snippet_strokes.proofs.Common.{Write, glyph_at, painted, entries_all, Bar, bar_at, row_count, column_of, connector_of, corner_of, connectors_of}
+use Rattle.snippet_strokes.proofs.Common.{corners_of, labels_of, HasOwnDepth, bar_of, has_depth, stems_of, rules}
 use Rattle.snippet_strokes.proofs.BarRows.{barred-below}
 use Rattle.snippet_strokes.proofs.BarLemmas.{BarsDrawn-with_parts, bar_space, AreSeen-drawn, whole_seen}
 use Rattle.snippet_strokes.proofs.RowLemmas.{free_led, length-led}
-use Rattle.std.proofs.Common.{chars}
 use Rattle.snippet_strokes.proofs.CellLemmas.{with_parts, begun_rows, corner_by, drawn_strokes, marks_of}
 use Rattle.snippet_strokes.proofs.WriteLaws.{AreLineRows, AreOwnRows, CanBeShown, IsHighlighted, IsSourceRow, ShowsLine, StrokesPainted, All-flat_map}
 use Rattle.snippet_strokes.proofs.WriteLaws.{painted-untouched}
@@ -78,9 +77,7 @@ gap_drawn layout open_bars place room =
 pub gap_added : (layout : Layout) (open_bars : List OpenBar) (old begun new : List (List Cell)) (row : ℕ) → row ≡ length old
     → begun ≡ old ++ bare_elision_row layout.decor layout.gutter ∷ [] → new ≡ barred layout Dotted open_bars row begun
     → new ≡ old ++ gap_row layout open_bars ∷ []
-gap_added layout open_bars old begun new row last begins value =
-    value ∙ ap (λ r. barred layout Dotted open_bars r begun) last ∙ ap (barred layout Dotted open_bars (length old)) begins
-    ∙ barred-below layout Dotted open_bars old (bare_elision_row layout.decor layout.gutter ∷ [])
+gap_added layout open_bars old begun new row last begins value = grind (arith, barred-below)
 
 -- where no bar of a line has this depth no start and no end has it
 pub none_has : (depth : ℕ) (es : List LineAnnotation) → All (λ b. b.depth ≢ depth) (ends_of_bars es)
@@ -245,27 +242,12 @@ not_space role keeps ch same =
 
 -- the source row of a line reaches to the separator, and spaces stand in the place of bars
 source_row_long : (layout : Layout) (shown : List ℕ) (cells row : List Cell) → IsSourceRow layout shown cells row → layout.gutter + 2 ≤ length row
-source_row_long layout shown cells row is =
-    elim (cases_lt (layout.gutter + 1) (length row)) [
-      | inl reaches ↦ omega (arith, reaches)
-      | inr short ↦ absurd (not_space LineNumber refl (separator_of layout.decor) (sym is.separator ∙ get_or_past row (layout.gutter + 1) SPACE short))
-    ]
+source_row_long layout shown cells row is = grind (arith, cases_lt, not_space, get_or_past)
 
 -- highlighting changes roles alone
 highlighted_cell : (code dropped : ℕ) (es : List LineAnnotation) (plain row : List Cell) → IsHighlighted code dropped es plain row → (c : ℕ)
     → slice_index_or plain c SPACE ≡ SPACE → ((slice_index_or row c SPACE).ch ≡ 32) × ((slice_index_or row c SPACE).link ≡ None)
-highlighted_cell code dropped es plain row is c space =
-    elim (cases_lt c (length plain)) [
-      | inl inside ↦ (
-        ap (λ (cell : Cell). cell.ch) (is.cells c inside) ∙ ap (λ (cell : Cell). cell.ch) space,
-        ap (λ (cell : Cell). cell.link) (is.cells c inside) ∙ ap (λ (cell : Cell). cell.link) space,
-      )
-      | inr past ↦
-          let outside : slice_index_or row c SPACE ≡ SPACE = get_or_past row c SPACE (omega (arith, past, is.width)) in (
-            ap (λ (cell : Cell). cell.ch) outside,
-            ap (λ (cell : Cell). cell.link) outside,
-          )
-    ]
+highlighted_cell code dropped es plain row is c space = grind (arith, cases_lt, get_or_past)
 
 no_bars : (layout : Layout) (shown : List ℕ) (cells : List Cell) (dropped : ℕ) (es : List LineAnnotation) (plain row : List Cell)
     → IsSourceRow layout shown cells plain → length shown ≤ layout.gutter + 1 → IsHighlighted layout.code dropped es plain row → HasNoBars layout row
@@ -331,11 +313,7 @@ module _ (layout : Layout) (margin : Margin) (numbers : LineNumbers) (place : la
       → length (shown_number numbers layout.gutter info.line_index) ≤ layout.gutter + 1 → AreDrawable layout info.annotations.items
       → (shows : ShowsLine layout margin numbers closes open_bars info rows)
       → AreSeen layout margin.term_width (map (shifted shows.dropped) info.annotations.items) closes shows.highlighted rows
-  line_seen closes open_bars info rows fit short drawable shows =
-      let text = norm (chars info.line.now) in
-      rows_seen layout margin.term_width closes text shows.dropped shows.highlighted place
-      (no_bars layout (shown_number numbers layout.gutter info.line_index) (window_cells layout.decor margin text) shows.dropped _ shows.plain
-      shows.highlighted shows.shows short shows.highlights) open_bars info.annotations.items rows fit drawable shows.drawn
+  line_seen closes open_bars info rows fit short drawable shows = search (rules, rows_seen, no_bars)
 
 -- no row of lines that can be shown holds a listed character
 pub infos_free : (layout : Layout) (view : LineView) (open_bars : List OpenBar) (infos : List AnnotatedLineInfo) → layout.gutter + 3 ≤ layout.code

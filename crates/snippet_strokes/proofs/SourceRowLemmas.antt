@@ -1,11 +1,11 @@
 -- What the writes of a source row make of it.
 use Rattle.snippet_strokes.proofs.Common.{◌≡◌, ◌≢◌, ℕ, ◌+◌, ◌-◌, ◌<◌, ◌≤◌, false, List, [], ◌∷◌, ◌++◌, length, take}
-use Rattle.snippet_strokes.proofs.Common.{drop, replicate, refl, sym, ap, ◌∙◌, arith, inl, inr, All, max, slice_index_or, cases_lt, places, same_lists}
-use Rattle.snippet_strokes.proofs.Common.{append-nil, length-replicate, length-append, get_or_at, get_or_append_left, get_or-replicate, get_or_past, take_at}
-use Rattle.snippet_strokes.proofs.Common.{take-take, take-append-le, drop_all, chars-nil, DecorStyle, LineNumber, separator_of, cells_written, Cell, SPACE}
-use Rattle.snippet_strokes.proofs.Common.{text_cells, unlinked_cell, written, length-text_cells, length-written, drop-written, take-written_past}
-use Rattle.snippet_strokes.proofs.Common.{slice_index_or-written_before, slice_index_or-written_after, is_listed, IsFreeCell, IsFree, free_drawn, Layout}
-use Rattle.snippet_strokes.proofs.Common.{source_row, with_cells, separator_row, texted, text_put, free_separator_row, free_written}
+use Rattle.snippet_strokes.proofs.Common.{drop, replicate, refl, sym, ap, ◌∙◌, arith, All, max, slice_index_or, cases_lt, places, same_lists, append-nil}
+use Rattle.snippet_strokes.proofs.Common.{length-replicate, length-append, get_or_at, get_or_append_left, get_or-replicate, get_or_past, take_at, take-take}
+use Rattle.snippet_strokes.proofs.Common.{take-append-le, drop_all, chars-nil, DecorStyle, LineNumber, separator_of, cells_written, Cell, SPACE, text_cells}
+use Rattle.snippet_strokes.proofs.Common.{unlinked_cell, written, length-text_cells, length-written, drop-written, take-written_past}
+use Rattle.snippet_strokes.proofs.Common.{slice_index_or-written_before, slice_index_or-written_after, is_listed, IsFree, free_drawn, Layout, source_row}
+use Rattle.snippet_strokes.proofs.Common.{with_cells, separator_row, texted, text_put, free_separator_row, free_written, rules}
 use Rattle.std.proofs.Common.{chars}
 use Rattle.snippet_strokes.proofs.WriteLaws.{IsSourceRow}
 use Rattle.snippet_grid.proofs.ReplaceLemmas.{separator_row-begun as begun}
@@ -39,58 +39,26 @@ separator_row_at decor gutter =
 
 -- a separator row is blank but for its separator
 pub separator_row_blank : (decor : DecorStyle) (gutter c : ℕ) → c ≢ gutter + 1 → slice_index_or (separator_row decor gutter) c SPACE ≡ SPACE
-separator_row_blank decor gutter c other =
-    let len = length-replicate (gutter + 1) SPACE in
-    elim (cases_lt c (gutter + 1)) [
-      | inl left ↦
-          get_or_append_left (replicate (gutter + 1) SPACE) (text_cells LineNumber (separator_of decor ∷ [])) SPACE c (omega arith)
-          ∙ get_or-replicate (gutter + 1) c SPACE SPACE left
-      | inr right ↦ get_or_past (separator_row decor gutter) c SPACE (omega (arith, length-separator_row decor gutter))
-    ]
+separator_row_blank decor gutter c other = grind (arith, length-replicate, cases_lt, get_or_append_left, get_or-replicate, get_or_past, length-separator_row)
 
 -- the row that has its number, read
 length-front : (layout : Layout) (shown : List ℕ) → length shown ≤ layout.gutter + 1 → length (front layout shown) ≡ layout.gutter + 2
-length-front layout shown short =
-    omega (
-      arith,
-      length-written SPACE (separator_row layout.decor layout.gutter) 0
-          (text_cells LineNumber shown),
-      length-separator_row layout.decor layout.gutter,
-      length-text_cells LineNumber shown,
-    )
+length-front layout shown short = grind (arith, length-written, length-separator_row, length-text_cells)
 
 take-front : (layout : Layout) (shown : List ℕ) → take (length shown) (front layout shown) ≡ text_cells LineNumber shown
-take-front layout shown =
-    let row = separator_row layout.decor layout.gutter in
-    let cells = text_cells LineNumber shown in
-    ap (take (length shown)) (written_start row cells) ∙ take_at cells (drop (length cells) row) (length shown) (length-text_cells LineNumber shown)
+take-front layout shown = simp (written_start, take_at, length-text_cells)
 
 front_after : (layout : Layout) (shown : List ℕ) (c : ℕ) → length shown ≤ c
     → slice_index_or (front layout shown) c SPACE ≡ slice_index_or (separator_row layout.decor layout.gutter) c SPACE
-front_after layout shown c after =
-    slice_index_or-written_after SPACE (separator_row layout.decor layout.gutter) 0 (text_cells LineNumber shown) c SPACE
-    (omega (arith, length-text_cells LineNumber shown))
+front_after layout shown c after = grind (arith, slice_index_or-written_after, length-text_cells)
 
 free_front : (layout : Layout) (shown : List ℕ) → All (λ c. is_listed c ≡ false) shown → IsFree (front layout shown)
-free_front layout shown free =
-    let P : Cell → Type 0 = IsFreeCell in
-    free_written (separator_row layout.decor layout.gutter) 0 (text_cells LineNumber shown) (free_separator_row layout.decor layout.gutter)
-    (free_drawn LineNumber shown free)
+free_front layout shown free = search (rules, free_written, free_separator_row, free_drawn)
 
 -- the row of a line that has no text
 source_bare : (layout : Layout) (shown : List ℕ) → layout.gutter + 3 ≤ layout.code → length shown ≤ layout.gutter + 1 → All (λ c. is_listed c ≡ false) shown
     → IsSourceRow layout shown [] (front layout shown)
-source_bare layout shown place short free =
-    record {
-      is = refl;
-      shows = record {
-        number = take-front layout shown;
-        code = drop_all layout.code (front layout shown) (omega (arith, length-front layout shown short));
-      };
-      separator = front_after layout shown (layout.gutter + 1) short ∙ separator_row_at layout.decor layout.gutter;
-      blank = λ c after other left. front_after layout shown c after ∙ separator_row_blank layout.decor layout.gutter c other;
-      free = free_front layout shown free;
-    }
+source_bare layout shown place short free = search (rules, take-front, drop_all, length-front, front_after, separator_row_at, separator_row_blank, free_front)
 
 -- the row of a line of which some cells are shown
 source_full : (layout : Layout) (shown : List ℕ) (cells : List Cell) → layout.gutter + 3 ≤ layout.code → length shown ≤ layout.gutter + 1

@@ -2,13 +2,12 @@
 use Rattle.snippet_strokes.proofs.Common.{All, ◌≡◌, drop, ℕ, ◌+◌, ◌-◌, ◌<◌, ◌≤◌, ◌^◌, List, [], ◌∷◌, ◌++◌, Bool, length}
 use Rattle.snippet_strokes.proofs.Common.{map, replicate, refl, sym, ap, ◌∙◌, subst, arith, LineAnnotation, Cell, separator_row, Layout, PlacedEntry}
 use Rattle.snippet_strokes.proofs.Common.{shifted, entries_all, row_at, painting_order, bare_row, painted, AreDrawable, IsReady, HasBarCell, row_count}
-use Rattle.snippet_strokes.proofs.Common.{AreEnough, HasPlaceAmong, HasRows, is_uncut, connectors_of, corners_of, labels_of, HasPlace, ArePlaced, stems_of}
-use Rattle.snippet_strokes.proofs.Common.{zero, suc, ◌==◌, ◌&&◌, cond, inl, inr, nat_lt, true, false, take, fold, get_or, range_with_len, append_assoc}
-use Rattle.snippet_strokes.proofs.Common.{get_or-drop, get_or_default, length-drop, length-take-le, length_push, take-append-drop, cases_eq, nat_tests}
-use Rattle.snippet_strokes.proofs.Common.{flat_map-cons, All-append, All-cons, All-head, All-nil, All-tail, fold-append, WritesCells-cells_written}
+use Rattle.snippet_strokes.proofs.Common.{AreEnough, HasPlaceAmong, HasRows, is_uncut, connectors_of, corners_of, labels_of, HasPlace, ArePlaced, stems_of, suc}
+use Rattle.snippet_strokes.proofs.Common.{◌==◌, cond, false, take, fold, get_or, range_with_len, append_assoc, length-drop, length-take-le, length_push}
+use Rattle.snippet_strokes.proofs.Common.{take-append-drop, nat_tests, flat_map-cons, All-append, All-cons, All-head, All-nil, All-tail, fold-append}
 use Rattle.snippet_strokes.proofs.Common.{cells_written, is_primary, LineAnnotationType, Singleline, MultilineStart, MultilineEnd, MultilineLine, SPACE}
-use Rattle.snippet_strokes.proofs.Common.{text_cells, written, strokes_of, stroke_role, connector_of, corner_of, label_of, first_glyph, mark_end, top_of}
-use Rattle.snippet_strokes.proofs.Common.{tops_of, Write, glyph_at, stretch_of}
+use Rattle.snippet_strokes.proofs.Common.{text_cells, written, strokes_of, stroke_role, connector_of, corner_of, label_of, first_glyph, top_of, tops_of, Write}
+use Rattle.snippet_strokes.proofs.Common.{glyph_at, rules}
 use Rattle.snippet_strokes.proofs.SeenRows.{wide_entries, AreSeen, CutsRows, HasNoBars}
 use Rattle.snippet_strokes.proofs.LineFromValue.{rows_cut}
 use Rattle.snippet_strokes.proofs.StrokeCells.{Painted-marks}
@@ -16,13 +15,12 @@ use Rattle.snippet_strokes.proofs.WriteLaws.{StrokesPainted, DrawsFrom-labels, A
 use Rattle.snippet_strokes.proofs.CellLemmas.{drawn_strokes, marks_of, begun_rows, drawn_mark, bar_writes, corner_by, top_by, written_by}
 use Rattle.snippet_strokes.proofs.BarWrites.{DrawsBarCells-corners, DrawsFrom-connectors, DrawsFrom-stems, All-column_of, All-connector_of, All-stretch_of}
 use Rattle.snippet_strokes.proofs.BarWrites.{All-stem_of, All-stems_of}
-use Rattle.snippet_strokes.proofs.BegunLemmas.{rows_begun, rows_ready, begun_row, sole}
+use Rattle.snippet_strokes.proofs.BegunLemmas.{rows_begun, rows_ready, sole}
 use Rattle.snippet_strokes.proofs.PositionLemmas.{HasRows-row_count, row_count_some}
 use Rattle.snippet_strokes.proofs.ReadyLemmas.{all_ready, ready_bar_cells, ready_places}
 use Rattle.snippet_strokes.proofs.StrokeLemmas.{strokes_seen}
 use Rattle.snippet_strokes.proofs.EntryBarLaws.{marks_painted, under_painted}
 use Rattle.snippet_strokes.proofs.LowerWrites.{flat_map-lowered, lowered, painted-below, strokes-lowered, written-cons}
-use Rattle.snippet_strokes.proofs.RowLemmas.{bare_some}
 
 -- the first of some rows after a write, and those below it
 abbrev top_written : List Cell → Write → List Cell
@@ -39,20 +37,7 @@ unfolding written
 written-first x xs new = refl
 
 one_written : (row : List Cell) (rows : List (List Cell)) (w : Write) → written_by (row ∷ rows) w ≡ top_written row w ∷ rest_written rows w
-one_written row rows w = by_row w.row
-  where
-    cells : List Cell
-    cells = text_cells w.role w.text
-
-    by_row : (r : ℕ) → cells_written (row ∷ rows) r w.cell cells
-        ≡ cond (r == 0) (written SPACE row w.cell cells) row ∷ cond (r == 0) rows (cells_written rows (r - 1) w.cell cells)
-    by_row zero = written-first row rows (written SPACE row w.cell cells)
-    by_row (suc r) =
-        let same : suc r - 1 ≡ r = omega arith in
-        written-cons row rows r (written SPACE (row_at rows r) w.cell cells ∷ [])
-        ∙ ap (λ n. row ∷ cells_written rows n w.cell cells) (sym same)
-        ∙ ap (λ b. cond b (written SPACE row w.cell cells) row ∷ cond b rows (cells_written rows (suc r - 1) w.cell cells)) (sym (not_first (suc r)
-        (omega arith)))
+one_written row rows w = grind (arith, written-first, written-cons, not_first)
 
 -- so it is with writes one after another
 split : (ws : List Write) (row : List Cell) (rows : List (List Cell)) → painted ws (row ∷ rows) ≡ fold top_written row ws ∷ fold rest_written rows ws
@@ -65,31 +50,17 @@ IsBelow w = 0 < w.row
 
 top_kept : (ws : List Write) (row : List Cell) → All IsBelow ws → fold top_written row ws ≡ row
 top_kept [] row below = refl
-top_kept (w ∷ ws) row below =
-    ap (λ r. fold top_written r ws) (by_row w.row (All-head IsBelow w ws below)) ∙ top_kept ws row (All-tail IsBelow w ws below)
-  where
-    by_row : (r : ℕ) → 0 < r → cond (r == 0) (written SPACE row w.cell (text_cells w.role w.text)) row ≡ row
-    by_row r some = ap (λ b. cond b (written SPACE row w.cell (text_cells w.role w.text)) row) (not_first r some)
+top_kept (w ∷ ws) row below = grind (arith, All-head, All-tail, not_first, top_kept ws row (All-tail IsBelow w ws below))
 
 rest_kept : (ws : List Write) (rows : List (List Cell)) → All (λ w. w.row ≡ 0) ws → fold rest_written rows ws ≡ rows
 rest_kept [] rows top = refl
-rest_kept (w ∷ ws) rows top =
-    ap (λ rs. fold rest_written rs ws) (ap (λ r. cond (r == 0) rows (cells_written rows (r - 1) w.cell (text_cells w.role w.text)))
-    (All-head (λ v. v.row ≡ 0) w ws top)) ∙ rest_kept ws rows (All-tail (λ v. v.row ≡ 0) w ws top)
+rest_kept (w ∷ ws) rows top = grind (arith, All-head, All-tail, rest_kept ws rows (All-tail (λ v. v.row ≡ 0) w ws top))
 
 -- what holds of the first glyph of a mark, and of its line, holds of the mark
 All-drawn_mark : (P : Write → Type 0) (layout : Layout) (row : ℕ) (e : PlacedEntry)
     → P (glyph_at row (layout.code + e.entry.start.display) (first_glyph layout.decor e) (stroke_role e))
     → ((w : Write) → w.row ≡ row → P w) → All P (drawn_mark layout row e)
-All-drawn_mark P layout row e first line =
-    let from = layout.code + e.entry.start.display in
-    let to = layout.code + mark_end e in
-    let glyph : ℕ = (strokes_of layout.decor (is_primary e.entry.kind)).underline in
-    elim (nat_lt from to) as (λ b. All P (cond b (glyph_at row from (first_glyph layout.decor e) (stroke_role e) ∷ stretch_of row (from + 1) to glyph
-    (stroke_role e)) [])) [
-      | true ↦ All-cons P _ _ first (All-stretch_of P row (from + 1) to glyph (stroke_role e) (line _ refl))
-      | false ↦ All-nil P
-    ]
+All-drawn_mark P layout row e first line = search rules
 
 -- ---- the strokes of a line
 
@@ -156,21 +127,7 @@ module _ (layout : Layout) where
 
   strokes_top : (count : ℕ) (placed order : List PlacedEntry) (row : List Cell)
       → fold top_written row (drawn_strokes layout 0 count placed order) ≡ fold top_written row (tops_of layout 0 placed)
-  strokes_top count placed order row =
-      let lines : List Write = connectors_of layout 1 placed in
-      let corners : List Write = corners_of layout 0 count placed in
-      let stems : List Write = stems_of layout 1 placed in
-      let labels : List Write = labels_of layout 1 placed in
-      let marks : List Write = marks_of layout 1 order in
-      fold-append top_written row (lines ++ corners ++ stems ++ labels) marks
-      ∙ top_kept marks _ (marks_below order)
-      ∙ fold-append top_written row (lines ++ corners ++ stems) labels
-      ∙ top_kept labels _ (labels_below placed)
-      ∙ fold-append top_written row (lines ++ corners) stems
-      ∙ top_kept stems _ (stems_below placed)
-      ∙ fold-append top_written row lines corners
-      ∙ ap (λ r. fold top_written r corners) (top_kept lines row (connectors_below placed))
-      ∙ corners_top count placed row
+  strokes_top count placed order row = simp (fold-append, top_kept, marks_below, labels_below, stems_below, connectors_below, corners_top)
 
   -- what stands in the source row is written there alone
   tops_above : (es : List PlacedEntry) → All (λ w. w.row ≡ 0) (tops_of layout 0 es)
@@ -186,15 +143,7 @@ module _ (layout : Layout) where
       by_part e (MultilineEnd depth) = All-cons T _ [] refl (All-nil T)
 
   tops-lowered : (n : ℕ) (es : List PlacedEntry) → tops_of layout n es ≡ map (lowered n) (tops_of layout 0 es)
-  tops-lowered n es = flat_map-lowered n (top_of layout n) (top_of layout 0) (λ e. by_part e e.entry.annotation_type) es
-    where
-      by_part : (e : PlacedEntry) (part : LineAnnotationType) → top_by layout n e part ≡ map (lowered n) (top_by layout 0 e part)
-      by_part e Singleline = refl
-      by_part e (MultilineLine depth) = refl
-      by_part e (MultilineStart depth) = refl
-      by_part e (MultilineEnd depth) =
-          ap (λ r. glyph_at r (layout.gutter + 2 + depth) (strokes_of layout.decor (is_primary e.entry.kind)).bar (stroke_role e) ∷ [])
-          (let same : n ≡ n + 0 = omega arith in same)
+  tops-lowered n es = grind (arith, flat_map-lowered)
 
   -- of the source row the uppermost parts of bars are written, and nothing else
   module _ (row : ℕ) (placed : List PlacedEntry) (old topped : List (List Cell)) (last : length old ≡ row + 1) (tops : topped ≡ painted
@@ -270,9 +219,7 @@ enough_begun {row} {count} {placed} layout dropped entries old begun sep end dra
 -- so they are below a source row in which nothing stands yet
 pub rows_lifted : (row count : ℕ) (placed : List PlacedEntry) (old : List (List Cell)) → length old ≡ row + 1
     → All (HasRows (row + 1) (length old + count)) placed → All (HasRows 1 (1 + count)) placed
-rows_lifted row count placed old last rows k d within =
-    let own = rows k d within in
-    record { mark = omega (arith, last, own.mark); label = λ hangs has. omega (arith, last, own.label hangs has) }
+rows_lifted row count placed old last rows k d within = search rules
 
 -- rows that are begun for entries are as many as these need
 module _ (layout : Layout) (row count : ℕ) (placed : List PlacedEntry) (old begun : List (List Cell)) (sep end : List Cell) (some : 0 < count)
@@ -282,13 +229,7 @@ module _ (layout : Layout) (row count : ℕ) (placed : List PlacedEntry) (old be
   begun_long = rows_begun old begun sep end count some begins
 
   pub begun_enough : All (IsReady layout) placed → length begun ≤ 2 ^ 60 → AreEnough layout row (length begun) placed
-  begun_enough ready small =
-      record {
-        marks = omega (arith, begun_long, last, some);
-        small = small;
-        rows = subst (λ n. All (HasRows (row + 1) n) placed) (sym begun_long) rows;
-        ready = ready;
-      }
+  begun_enough ready small = grind (arith, begun_long)
 
 -- so each entry has its place among them
 pub places_among : {layout : Layout} {row n : ℕ} {placed : List PlacedEntry} → AreEnough layout row n placed → All (HasPlaceAmong (row + 1) n) placed

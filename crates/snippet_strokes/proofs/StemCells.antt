@@ -1,17 +1,17 @@
 -- Stems lead to labels: below a mark whose label hangs, a stem stands in each row down to the label, unless a label stands there.
-use Rattle.snippet_strokes.proofs.Common.{◌≡◌, ℕ, zero, suc, ◌+◌, ◌-◌, ◌<◌, ◌≤◌, ◌==◌, ◌&&◌, ◌||◌, nat_le, nat_lt, cond}
-use Rattle.snippet_strokes.proofs.Common.{Bool, true, false, List, [], ◌∷◌, ◌++◌, length, get_or, map, refl, sym, ap, subst, arith, inl, inr, All}
-use Rattle.snippet_strokes.proofs.Common.{list_any, range_with_len, and_parts, cases_Bool, nat_tests, All-cons, All-head, All-nil, All-tail}
-use Rattle.snippet_strokes.proofs.Common.{get_or-map-range_with_len, length-map-range_with_len, cell_at, is_primary, Cell, unlinked_cell, strokes_of}
-use Rattle.snippet_strokes.proofs.Common.{underline_role, DecorStyle, Layout, PlacedEntry, stroke_role, has_label, has_stem, takes_space, Write, glyph_at}
-use Rattle.snippet_strokes.proofs.Common.{painted, stretch_of, IsStemCell, stem_glyphs, label_of, stem_of, first_glyph, mark_end, foot_glyph, connectors_of}
-use Rattle.snippet_strokes.proofs.Common.{corners_of, labels_of, is_stem_covered, stems_of, take, drop, replicate, ◌∙◌, cases_eq, eq-eqb, length-append}
-use Rattle.snippet_strokes.proofs.Common.{length-map, length-replicate, take-append-drop, All-append, All-map, get_or-range_with_len, length-range_with_len}
-use Rattle.snippet_strokes.proofs.Common.{bar_cell, code_cell, inner_cell, separator_row, ElementStyle, LineAnnotation, LineAnnotationType, MultilineEnd}
-use Rattle.snippet_strokes.proofs.Common.{MultilineLine, MultilineStart, Singleline, label_place, placed_of, overlapped, row_count, HasRows, painting_order}
-use Rattle.snippet_strokes.proofs.Common.{bare_row, column_of, connector_of, corner_of, stroke_rows, Option, None, Some, option_map_or, map-append, take-map}
-use Rattle.snippet_strokes.proofs.Common.{drop-map, Margin, inner_part, covered_columns, uncovered_part, covered_end, window, LineNumber, Quotation}
-use Rattle.snippet_strokes.proofs.Common.{placeholder_of, SPACE, text_cells, written, row_text, window_cells, begun_cells, ended_cells, row_text-text_cells}
+use Rattle.snippet_strokes.proofs.Common.{◌≡◌, ℕ, zero, suc, ◌+◌, ◌-◌, ◌<◌, ◌≤◌, ◌==◌, ◌&&◌, ◌||◌, nat_lt, cond, Bool}
+use Rattle.snippet_strokes.proofs.Common.{true, false, List, [], ◌∷◌, ◌++◌, length, get_or, map, refl, sym, ap, subst, arith, inl, inr, All, list_any}
+use Rattle.snippet_strokes.proofs.Common.{range_with_len, cases_Bool, nat_tests, All-cons, All-head, All-nil, All-tail, get_or-map-range_with_len}
+use Rattle.snippet_strokes.proofs.Common.{length-map-range_with_len, cell_at, is_primary, Cell, unlinked_cell, strokes_of, underline_role, DecorStyle, Layout}
+use Rattle.snippet_strokes.proofs.Common.{PlacedEntry, stroke_role, has_label, has_stem, takes_space, Write, glyph_at, painted, stretch_of, IsStemCell}
+use Rattle.snippet_strokes.proofs.Common.{stem_glyphs, label_of, stem_of, first_glyph, mark_end, foot_glyph, connectors_of, corners_of, labels_of}
+use Rattle.snippet_strokes.proofs.Common.{is_stem_covered, stems_of, take, drop, replicate, ◌∙◌, length-append, length-map, length-replicate}
+use Rattle.snippet_strokes.proofs.Common.{take-append-drop, All-append, All-map, get_or-range_with_len, length-range_with_len, bar_cell, code_cell, inner_cell}
+use Rattle.snippet_strokes.proofs.Common.{separator_row, ElementStyle, LineAnnotation, LineAnnotationType, MultilineEnd, MultilineLine, MultilineStart}
+use Rattle.snippet_strokes.proofs.Common.{Singleline, label_place, placed_of, overlapped, row_count, HasRows, painting_order, bare_row, column_of, connector_of}
+use Rattle.snippet_strokes.proofs.Common.{corner_of, stroke_rows, Option, None, Some, option_map_or, map-append, take-map, drop-map, Margin, window, LineNumber}
+use Rattle.snippet_strokes.proofs.Common.{Quotation, placeholder_of, SPACE, written, row_text, window_cells, begun_cells, ended_cells, row_text-text_cells}
+use Rattle.snippet_strokes.proofs.Common.{rules}
 use Rattle.snippet_strokes.proofs.StrokeGlyphs.{of_foot, stems_among}
 use Rattle.snippet_strokes.proofs.CellLemmas.{written_by, drawn_mark, drawn_strokes, marks_of, stem_write, cut_row, bar_writes, begun_rows, corner_by}
 use Rattle.snippet_strokes.proofs.CellLemmas.{above_zero}
@@ -43,16 +43,7 @@ record Hides (e next : PlacedEntry) : Type 0 where
   pub deep : e.position ≤ next.position
 
 hides : (e next : PlacedEntry) (later : List PlacedEntry) → is_stem_covered e (next ∷ later) ≡ true → Hides e next
-hides e next later hidden =
-    let outer = and_parts (has_stem next) (next.entry.start.display == e.entry.start.display && nat_le e.position next.position) hidden in
-    let inner = and_parts (next.entry.start.display == e.entry.start.display) (nat_le e.position next.position) outer.1 in
-    record { stem = outer.0; column = same next.entry.start.display e.entry.start.display inner.0; deep = le e.position next.position inner.1 }
-  where
-    same : (a b : ℕ) → (a == b) ≡ true → a ≡ b
-    same a b is = grind (arith, nat_tests, is)
-
-    le : (a b : ℕ) → nat_le a b ≡ true → a ≤ b
-    le a b is = grind (arith, nat_tests, is)
+hides e next later hidden = search rules
 
 module _ (layout : Layout) (r c : ℕ) where
   abbrev P : Cell → Type 0
@@ -187,9 +178,7 @@ IsHung layout row placed rows e =
 -- all strokes of a line leave rows in which each label that hangs is hung so
 pub all_hung : (layout : Layout) (row count : ℕ) (placed order : List PlacedEntry) (rows : List (List Cell))
     → All (IsHung layout (row + 1) placed (painted (drawn_strokes layout row count placed order) rows)) placed
-all_hung layout row count placed order rows k d within has b some low beside =
-    stem_of_strokes layout (row + 1 + b) (layout.code + (get_or placed k d).entry.start.display) row count placed order rows k b d within has some low refl
-    refl beside
+all_hung layout row count placed order rows k d within has b some low beside = search (rules, stem_of_strokes)
 
 -- Strokes stay in the rows that there are, so a line has as many rows as its entries ask for, and its source row.
 module _ (layout : Layout) (count : ℕ) where
@@ -222,25 +211,10 @@ module _ (layout : Layout) (count : ℕ) where
       by_part (MultilineLine depth) = All-nil Inside
 
   label_inside : (e : PlacedEntry) → HasRows 1 count e → has_label e ≡ true → 1 + (label_place e).0 < count
-  label_inside e rows has =
-      elim (cases_eq e.position 0) [
-        | inl beside ↦ rw (eq-eqb e.position 0 beside) (omega (arith, rows.mark, beside))
-        | inr some ↦
-            let hung : 0 < e.position = omega (arith, some) in
-            rw (above_zero e.position hung) (omega (arith, rows.label hung has))
-      ]
+  label_inside e rows has = search rules
 
   mark_inside : (e : PlacedEntry) → 1 < count → All Inside (drawn_mark layout 1 e)
-  mark_inside e some =
-      let from : ℕ = code_cell layout e.entry.start.display in
-      let to : ℕ = code_cell layout (mark_end e) in
-      let first : Write = glyph_at 1 from (first_glyph layout.decor e) (stroke_role e) in
-      let rest : List Write = stretch_of 1 (from + 1) to (strokes_of layout.decor (is_primary e.entry.kind)).underline (stroke_role e) in
-      elim (nat_lt from to) as (λ b. All Inside (cond b (first ∷ rest) [])) [
-        | true ↦ All-cons Inside first rest some
-            (All-stretch_of Inside 1 (from + 1) to (strokes_of layout.decor (is_primary e.entry.kind)).underline (stroke_role e) some)
-        | false ↦ All-nil Inside
-      ]
+  mark_inside e some = search rules
 
   pub strokes_inside : (placed order : List PlacedEntry) → 1 < count → All (HasRows 1 count) placed → All Inside (drawn_strokes layout 0 count placed order)
   strokes_inside placed order some rows =
@@ -326,27 +300,14 @@ row_text-begun : (decor : DecorStyle) (start : Option ℕ) (text : List ℕ)
     → row_text (begun_cells decor start text) ≡ begun_with (placeholder_of decor) start text
 row_text-begun decor None text = row_text-text_cells Quotation text
 row_text-begun decor (Some columns) [] = row_text-text_cells LineNumber (placeholder_of decor)
-row_text-begun decor (Some columns) (c ∷ cs) =
-    row_text-written (text_cells LineNumber (placeholder_of decor)) columns (text_cells Quotation (c ∷ cs))
-    ∙ ap (λ p. written 32 p columns (row_text (text_cells Quotation (c ∷ cs)))) (row_text-text_cells LineNumber (placeholder_of decor))
-    ∙ ap (written 32 (placeholder_of decor) columns) (row_text-text_cells Quotation (c ∷ cs))
-    ∙ ap (λ b. cond b (placeholder_of decor) (written 32 (placeholder_of decor) columns (c ∷ cs))) (sym (above_zero (length (c ∷ cs)) (omega arith)))
+row_text-begun decor (Some columns) (c ∷ cs) = grind (arith, row_text-written, row_text-text_cells, above_zero)
 
 row_text-ended : (decor : DecorStyle) (end : Option ℕ) (cells : List Cell) (text : List ℕ) → row_text cells ≡ text
     → row_text (ended_cells decor end cells) ≡ ended_with (placeholder_of decor) end text
 row_text-ended decor None cells text is = is
-row_text-ended decor (Some at) cells text is =
-    row_text-written cells at (text_cells LineNumber (placeholder_of decor))
-    ∙ ap (λ t. written 32 t at (row_text (text_cells LineNumber (placeholder_of decor)))) is
-    ∙ ap (written 32 text at) (row_text-text_cells LineNumber (placeholder_of decor))
+row_text-ended decor (Some at) cells text is = grind (arith, row_text-written, row_text-text_cells)
 
 -- the characters of the cells of a window are the window
 pub row_text-window_cells : (decor : DecorStyle) (margin : Margin) (text : List ℕ)
     → row_text (window_cells decor margin text) ≡ window (placeholder_of decor) margin.term_width margin.computed_left margin.computed_right text
-row_text-window_cells decor margin text =
-    let left = margin.computed_left in
-    let right = margin.computed_right in
-    let placeholder = placeholder_of decor in
-    let inner = inner_part margin.term_width left right text in
-    row_text-ended decor (covered_end margin.term_width left right placeholder text) _ _
-    (row_text-begun decor (covered_columns left placeholder inner) (uncovered_part left placeholder inner))
+row_text-window_cells decor margin text = search (rules, row_text-ended, row_text-begun)

@@ -2,13 +2,13 @@
 use Rattle.snippet_strokes.proofs.Common.{◌≡◌, ℕ, zero, suc, ◌+◌, ◌-◌, ◌<◌, ◌≤◌, cond, List, [], ◌∷◌, length, take, get_or}
 use Rattle.snippet_strokes.proofs.Common.{replicate, refl, sym, ap, ◌∙◌, subst, arith, inl, inr, cases_lt, take_all, cells_written}
 use Rattle.snippet_strokes.proofs.Common.{WritesCells-cells_written, is_primary, Cell, text_cells, unlinked_cell, strokes_of, ElementStyle, Layout, PlacedEntry}
-use Rattle.snippet_strokes.proofs.Common.{painting_order, stroke_role, first_glyph, mark_end, WritesCells, Write, glyph_at, painted, stretch_of, ◌==◌}
-use Rattle.snippet_strokes.proofs.Common.{◌&&◌, ◌||◌, Bool, true, false, ◌++◌, drop, All, flat_map, LineAnnotation, label_role, has_label}
-use Rattle.snippet_strokes.proofs.Common.{do_overlap, ends_no_later, blocks, reaches, label_place, label_of, labels_of, HasPlace, HasItsLabel, ArePlaced}
-use Rattle.snippet_strokes.proofs.Common.{drop_more, take-append-drop, length-drop, get_or-drop, flat_map-append, cell_at, crowds, label_text, nat_lt, list_any}
-use Rattle.snippet_strokes.proofs.Common.{All-append, All-cons, All-nil, All-replicate, underline_role, DecorStyle, LineAnnotationType, Singleline}
-use Rattle.snippet_strokes.proofs.Common.{MultilineStart, MultilineEnd, MultilineLine, IsStrokeCell, stroke_glyphs, connector_of, corner_of, foot_glyph}
-use Rattle.snippet_strokes.proofs.Common.{connectors_of, corners_of, HasBarCell, HasBarCellAt, stem_of, stems_of}
+use Rattle.snippet_strokes.proofs.Common.{painting_order, stroke_role, first_glyph, mark_end, WritesCells, Write, glyph_at, painted, stretch_of, ◌==◌, Bool}
+use Rattle.snippet_strokes.proofs.Common.{true, false, ◌++◌, drop, All, flat_map, LineAnnotation, label_role, has_label, label_place, label_of, labels_of}
+use Rattle.snippet_strokes.proofs.Common.{HasPlace, HasItsLabel, ArePlaced, drop_more, take-append-drop, length-drop, get_or-drop, flat_map-append, cell_at}
+use Rattle.snippet_strokes.proofs.Common.{crowds, label_text, nat_lt, list_any, All-append, All-cons, All-nil, All-replicate, underline_role, DecorStyle}
+use Rattle.snippet_strokes.proofs.Common.{LineAnnotationType, Singleline, MultilineStart, MultilineEnd, MultilineLine, IsStrokeCell, stroke_glyphs}
+use Rattle.snippet_strokes.proofs.Common.{connector_of, corner_of, foot_glyph, connectors_of, corners_of, HasBarCell, HasBarCellAt, stem_of, stems_of}
+use Rattle.snippet_strokes.proofs.Common.{common_steps, nat_tests, rules}
 use Rattle.snippet_strokes.proofs.CellLemmas.{drawn_mark, marks_of, label_write, bar_writes, corner_by, drawn_strokes}
 use Rattle.snippet_strokes.proofs.PaintedMarks.{AreMarked, Painted, Paints, mark_cell, StandsWhole}
 use Rattle.snippet_strokes.proofs.LineLemmas.{text_cells-replicate}
@@ -17,7 +17,7 @@ use Rattle.snippet_strokes.proofs.PaintLemmas.{Painted-next, Painted-none, Paint
 use Rattle.snippet_strokes.proofs.WriteLaws.{flat_map-take_more, less, drawn_mark-none, painted-append, stretch_of-none, All-label_of, All-flat_map}
 use Rattle.snippet_strokes.proofs.WriteLaws.{painted-last, painted-cell}
 use Rattle.snippet_strokes.proofs.Reach.{Reaches, cell_of_write}
-use Rattle.snippet_strokes.proofs.LabelKept.{apart, label_chars_le, label_parts, labelled_positions, position_of, stands_left, uncrowded}
+use Rattle.snippet_strokes.proofs.LabelKept.{label_chars_le, label_parts, labelled_positions, position_of, stands_left, uncrowded}
 use Rattle.snippet_strokes.proofs.MarkStrokeLemmas.{of_first}
 use Rattle.snippet_strokes.proofs.StrokeGlyphs.{code_among, of_foot}
 use Rattle.snippet_strokes.proofs.BarWrites.{All-column_of, All-connector_of, All-stretch_of, All-stem_of, All-stems_of}
@@ -52,9 +52,7 @@ module _ (layout : Layout) (r c : ℕ) (right : layout.code ≤ c) where
   of_text w all there = all (c - w.cell) 0 (omega (arith, there.from, there.to))
 
   of_glyph : (row cell glyph : ℕ) (e : PlacedEntry) → Among layout.decor glyph → Q (glyph_at row cell glyph (stroke_role e))
-  of_glyph row cell glyph e among =
-      let S : ℕ → Type 0 = λ ch. P (unlinked_cell (stroke_role e) ch) in
-      of_text (glyph_at row cell glyph (stroke_role e)) (All-cons S glyph [] (stroke_cell layout.decor (is_primary e.entry.kind) glyph among) (All-nil S))
+  of_glyph row cell glyph e among = search rules
 
   of_stretch : (row from to glyph : ℕ) (e : PlacedEntry) → Among layout.decor glyph → All Q (stretch_of row from to glyph (stroke_role e))
   of_stretch row from to glyph e among =
@@ -158,42 +156,13 @@ module _ (layout : Layout) (r c : ℕ) (right : layout.code ≤ c) where
 -- No label is lost: the labels of two entries share no cell.
 pub uncrowded_apart : (p : ℕ) (e f : PlacedEntry) → crowds p e f ≡ false → has_label e ≡ true → has_label f ≡ true
     → f.entry.start.display ≤ e.entry.start.display → f.entry.end.display + (length f.label + 2) ≤ e.entry.start.display
-uncrowded_apart p e f crowded has_e has_f left =
-    let more = length f.label + 2 in
-    let clear : reaches p e f ≡ false = right (blocks e f) (reaches p e f) crowded in
-    apart f.entry.start.display f.entry.end.display e.entry.start.display e.entry.end.display more
-    (unreached (has_label f) (do_overlap f more e) (has_label e) ((p == 0) && ends_no_later f e) clear has_f has_e) left
-  where
-    right : (a b : Bool) → (a || b) ≡ false → b ≡ false
-    right true b is = cc is
-    right false b is = is
-
-    unreached : (l o h z : Bool) → (l && o && (h || z)) ≡ false → l ≡ true → h ≡ true → o ≡ false
-    unreached l false h z is has_l has_h = refl
-    unreached true true true z is has_l has_h = is
-    unreached false true h z is has_l has_h = cc has_l
-    unreached true true false z is has_l has_h = cc has_h
+uncrowded_apart p e f crowded has_e has_f left = search rules
 
 -- the labels of two entries, the second of them farther left, share no cell
 pub labels_apart : (layout : Layout) (row : ℕ) (e f : PlacedEntry) → HasPlace e.entry → HasPlace f.entry → HasItsLabel f → has_label e ≡ true
     → has_label f ≡ true → f.entry.start.display ≤ e.entry.start.display → (e.position ≡ f.position → crowds e.position e f ≡ false) → (r c : ℕ)
     → Reaches r c (label_write layout row e) → Reaches r c (label_write layout row f) → ⊥
-labels_apart layout row e f place_e place_f label has_e has_f left clear r c there_e there_f =
-    let short : length (label_text f.entry) ≤ length f.label = label_chars_le f label in
-    let gap : e.position ≡ f.position → f.entry.end.display + (length f.label + 2) ≤ e.entry.start.display = λ same.
-    uncrowded_apart e.position e f (clear same) has_e has_f left in
-    elim (label_parts e) [
-      | inl at_e ↦ elim (label_parts f) [
-        | inl at_f ↦ omega (arith, gap (at_e.position ∙ sym at_f.position), short, at_e.from, at_f.to, place_e.ordered, there_e.from, there_f.to)
-        | inr at_f ↦ omega (arith, there_e.row, there_f.row, at_e.row, at_f.row)
-      ]
-      | inr at_e ↦ elim (label_parts f) [
-        | inl at_f ↦ omega (arith, there_e.row, there_f.row, at_e.row, at_f.row)
-        | inr at_f ↦
-            let same : e.position ≡ f.position = omega (arith, there_e.row, there_f.row, at_e.row, at_f.row) in
-            omega (arith, gap same, short, at_e.column, at_f.column, place_f.ordered, there_e.from, there_f.to)
-      ]
-    ]
+labels_apart layout row e f place_e place_f label has_e has_f left clear r c there_e there_f = grind (arith, label_chars_le, uncrowded_apart, label_parts)
 
 -- the labels of two entries of a line share no cell
 pub placed_apart : (layout : Layout) (row : ℕ) (given : List LineAnnotation) (es : List PlacedEntry) (i j : ℕ) (d d2 : PlacedEntry)
@@ -274,14 +243,7 @@ paints_some layout row e old some =
 
 pub Paints-mark : (layout : Layout) (row : ℕ) (e : PlacedEntry) (old : List (List Cell))
     → Paints old (painted (drawn_mark layout row e) old) row (layout.code + e.entry.start.display) (layout.code + mark_end e) (mark_cell layout e)
-Paints-mark layout row e old =
-    let from = layout.code + e.entry.start.display in
-    let to = layout.code + mark_end e in
-    elim (cases_lt e.entry.start.display (mark_end e)) [
-      | inl some ↦ paints_some layout row e old some
-      | inr none ↦ subst (λ (rows : List (List Cell)). Paints old rows row from to (mark_cell layout e))
-          (sym (ap (λ ws. painted ws old) (drawn_mark-none layout row e none))) (Paints-past old row from to (mark_cell layout e) (omega (arith, none)))
-    ]
+Paints-mark layout row e old = grind (arith, common_steps, nat_tests, cases_lt, paints_some, drawn_mark-none, Paints-past)
 
 -- so the marks of entries are painted, up to each and in all
 painted_upto : (layout : Layout) (row : ℕ) (es : List PlacedEntry) (d : PlacedEntry) (old : List (List Cell)) (i : ℕ) → i ≤ length es

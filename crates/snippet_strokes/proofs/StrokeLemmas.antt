@@ -1,15 +1,15 @@
 -- The rows of a line's strokes, once all are drawn.
 use Rattle.snippet_strokes.proofs.Common.{◌≡◌, ◌≢◌, ℕ, zero, suc, ◌+◌, ◌-◌, ◌<◌, ◌≤◌, ◌==◌, ◌&&◌, max, not, Bool, true}
 use Rattle.snippet_strokes.proofs.Common.{false, List, [], ◌∷◌, ◌++◌, length, map, drop, replicate, get_or, refl, sym, ap, ◌∙◌, subst, arith}
-use Rattle.snippet_strokes.proofs.Common.{inl, inr, All, slice_index_or, IsPermutation, cases_lt, nat_tests, length-append, length-replicate, length-drop}
+use Rattle.snippet_strokes.proofs.Common.{All, slice_index_or, IsPermutation, cases_lt, nat_tests, length-append, length-replicate, length-drop}
 use Rattle.snippet_strokes.proofs.Common.{get_or_append_left, get_or_past, get_or_push, length_push, get_or-drop, All-from_get_or, All-nil, All-cons}
 use Rattle.snippet_strokes.proofs.Common.{IsPermutation-map, IsPermutation-trans, length_permutation, LineAnnotation, cell_at, row_at, cells_written, Cell}
 use Rattle.snippet_strokes.proofs.Common.{SPACE, text_cells, written, row_at-cells_written_same, length-written, Layout, PlacedEntry, IsBarCell, is_mark_role}
 use Rattle.snippet_strokes.proofs.Common.{label_role, label_text, IsFreeCell, painting_order, painted, row_count, HasRows, has_label, has_stem, takes_space}
-use Rattle.snippet_strokes.proofs.Common.{bare_row, separator_row, IsStrokeCell, is_uncut, mark_end, connectors_of, corners_of, labels_of, HasPlace}
-use Rattle.snippet_strokes.proofs.Common.{HasItsLabel, ArePlaced, HasBarCell, stems_of, entries_all}
+use Rattle.snippet_strokes.proofs.Common.{bare_row, separator_row, is_uncut, mark_end, connectors_of, corners_of, labels_of, HasPlace, HasItsLabel, ArePlaced}
+use Rattle.snippet_strokes.proofs.Common.{HasBarCell, stems_of, entries_all, rules}
 use Rattle.std.proofs.Common.{chars}
-use Rattle.snippet_strokes.proofs.SeenRows.{EntryCovers, are_plain, is_single, wide_entries, AreSeen, CutsRows, HasNoBars, IsCut, IsStrokeRow, ShowsMarks}
+use Rattle.snippet_strokes.proofs.SeenRows.{EntryCovers, are_plain, wide_entries, AreSeen, CutsRows, HasNoBars, IsCut, IsStrokeRow, ShowsMarks}
 use Rattle.snippet_strokes.proofs.PaintedMarks.{IsPaintedAt, AreMarked, StandsWhole}
 use Rattle.snippet_strokes.proofs.DrawnCells.{DrawsFrom, DrawsBarCells, KeepsBarCells, MarksStarts, StandsFrom}
 use Rattle.snippet_strokes.proofs.DrawLemmas.{DrawsFrom-more, bar_space}
@@ -68,9 +68,7 @@ module _ (layout : Layout) (room : ℕ) (closes : Bool) (es : List LineAnnotatio
   end = bare_row layout.decor layout.gutter closes
 
   long_but_last : length but_last ≡ length old + (row_count placed - 1)
-  long_but_last =
-      length-append old (replicate (row_count placed - 1) (separator_row layout.decor layout.gutter))
-      ∙ ap (λ n. length old + n) (length-replicate (row_count placed - 1) (separator_row layout.decor layout.gutter))
+  long_but_last = simp (length-append, length-replicate)
 
   long_begun : length begun ≡ row + row_count placed
   long_begun =
@@ -130,10 +128,7 @@ module _ (layout : Layout) (room : ℕ) (closes : Bool) (es : List LineAnnotatio
 
   -- all strokes, as one list
   new_is : new ≡ painted (drawn_strokes layout (length above_rows) (length begun) placed (painting_order placed)) begun
-  new_is =
-      marks_painted layout (length above_rows) (length begun) placed (painting_order placed) begun labelled new
-      (under_painted layout (length above_rows) (length joined) (length begun) placed begun joined barred stemmed labelled lines.count
-      lines_are bars_are stems_are labels_are) marks_are
+  new_is = grind (arith, marks_painted, under_painted, lines)
 
   -- ---- the rows once all are drawn
 
@@ -163,9 +158,7 @@ module _ (layout : Layout) (room : ℕ) (closes : Bool) (es : List LineAnnotatio
 
   -- rows above those of the strokes are as they were begun, but for bars
   above_begun : (r : ℕ) → r < length old → row_at begun r ≡ row_at old r
-  above_begun r high =
-      ap (λ rows. row_at rows r) begins ∙ get_or_append_left but_last (end ∷ []) [] r (omega (arith, high, long_but_last))
-      ∙ get_or_append_left old (replicate (row_count placed - 1) (separator_row layout.decor layout.gutter)) [] r high
+  above_begun r high = grind (arith, get_or_append_left, long_but_last)
 
   above_new : (r : ℕ) → r < row → row_at new r ≡ row_at barred r
   above_new r high = marked.painted.others r (λ here. omega (arith, here, high)) ∙ right_of.above r high
@@ -175,9 +168,7 @@ module _ (layout : Layout) (room : ℕ) (closes : Bool) (es : List LineAnnotatio
   source = row_at new (length above_rows)
 
   joined_source : row_at joined (length above_rows) ≡ plain_row
-  joined_source =
-      lines.above (length above_rows) (omega arith) ∙ above_begun (length above_rows) (omega (arith, last))
-      ∙ get_or_push above_rows plain_row [] (length above_rows) refl
+  joined_source = grind (arith, lines, above_begun, last, get_or_push)
 
   barred_source : source ≡ row_at barred (length above_rows)
   barred_source = above_new (length above_rows) (omega arith)
@@ -197,27 +188,17 @@ module _ (layout : Layout) (room : ℕ) (closes : Bool) (es : List LineAnnotatio
   left_barred k c before = left_painted k c before ∙ right_of.left (row + k) c before
 
   gutter_of : (k c : ℕ) → k < row_count placed → c < layout.gutter + 3 → cell_at new (row + k) c ≡ slice_index_or (bare k) c SPACE
-  gutter_of k c within before =
-      left_barred k c (omega (arith, before, place)) ∙ bars.draws.left (row + k) c before ∙ lines.left (row + k) c before
-      ∙ ap (λ cells. slice_index_or cells c SPACE) (begun_at k within)
+  gutter_of k c within before = search (rules, left_barred, bars, lines, begun_at)
 
   bar_cells_of : (k c : ℕ) → k < row_count placed → layout.gutter + 3 ≤ c → c < layout.code → IsBarCell layout.decor (cell_at new (row + k) c)
-  bar_cells_of k c within right before =
-      let R : Cell → Type 0 = IsBarCell layout.decor in
-      let blank : cell_at begun (row + k) c ≡ SPACE = ap (λ cells. slice_index_or cells c SPACE) (begun_at k within)
-      ∙ bare_row_right layout.decor layout.gutter (closes && k + 1 == row_count placed) c right in
-      subst R (sym (left_barred k c before)) (bars.bar_cells (row + k) c before
-      (line_bar_cells (row + k) c before (subst R (sym blank) (bar_space layout.decor))))
+  bar_cells_of k c within right before = search (rules, begun_at, bare_row_right, left_barred, bars, line_bar_cells, bar_space)
 
   -- on a plain line no line leads to a bar
   single : plain ≡ true → All (λ (e : PlacedEntry). IsPlainEntry e.entry) placed
   single flat = entries_all IsPlainEntry es placed is.same (plain_entries room layout.decor es flat)
 
   barless : plain ≡ true → barred ≡ begun
-  barless flat =
-      let all : All (λ (e : PlacedEntry). is_single e.entry ≡ true) placed = λ k d within. (single flat k d within).0 in
-      bars_are ∙ ap (λ ws. painted ws joined) (corners_none layout (length above_rows) (length joined) placed all) ∙ lines_are
-      ∙ ap (λ ws. painted ws begun) (connectors_none layout row placed all)
+  barless flat = grind (arith, single, corners_none, connectors_none)
 
   spaceless_all : plain ≡ true → All (λ e. takes_space e ≡ false) placed
   spaceless_all flat k d within = spaceless (get_or placed k d) (single flat k d within)
@@ -231,10 +212,7 @@ module _ (layout : Layout) (room : ℕ) (closes : Bool) (es : List LineAnnotatio
       omega (arith, before, ordered_all (StandsFrom layout.code from) all k d inside)) in
       ap (λ n. cell_at new n c) same ∙ marks ∙ (drawn_from from all).left row c before ∙ ap (λ rows. cell_at rows row c) (barless flat)
       ∙ sym (ap (λ n. cell_at begun n c) same) ∙ ap (λ cells. slice_index_or cells c SPACE) (begun_at 0 within)
-  left_of flat (suc k) c from within before all =
-      ap (λ cells. slice_index_or cells c SPACE) (marked.painted.others (row + suc k) (λ here. omega (arith, here)))
-      ∙ (drawn_from from all).left (row + suc k) c before ∙ ap (λ rows. cell_at rows (row + suc k) c) (barless flat)
-      ∙ ap (λ cells. slice_index_or cells c SPACE) (begun_at (suc k) within)
+  left_of flat (suc k) c from within before all = grind (arith, marked, drawn_from, barless, begun_at)
 
   abbrev P : Cell → Type 0
   P cell = IsFreeCell cell
@@ -266,9 +244,7 @@ module _ (layout : Layout) (room : ℕ) (closes : Bool) (es : List LineAnnotatio
       }
 
   unhung : plain ≡ true → All (λ e. label_text e ≡ []) es → labelled ≡ begun
-  unhung flat none =
-      let unmarked = unlabelled es placed is none in
-      no_labels unmarked ∙ no_stems (λ k d within. stemless_bare (get_or placed k d) (unmarked k d within) (spaceless_all flat k d within)) ∙ barless flat
+  unhung flat none = grind (arith, unlabelled, no_labels, no_stems, stemless_bare, spaceless_all, barless)
 
   space_at : (p : ℕ) → slice_index_or (bare 0) (layout.code + p) SPACE ≡ SPACE
   space_at p =
@@ -377,19 +353,11 @@ module _ (layout : Layout) (room : ℕ) (closes : Bool) (es : List LineAnnotatio
 
   -- below a line spaces stand from the code on before it is drawn
   begun_space : (k c : ℕ) → layout.code ≤ c → cell_at begun (row + k) c ≡ SPACE
-  begun_space k c right =
-      elim (cases_lt k (row_count placed)) [
-        | inl within ↦ ap (λ cells. slice_index_or cells c SPACE) (begun_at k within)
-            ∙ bare_row_right layout.decor layout.gutter (closes && k + 1 == row_count placed) c (omega (arith, right, place))
-        | inr past ↦ ap (λ cells. slice_index_or cells c SPACE) (get_or_past begun (row + k) [] (omega (arith, past, long_begun)))
-      ]
+  begun_space k c right = grind (arith, cases_lt, begun_at, bare_row_right, get_or_past, long_begun)
 
   -- so in each cell that no label has stands a space or a stroke
   beside_labels : HasStrokesBeside layout row placed new
-  beside_labels k c right beside =
-      subst (λ rows. IsStrokeCell layout.decor (cell_at rows (row + k) c)) (sym new_is)
-      (cell_of_strokes layout (row + k) c right (length above_rows) (length begun) placed (painting_order placed) begun bar_cells
-      (inl (begun_space k c right)) beside)
+  beside_labels k c right beside = grind (arith, new_is, cell_of_strokes, begun_space)
 
   -- what is seen of the rows, once those of the source and of the marks are cut where entries are wide
   pub strokes_seen : (rows : List (List Cell))

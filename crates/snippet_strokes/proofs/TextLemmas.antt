@@ -28,11 +28,7 @@ bytes_none bytes utf8 none = nil_from_length bytes (zero_there (length bytes) (a
 
 -- a label that fits is short as it is shown, wherever its entry stands
 pub label_short : (e : LineAnnotation) → IfSome e.label (λ t. length t < 2 ^ 56) → length (label_text e) < 2 ^ 60
-label_short e fits = of_label e.label fits
-  where
-    of_label : (label : Option (List ℕ)) → IfSome label (λ t. length t < 2 ^ 56) → length (label_chars label) < 2 ^ 60
-    of_label None fits = omega arith
-    of_label (Some label) fits = norm_short label fits
+label_short e fits = grind (arith, norm_short)
 
 -- the labels of entries are short also where these are shifted
 pub labels_short : (dropped : ℕ) (es : List LineAnnotation) → All (λ e. IfSome e.label (λ t. length t < 2 ^ 56)) es

@@ -5,19 +5,19 @@ use Rattle.snippet_strokes.proofs.Common.{filter, length, map, not, take, if◌t
 use Rattle.snippet_strokes.proofs.Common.{AnnotatedLineInfo, LineAnnotation, Cell, SPACE, text_cells, unlinked_cell, separator_of, closing_row, LineNumber}
 use Rattle.snippet_strokes.proofs.Common.{norm, width_of, StandsClear, dropped_part, Margin, Layout, separator_cell, is_end_part, shifted, PlacedEntry, Solid}
 use Rattle.snippet_strokes.proofs.Common.{Top, OpenBar, bars_apart, ends_of_bars, is_whole_line, ArePlaced, overlapped, AreDrawable, row_count, painting_order}
-use Rattle.snippet_strokes.proofs.Common.{source_row, window_cells, painted, cond, ◌++◌, get_or, refl, sym, ap, ◌∙◌, subst, arith, inl, inr}
-use Rattle.snippet_strokes.proofs.Common.{cases_Bool, All-cons, All-nil, AnnotationKind, Primary, Context, Visible, cells_written, label_role, label_text}
-use Rattle.snippet_strokes.proofs.Common.{is_mark_role, HasRows, has_label, Write, label_of, labels_of, HasPlace, ◌-◌, ◌⊎◌, cases_lt, cases_eq}
-use Rattle.snippet_strokes.proofs.Common.{All-append, All-head, All-tail, All-weaker, flat_map, cell_at, row_at, WritesCells-cells_written, length-text_cells}
-use Rattle.snippet_strokes.proofs.Common.{slice_index_or-text_cells, IsFreeCell, nat_lt, replicate, nat_tests, take_more, append-nil, flat_map-append}
-use Rattle.snippet_strokes.proofs.Common.{fold-append, ElementStyle, strokes_of, is_primary, stroke_role, first_glyph, mark_end, glyph_at, stretch_of}
+use Rattle.snippet_strokes.proofs.Common.{source_row, window_cells, painted, cond, ◌++◌, get_or, refl, sym, ap, ◌∙◌, arith, inl, inr, All-nil}
+use Rattle.snippet_strokes.proofs.Common.{AnnotationKind, Primary, Context, Visible, cells_written, label_role, label_text, is_mark_role, HasRows, has_label}
+use Rattle.snippet_strokes.proofs.Common.{Write, label_of, labels_of, HasPlace, ◌-◌, ◌⊎◌, cases_lt, cases_eq, All-append, All-head, All-tail}
+use Rattle.snippet_strokes.proofs.Common.{All-weaker, flat_map, cell_at, row_at, WritesCells-cells_written, length-text_cells, slice_index_or-text_cells}
+use Rattle.snippet_strokes.proofs.Common.{IsFreeCell, nat_lt, replicate, nat_tests, take_more, append-nil, flat_map-append, fold-append, ElementStyle}
+use Rattle.snippet_strokes.proofs.Common.{strokes_of, is_primary, stroke_role, first_glyph, mark_end, stretch_of, common_steps, rules}
 use Rattle.std.proofs.Common.{chars}
 use Rattle.snippet_strokes.proofs.CellLemmas.{with_parts, cut_row, role_in_source, begun_rows, drawn_strokes, label_write, written_by, drawn_mark}
 use Rattle.snippet_strokes.proofs.CutWords.{cuts_of}
 use Rattle.snippet_strokes.proofs.PlacedOf.{HasTextLabel}
 use Rattle.snippet_strokes.proofs.DrawnCells.{DrawsFrom, MarksStarts, StandsFrom}
 use Rattle.snippet_strokes.proofs.Reach.{Reaches, IsWithin, cell_of_write}
-use Rattle.snippet_strokes.proofs.PositionLemmas.{label_beside, label_column, label_stands}
+use Rattle.snippet_strokes.proofs.PositionLemmas.{label_column, label_stands}
 use Rattle.snippet_strokes.proofs.TextLemmas.{free_label_text}
 
 -- Rows after writes.
@@ -28,16 +28,12 @@ painted-append ws vs rows = fold-append written_by rows ws vs
 -- what a rule gives for one thing more
 pub flat_map-take_more : {X : Type 0} (f : X → List Write) (xs : List X) (i : ℕ) (d : X) → i < length xs
     → flat_map f (take (i + 1) xs) ≡ flat_map f (take i xs) ++ f (get_or xs i d)
-flat_map-take_more f xs i d within =
-    ap (flat_map f) (take_more xs i d within) ∙ flat_map-append f (take i xs) (get_or xs i d ∷ [])
-    ∙ ap (λ ws. flat_map f (take i xs) ++ ws) (append-nil (f (get_or xs i d)))
+flat_map-take_more f xs i d within = grind (arith, common_steps, nat_tests, take_more, flat_map-append, append-nil)
 
 -- the step of a loop that paints what a rule gives for each of some things
 pub painted_more : {X : Type 0} (f : X → List Write) (xs : List X) (i : ℕ) (x : X) (old mid : List (List Cell)) → i < length xs → x ≡ get_or xs i x
     → mid ≡ painted (flat_map f (take i xs)) old → painted (f x) mid ≡ painted (flat_map f (take (i + 1) xs)) old
-painted_more f xs i x old mid within is so_far =
-    ap (painted (f x)) so_far ∙ sym (painted-append (flat_map f (take i xs)) (f x) old) ∙ ap (λ y. painted (flat_map f (take i xs) ++ f y) old) is
-    ∙ sym (ap (λ ws. painted ws old) (flat_map-take_more f xs i x within))
+painted_more f xs i x old mid within is so_far = grind (arith, common_steps, nat_tests, painted-append, flat_map-take_more)
 
 -- ---- stretches, columns and marks
 
@@ -45,30 +41,18 @@ painted_more f xs i x old mid within is so_far =
 pub less : (a b : ℕ) → a < b → nat_lt a b ≡ true
 less a b is = grind (arith, nat_tests, is)
 
-pub not_less : (a b : ℕ) → b ≤ a → nat_lt a b ≡ false
-not_less a b is = grind (arith, nat_tests, is)
-
 -- where a stretch has no cell nothing is written
 pub stretch_of-none : (row from to glyph : ℕ) (role : ElementStyle) → to ≤ from → stretch_of row from to glyph role ≡ []
-stretch_of-none row from to glyph role past =
-    let w : Write = record { row = row; cell = from; text = replicate (to - from) glyph; role = role } in
-    ap (λ b. cond b (w ∷ []) []) (not_less from to past)
+stretch_of-none row from to glyph role past = search rules
 
 -- and else one text, of as many glyphs as it has cells
 pub stretch_painted : (row from to glyph : ℕ) (role : ElementStyle) (cs : List ℕ) (old new : List (List Cell)) → from < to → cs ≡ replicate (to - from) glyph
     → new ≡ cells_written old row from (text_cells role cs) → new ≡ painted (stretch_of row from to glyph role) old
-stretch_painted row from to glyph role cs old new some is writes =
-    let w : Write = record { row = row; cell = from; text = replicate (to - from) glyph; role = role } in
-    writes ∙ ap (λ xs. cells_written old row from (text_cells role xs)) is ∙ sym (ap (λ b. painted (cond b (w ∷ []) []) old) (less from to some))
+stretch_painted row from to glyph role cs old new some is writes = search rules
 
 -- an entry whose mark has no cell
 pub drawn_mark-none : (layout : Layout) (row : ℕ) (e : PlacedEntry) → mark_end e ≤ e.entry.start.display → drawn_mark layout row e ≡ []
-drawn_mark-none layout row e past =
-    let from = layout.code + e.entry.start.display in
-    let to = layout.code + mark_end e in
-    let ws : List Write = glyph_at row from (first_glyph layout.decor e) (stroke_role e) ∷ stretch_of row (from + 1) to
-    (strokes_of layout.decor (is_primary e.entry.kind)).underline (stroke_role e) in
-    ap (λ b. cond b ws []) (not_less from to (omega (arith, past)))
+drawn_mark-none layout row e past = search rules
 
 -- a mark is its first glyph, and the underline after it
 pub mark_painted : (layout : Layout) (row : ℕ) (e : PlacedEntry) (first underline : ℕ) (role : ElementStyle) (end : ℕ)
@@ -77,18 +61,7 @@ pub mark_painted : (layout : Layout) (row : ℕ) (e : PlacedEntry) (first underl
     → mid ≡ cells_written old row (layout.code + e.entry.start.display) (text_cells role (first ∷ []))
     → new ≡ painted (stretch_of row (layout.code + e.entry.start.display + 1) (layout.code + end) underline role) mid
     → new ≡ painted (drawn_mark layout row e) old
-mark_painted layout row e first underline role end old mid new some is_end is_first is_underline is_role begins continues =
-    let from = layout.code + e.entry.start.display in
-    let to = layout.code + mark_end e in
-    let line : ℕ = (strokes_of layout.decor (is_primary e.entry.kind)).underline in
-    let ws : List Write = glyph_at row from (first_glyph layout.decor e) (stroke_role e) ∷ stretch_of row (from + 1) to line (stroke_role e) in
-    continues ∙ ap (λ n. painted (stretch_of row (from + 1) (layout.code + n) underline role) mid) is_end
-    ∙ ap (λ g. painted (stretch_of row (from + 1) to g role) mid) is_underline
-    ∙ ap (λ r. painted (stretch_of row (from + 1) to line r) mid) is_role
-    ∙ ap (painted (stretch_of row (from + 1) to line (stroke_role e)))
-    (begins ∙ ap (λ g. cells_written old row from (text_cells role (g ∷ []))) is_first
-    ∙ ap (λ r. cells_written old row from (text_cells r (first_glyph layout.decor e ∷ []))) is_role)
-    ∙ sym (ap (λ b. painted (cond b ws []) old) (less from to (omega (arith, some))))
+mark_painted layout row e first underline role end old mid new some is_end is_first is_underline is_role begins continues = search rules
 
 -- a cell after one write: the write's where it reaches, else what was there
 pub cell-written : (w : Write) (rows : List (List Cell)) (r c : ℕ) → Reaches r c w → cell_at (written_by rows w) r c ≡ cell_of_write w c
@@ -115,25 +88,11 @@ cell-unwritten w rows r c beside =
     ]
 
 reached : (w : Write) (r c : ℕ) → Reaches r c w ⊎ (Reaches r c w → ⊥)
-reached w r c =
-    elim (cases_eq w.row r) [
-      | inl here ↦ elim (cases_lt c w.cell) [
-        | inl left ↦ inr (λ is. omega (arith, is.from, left))
-        | inr from ↦ elim (cases_lt c (w.cell + length w.text)) [
-          | inl to ↦ inl (record { row = here; from = from; to = to })
-          | inr right ↦ inr (λ is. omega (arith, is.to, right))
-        ]
-      ]
-      | inr other ↦ inr (λ is. other is.row)
-    ]
+reached w r c = search rules
 
 kept_written : (P : Cell → Type 0) (w : Write) (rows : List (List Cell)) (r c : ℕ) → P (cell_at rows r c) → (Reaches r c w → P (cell_of_write w c))
     → P (cell_at (written_by rows w) r c)
-kept_written P w rows r c before leaves =
-    elim (reached w r c) [
-      | inl there ↦ subst P (sym (cell-written w rows r c there)) (leaves there)
-      | inr beside ↦ subst P (sym (cell-unwritten w rows r c beside)) before
-    ]
+kept_written P w rows r c before leaves = grind (arith, reached, cell-written, cell-unwritten)
 
 -- what holds of a cell, and of what each write leaves there that reaches it, holds after the writes
 pub painted-cell : (P : Cell → Type 0) (ws : List Write) (rows : List (List Cell)) (r c : ℕ) → P (cell_at rows r c)
@@ -154,9 +113,7 @@ painted-untouched (w ∷ ws) rows r c beside =
 -- the last write of a cell stands
 pub painted-last : (ws vs : List Write) (w : Write) (rows : List (List Cell)) (r c : ℕ) → Reaches r c w → All (λ v. Reaches r c v → ⊥) vs
     → cell_at (painted (ws ++ w ∷ vs) rows) r c ≡ cell_of_write w c
-painted-last ws vs w rows r c reaches beside =
-    ap (λ new. cell_at new r c) (painted-append ws (w ∷ vs) rows) ∙ painted-untouched vs (written_by (painted ws rows) w) r c beside
-    ∙ cell-written w (painted ws rows) r c reaches
+painted-last ws vs w rows r c reaches beside = grind (arith, painted-append, painted-untouched, cell-written)
 
 -- a row in which nothing is written stays
 pub painted-other : (ws : List Write) (rows : List (List Cell)) (r : ℕ) → All (λ w. r ≢ w.row) ws → row_at (painted ws rows) r ≡ row_at rows r
@@ -205,11 +162,7 @@ DrawsFrom-painted row from ws rows within =
 -- what holds of the write of a label holds of those of all
 pub All-label_of : (P : Write → Type 0) (layout : Layout) (row : ℕ) (e : PlacedEntry) → (has_label e ≡ true → P (label_write layout row e))
     → All P (label_of layout row e)
-All-label_of P layout row e holds =
-    elim (cases_Bool (has_label e)) [
-      | inl has ↦ subst (λ b. All P (cond b (label_write layout row e ∷ []) [])) (sym has) (All-cons P (label_write layout row e) [] (holds has) (All-nil P))
-      | inr none ↦ subst (λ b. All P (cond b (label_write layout row e ∷ []) [])) (sym none) (All-nil P)
-    ]
+All-label_of P layout row e holds = search rules
 
 -- labels stand in rows that are there, and not left of their entries
 pub labels_within : (layout : Layout) (row count from : ℕ) (es : List PlacedEntry) → All (λ e. HasPlace e.entry) es → All (HasRows row count) es
@@ -254,12 +207,7 @@ labels_none layout row es none =
 pub label_lone : (layout : Layout) (row : ℕ) (e : PlacedEntry) (rows : List (List Cell)) → e.position ≡ 0 → 0 < e.entry.end.display
     → has_label e ≡ true → painted (labels_of layout row (e ∷ [])) rows ≡ cells_written rows row (layout.code + e.entry.end.display + 1)
     (text_cells (label_role e.entry.kind) (label_text e.entry))
-label_lone layout row e rows beside some has =
-    let at : ℕ × ℕ → List (List Cell) = λ place. cells_written rows (row + place.0) (layout.code + place.1)
-    (text_cells (label_role e.entry.kind) (label_text e.entry)) in
-    ap (λ b. painted (cond b (label_write layout row e ∷ []) [] ++ []) rows) has ∙ ap at (label_beside e beside some)
-    ∙ ap (λ r. cells_written rows r (layout.code + (e.entry.end.display + 1)) (text_cells (label_role e.entry.kind) (label_text e.entry)))
-    (omega arith) ∙ ap (λ n. cells_written rows row n (text_cells (label_role e.entry.kind) (label_text e.entry))) (omega arith)
+label_lone layout row e rows beside some has = search rules
 
 -- What is known of the rows of a line, by which laws are proved. LineFromValue has it of the rows that painters promise.
 -- ---- the source row

@@ -1,7 +1,6 @@
 use Rattle.snippet_strokes.proofs.Common.{◌≡◌, ◌∙◌, ◌<◌, ap, sym, arith, on_ok_weaker, strokes_of, underline_role, Layout, code_cell, layout_of}
 use Rattle.snippet_strokes.proofs.Common.{mark_end, painted, Strokes}
-use Rattle.snippet_strokes.proofs.EveryMark.{mark_same}
-use Rattle.snippet_strokes.proofs.CrossedLaws.{mark_whole}
+use Rattle.snippet_strokes.proofs.EveryMark.{mark_same, mark_whole}
 use Rattle.snippet_strokes.proofs.WriteLaws.{drawn_mark-none, mark_painted}
 use Rattle.snippet_strokes.proofs.marks.paint_entry.Goals as goal
 

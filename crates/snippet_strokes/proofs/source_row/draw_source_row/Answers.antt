@@ -1,7 +1,7 @@
 use Rattle.snippet_strokes.proofs.Common.{◌≡◌, ◌++◌, ◌∷◌, [], ℕ, List, refl, ap, sym, subst, ◌∙◌, ◌+◌, ◌≤◌, ◌<◌, ◌^◌}
 use Rattle.snippet_strokes.proofs.Common.{arith, length, Layout, layout_of, source_row, window_cells, begun_cells, ended_cells, Cell, DecorStyle, Solid, Top}
 use Rattle.snippet_strokes.proofs.Common.{part_of_norm, norm, width_of-chars, shown_number, chars-shown_number, norm_short, nat_tests, on_ok_weaker}
-use Rattle.snippet_strokes.proofs.Common.{cow_str_bytes, if_ok_weaker, width_of, dropped_part}
+use Rattle.snippet_strokes.proofs.Common.{cow_str_bytes, if_ok_weaker, width_of, dropped_part, rules}
 use Rattle.std.proofs.Common.{chars}
 use Rattle.snippet_strokes.proofs.CellLemmas.{with_parts, cells_are, no_window, nothing_shown, part_few}
 use Rattle.snippet_strokes.proofs.source_row.draw_source_row.Goals as goal
@@ -48,8 +48,8 @@ write_source_row-requires-clause-text c =
       norm_short c.args.line.now.info.line.now c.requires.text,
     )
 
-pub returns-clause-added : goal.returns-clause-added
-returns-clause-added c =
+pub returns : goal.returns
+returns c =
     let args = c.args in
     let layout = layout_of c.layout.inside in
     let line = chars args.line.now.info.line.now in
@@ -70,33 +70,15 @@ returns-clause-added c =
     ended_cells decor window.result.end (begun_cells decor window.result.start (chars window.result.text.now)) in
     let given = subst (λ (l : Layout). c.write_source_row.new.buffer ≡ sides l (source_row l (chars c.as_str-2.result.now) (text_cells l.decor)))
     (sym c.layout.view_is) c.in_ok-row.ensures.added in
-    rw (← c.layout.view_is) (given ∙ ap (λ shown. sides layout (source_row layout shown (text_cells layout.decor))) number
-    ∙ ap (λ cs. sides layout (source_row layout (shown_number args.view.numbers layout.gutter args.line.now.info.line_index) cs)) cells)
-
-pub returns-clause-short : goal.returns-clause-short
-returns-clause-short c =
-    let args = c.args in
-    let decor = c.layout.inside.decor in
-    let line = chars args.line.now.info.line.now in
-    let text = ap chars c.as_str.ensures.value ∙ c.in_ok-text.ensures.value in
-    let part = part_of_norm args.view.margin c.args.line.now.width c.near_part-near.result.skipped line (chars c.near_part-near.result.text.now)
-    (chars c.as_str.result.now) c.args.line.now.measured text c.near_part-near.ensures.holds in
-    let window = c.window_of-window in
-    let cells = cells_are decor args.view.margin window.result.start window.result.end (chars window.result.text.now)
-    (chars c.placeholder-placeholder.result.now) (norm line) (norm line)
-    c.placeholder-placeholder.ensures.value refl (window.ensures.start (norm line) part) (window.ensures.text (norm line) part)
-    (window.ensures.end (norm line) part) in
-    let short = subst (λ (l : Layout).
-    length (ended_cells l.decor window.result.end (begun_cells l.decor window.result.start (chars window.result.text.now))) < 2 ^ 61 + 4)
-    (sym c.layout.view_is) c.in_ok-row.ensures.short in
-    rw (← c.layout.view_is) (omega (arith, ap length cells, short))
-
-pub returns-clause-dropped : goal.returns-clause-dropped
-returns-clause-dropped c =
-    let line = chars c.args.line.now.info.line.now in
-    let text = ap chars c.as_str.ensures.value ∙ c.in_ok-text.ensures.value in
-    c.window_of-window.ensures.dropped (norm line) (part_of_norm c.args.view.margin c.args.line.now.width c.near_part-near.result.skipped line
-    (chars c.near_part-near.result.text.now) (chars c.as_str.result.now) c.args.line.now.measured text c.near_part-near.ensures.holds)
+    let short = subst (λ (l : Layout). length (text_cells l.decor) < 2 ^ 61 + 4) (sym c.layout.view_is) c.in_ok-row.ensures.short in
+    record {
+      added = rw (← c.layout.view_is) (given ∙ ap (λ shown. sides layout (source_row layout shown (text_cells layout.decor))) number
+          ∙ ap (λ cs. sides layout (source_row layout (shown_number args.view.numbers layout.gutter args.line.now.info.line_index) cs)) cells);
+      short = rw (← c.layout.view_is) (omega (arith, ap length cells, short));
+      row = search rules;
+      dropped = window.ensures.dropped (norm line) part;
+      few = search rules;
+    }
 
 pub draw_empty_row-requires-clause-number : goal.draw_empty_row-requires-clause-number
 draw_empty_row-requires-clause-number c =
