@@ -44,7 +44,7 @@ pub use Rattle.annotate_snippets.specs.Page.{NamedRow, cells_of, Other, Elision,
 pub use Rattle.annotate_snippets.specs.Page.{lines_named, rows_below, page_text, PrintsPage, shows_lines, line_named, lines_offered, line_offered}
 pub use Rattle.annotate_snippets.specs.PageSink.{Takes, Stops}
 pub use Rattle.annotate_snippets.specs.PreparedReport.{element_of, IsGroupDrawable, IsElementPrepared, IsDrawable, IsElementDrawable, IsGroupPrepared}
-pub use Rattle.annotate_snippets.specs.PreparedReport.{AreAround, IsCausePrepared}
+pub use Rattle.annotate_snippets.specs.PreparedReport.{IsCausePrepared}
 pub use Rattle.annotate_snippets.specs.Printing.{rows_of_elements, IsPrinting}
 pub use Rattle.annotate_snippets.specs.RowsWithoutSource.{cause_head, rows_after_cause, rows_after_title, title_part, origin_layout, suggestion_head, path_row}
 pub use Rattle.annotate_snippets.specs.RowsWithoutSource.{origin_rows, place_found}
@@ -54,11 +54,12 @@ pub use Rattle.annotate_snippets.specs.ShortForm.{labels_of_cause, place_of_path
 pub use Rattle.annotate_snippets.specs.ShownPage.{report_links}
 pub use Rattle.annotate_snippets.specs.TextForm.{text_form, PreviousSuggestion, before_next, element_form, elements_form, group_form, suggestion_place}
 pub use Rattle.annotate_snippets.specs.TextForm.{suggestion_settings, is_other_file, element_texts, group_texts, report_texts, whole_text, option_number}
-pub use Rattle.annotate_snippets.specs.Walk.{is_drawn, is_first_group, before_seen, IsShortForm}
+pub use Rattle.annotate_snippets.specs.Walk.{is_drawn, is_first_group, before_seen, IsShortForm, IsWalkAt}
 pub use Rattle.annotate_snippets.specs.WithLaws.{IsTextUnder}
 pub use Rattle.annotate_snippets.specs.Written.{IsEmptyPage, IsTextIn, ShowsIn, WritesPart, WritesText, AddsGroup, PrintsGroup, AddsToPage, IsStop}
 pub use Rattle.annotate_snippets.specs.Written.{StopsAtGroup, WritesGroup, blames_writer, is_write}
 pub use Rattle.annotate_snippets.specs.declared.renderer.Renderer.{Renderer}
+pub use Rattle.annotate_snippets.specs.declared.renderer.element_context.ContextWalk.{ContextWalk}
 pub use Rattle.annotate_snippets.specs.declared.renderer.element_context.ElementContext.{ElementContext}
 pub use Rattle.annotate_snippets.specs.declared.renderer.element_context.GroupPosition.{GroupPosition}
 pub use Rattle.annotate_snippets.specs.declared.renderer.element_context.GroupPosition.TheVariants.{Only}

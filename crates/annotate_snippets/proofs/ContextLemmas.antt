@@ -1,11 +1,14 @@
 -- What stands around the elements of a group is found one by one.
-use Rattle.annotate_snippets.proofs.Common.{◌≡◌, ◌∙◌, ℕ, ◌+◌, ◌-◌, ◌<◌, ◌==◌, ◌&&◌, ◌||◌, nat_eq, not, Bool, true, false}
-use Rattle.annotate_snippets.proofs.Common.{List, [], ◌∷◌, ◌++◌, Option, Some, length, map, take, drop, get_or, refl, sym, ap, arith, inl, inr}
-use Rattle.annotate_snippets.proofs.Common.{list_any, slice_get, is_some, option_map, cases_lt, nat_tests, drop-map, get_or_append_left, length-drop}
-use Rattle.annotate_snippets.proofs.Common.{length_push, take_all, take_more, list_any-append, slice_get_within, slice_get-get_or, slice_get-map}
-use Rattle.annotate_snippets.proofs.Common.{slice_get_read, get_or_from_slice_get, get_or-append_seam, Element, SuggestionStart, PreparedElement, GroupPosition}
-use Rattle.annotate_snippets.proofs.Common.{Next, ElementContext, context_at, file_of_element, first_two_share, next_of, suggestion_start, AreAround}
-use Rattle.annotate_snippets.proofs.Common.{element_of}
+use Rattle.annotate_snippets.proofs.Common.{◌≡◌, ◌∙◌, ℕ, ◌+◌, ◌-◌, ◌<◌, ◌==◌, ◌&&◌, ◌||◌, not, suc, zero, Bool, true, false}
+use Rattle.annotate_snippets.proofs.Common.{List, [], ◌∷◌, ◌++◌, Option, Some, None, length, map, take, drop, refl, sym, ap, subst, arith}
+use Rattle.annotate_snippets.proofs.Common.{list_any, slice_get, slice_index_or, is_some, option_copied, option_map, option_to_list, nat_tests, drop-map}
+use Rattle.annotate_snippets.proofs.Common.{take_more, list_any-append, slice_get_within, slice_get-map, slice_get_read, get_or_from_slice_get}
+use Rattle.annotate_snippets.proofs.Common.{Bor, Element, Cause, Message, Origin, Padding, Suggestion, SuggestionStart, PreparedElement, GroupPosition}
+use Rattle.annotate_snippets.proofs.Common.{Next, ElementContext, ContextWalk, IsWalkAt, context_at, file_of_element, first_two_share, next_of}
+use Rattle.annotate_snippets.proofs.Common.{suggestion_start, element_of}
+use Rattle.std.proofs.Common.{add-one}
+use Rattle.std.proofs.lemmas.Option.{slice_get_past}
+use Rattle.std.specs.Slice.{IsItemAt}
 
 -- whether an element is of a file
 abbrev pub has_file : Element → Bool
@@ -18,27 +21,43 @@ primary_before es i = not (list_any has_file (take i es))
 abbrev pub shares_before : List Element → ℕ → Bool
 shares_before es i = not (i == 0) && first_two_share (drop (i - 1) es)
 
--- the elements before this one have their contexts, and what the next one's depend on is known
-pub record AreAroundBefore (place : GroupPosition) (file : Option (List ℕ)) (es : List Element) (i : ℕ) (primary shares : Bool)
-    (around : List ElementContext) : Type 0 where
-  pub count : length around ≡ i
-  pub each : (j : ℕ) (e : Element) → j < i → slice_get es j ≡ Some e → slice_get around j ≡ Some (context_at place file es j e)
-  pub primary_is : primary ≡ primary_before es i
-  pub shares_is : shares ≡ shares_before es i
+-- what follows is said by the element after
+pub next_at : (es : List Element) (k : ℕ) → next_of (drop k es) ≡ next_of (option_to_list (slice_get es k))
+next_at [] zero = refl
+next_at [] (suc k) = refl
+next_at (Message message ∷ es) zero = refl
+next_at (Cause snippet ∷ es) zero = refl
+next_at (Suggestion snippet ∷ es) zero = refl
+next_at (Origin origin ∷ es) zero = refl
+next_at (Padding padding ∷ es) zero = refl
+next_at (e ∷ es) (suc k) = next_at es k
 
--- none of them
-pub none_around : (place : GroupPosition) (file : Option (List ℕ)) (es : List Element) → AreAroundBefore place file es 0 true false []
-none_around place file es =
-    record { count = refl; each = λ j e within same. absurd (omega (arith, within)); primary_is = refl; shares_is = refl }
+-- so is whether it shares a row with this one
+shared_at : (es : List Element) (k : ℕ) (e : Element) → slice_get es k ≡ Some e
+    → first_two_share (drop k es) ≡ first_two_share (e ∷ option_to_list (slice_get es (suc k)))
+shared_at [] k e is = absurd (cc)
+shared_at (x ∷ []) zero e is = refl
+shared_at (x ∷ d ∷ es) zero e is =
+    let same : x ≡ e = cc in
+    ap (λ y. first_two_share (y ∷ d ∷ [])) same
+shared_at (x ∷ es) (suc k) e is = shared_at es k e is
 
--- what stands around the next one
-around_next : (place : GroupPosition) (file : Option (List ℕ)) (es : List Element) (i : ℕ) (e : Element) (primary shares shared : Bool)
-    (start : SuggestionStart) (next : Next) → primary ≡ primary_before es i → shares ≡ shares_before es i → start ≡ suggestion_start file shares e
-    → shared ≡ first_two_share (drop i es) → next ≡ next_of (drop (i + 1) es)
-    → record { place = place; first = nat_eq i 0; primary = primary; start = start; shared = shared; next = next } ≡ context_at place file es i e
-around_next place file es i e primary shares shared start next p s starts pairs follows =
-    let begins : start ≡ suggestion_start file (shares_before es i) e = starts ∙ ap (λ b. suggestion_start file b e) s in
-    rw p (rw begins (rw pairs (rw follows refl)))
+-- whether the one after shares a row with this one
+shared_here : (es : List Element) (i : ℕ) (e : Element) (after : Option Element) → slice_get es i ≡ Some e → slice_get es (i + 1) ≡ after
+    → first_two_share (drop i es) ≡ first_two_share (e ∷ option_to_list after)
+shared_here es i e after here then =
+    shared_at es i e here ∙ ap (λ o. first_two_share (e ∷ option_to_list o)) (ap (slice_get es) (sym (add-one i)) ∙ then)
+
+-- what a walk says of the element that it has come to
+pub walk_around : (place : GroupPosition) (file : Option (List ℕ)) (es : List Element) (i : ℕ) (walk : ContextWalk) (e : Element) (after : Option Element)
+    (start : SuggestionStart) (shared : Bool) (next : Next) → IsWalkAt es i walk → slice_get es i ≡ Some e → slice_get es (i + 1) ≡ after
+    → start ≡ suggestion_start file walk.shares e → shared ≡ first_two_share (e ∷ option_to_list after) → next ≡ next_of (option_to_list after)
+    → record { place = place; first = walk.first; primary = walk.primary; start = start; shared = shared; next = next } ≡ context_at place file es i e
+walk_around place file es i walk e after start shared next at here then starts pairs follows =
+    let begins : start ≡ suggestion_start file (shares_before es i) e = starts ∙ ap (λ b. suggestion_start file b e) at.shares_is in
+    let shares : shared ≡ first_two_share (drop i es) = pairs ∙ sym (shared_here es i e after here then) in
+    let ends : next ≡ next_of (drop (i + 1) es) = follows ∙ ap (λ o. next_of (option_to_list o)) (sym then) ∙ sym (next_at es (i + 1)) in
+    rw at.first_is (rw at.primary_is (rw begins (rw shares (rw ends refl))))
 
 primary_next : (es : List Element) (i : ℕ) (e : Element) (primary : Bool) → slice_get es i ≡ Some e → primary ≡ primary_before es i
     → (primary && not (has_file e)) ≡ primary_before es (i + 1)
@@ -63,58 +82,26 @@ shares_next es i =
     let here : i + 1 - 1 ≡ i = omega arith in
     sym (ap (λ b. not b && first_two_share (drop (i + 1 - 1) es)) later ∙ ap (λ k. first_two_share (drop k es)) here)
 
--- one more of them
-pub around_more : (place : GroupPosition) (file : Option (List ℕ)) (es : List Element) (i : ℕ) (e : Element) (primary shares shared : Bool)
-    (start : SuggestionStart) (next : Next) (around new : List ElementContext) → AreAroundBefore place file es i primary shares around
-    → slice_get es i ≡ Some e → start ≡ suggestion_start file shares e → shared ≡ first_two_share (drop i es) → next ≡ next_of (drop (i + 1) es)
-    → new ≡ around ++ record { place = place; first = nat_eq i 0; primary = primary; start = start; shared = shared; next = next } ∷ []
-    → AreAroundBefore place file es (i + 1) (primary && not (has_file e)) shared new
-around_more place file es i e primary shares shared start next around new before at starts pairs follows pushed =
-    let one : ElementContext = record { place = place; first = nat_eq i 0; primary = primary; start = start; shared = shared; next = next } in
-    let one_is : one ≡ context_at place file es i e = around_next place file es i e primary shares shared start next before.primary_is before.shares_is starts
-    pairs follows in
-    let size : length new ≡ i + 1 = ap length pushed ∙ length_push around one ∙ ap (λ n. n + 1) before.count in
+-- a walk that has passed an element has come to the next one
+pub walk_on : (es : List Element) (i : ℕ) (walk new : ContextWalk) (e : Element) (after : Option Element) → IsWalkAt es i walk → slice_get es i ≡ Some e
+    → slice_get es (i + 1) ≡ after → new.first ≡ false → new.primary ≡ (walk.primary && not (has_file e))
+    → new.shares ≡ first_two_share (e ∷ option_to_list after) → IsWalkAt es (i + 1) new
+walk_on es i walk new e after at here then first primary shares =
+    let later : (i + 1 == 0) ≡ false = grind (arith, nat_tests) in
     record {
-      count = size;
-      each = λ j d within same. elim (cases_lt j i) [
-        | inl below ↦
-            let old : slice_get around j ≡ Some (context_at place file es j d) = before.each j d below same in
-            let there : j < length around = omega (arith, below, before.count) in
-            slice_get-get_or new j one (omega (arith, within, size)) ∙ ap Some
-            (ap (λ (ss : List ElementContext). get_or ss j one) pushed ∙ get_or_append_left around (one ∷ []) one j there
-            ∙ get_or_from_slice_get around j (context_at place file es j d) one old)
-        | inr after ↦
-            let last : j ≡ i = omega (arith, within, after) in
-            let same_element : e ≡ d = sym (get_or_from_slice_get es i e e at) ∙ ap (λ k. get_or es k e) (sym last) ∙ get_or_from_slice_get es j d e same in
-            let seam : get_or new j one ≡ one = ap (λ (ss : List ElementContext). get_or ss j one) pushed
-            ∙ ap (λ k. get_or (around ++ one ∷ []) k one) (last ∙ sym before.count) ∙ get_or-append_seam around one [] one in
-            slice_get-get_or new j one (omega (arith, within, size)) ∙ ap Some
-            (seam ∙ one_is ∙ ap (λ k. context_at place file es k e) (sym last) ∙ ap (λ (x : Element). context_at place file es j x) same_element)
-      ];
-      primary_is = primary_next es i e primary at before.primary_is;
-      shares_is = pairs ∙ shares_next es i;
+      first_is = first ∙ sym later;
+      primary_is = primary ∙ primary_next es i e walk.primary here at.primary_is;
+      shares_is = shares ∙ sym (shared_here es i e after here then) ∙ shares_next es i;
     }
 
--- what the next one's depend on, said in another way
-pub around_same : (place : GroupPosition) (file : Option (List ℕ)) (es : List Element) (i : ℕ) (primary primary_said shares shares_said : Bool)
-    (around : List ElementContext) → AreAroundBefore place file es i primary shares around → primary_said ≡ primary → shares_said ≡ shares
-    → AreAroundBefore place file es i primary_said shares_said around
-around_same place file es i primary primary_said shares shares_said around before p s =
-    record { count = before.count; each = before.each; primary_is = p ∙ before.primary_is; shares_is = s ∙ before.shares_is }
+-- the first of some items, as it is lent
+pub front_item : {X : Type 0} (xs : List X) (front : Option (Bor X)) → IsItemAt xs 0 front → slice_get xs 0 ≡ option_copied front
+front_item xs None is = slice_get_past xs 0 is.3
+front_item xs (Some x) is = slice_get_read xs (length xs) 0 x.now refl is.3.0 is.1
 
--- all of them
-pub all_around : (place : GroupPosition) (file : Option (List ℕ)) (es : List Element) (i : ℕ) (primary shares : Bool) (around : List ElementContext)
-    → AreAroundBefore place file es i primary shares around → i ≡ length es → AreAround place file es around
-all_around place file es i primary shares around before whole =
-    record { count = before.count ∙ whole; each = λ j e same. before.each j e (omega (arith, whole, slice_get_within es j e same)) same }
-
--- the element of this number, as it was prepared
-pub element_read : (ps : List PreparedElement) (i : ℕ) (p : PreparedElement) → i < length ps → p ≡ get_or ps i p
-    → slice_get (map element_of ps) i ≡ Some (element_of p)
-element_read ps i p within is =
-    slice_get-map element_of ps i ∙ ap (λ (o : Option PreparedElement). option_map element_of o) (slice_get_read ps (length ps) i p refl within is)
-
--- the elements from this one on
-pub elements_from : (ps : List PreparedElement) (i : ℕ) → map element_of (take (length ps - i) (drop i ps)) ≡ drop i (map element_of ps)
-elements_from ps i =
-    ap (map element_of) (take_all (length ps - i) (drop i ps) (omega (arith, length-drop i ps))) ∙ sym (drop-map element_of i ps)
+-- an item of a list is the first of those from it on
+pub slice_get-drop : {X : Type 0} (xs : List X) (n : ℕ) → slice_get (drop n xs) 0 ≡ slice_get xs n
+slice_get-drop [] zero = refl
+slice_get-drop [] (suc n) = refl
+slice_get-drop (x ∷ xs) zero = refl
+slice_get-drop (x ∷ xs) (suc n) = slice_get-drop xs n

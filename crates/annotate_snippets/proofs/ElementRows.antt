@@ -1,12 +1,15 @@
 -- The rows of a group's elements, one below the other.
-use Rattle.annotate_snippets.proofs.Common.{◌≡◌, ℕ, ◌+◌, ◌-◌, ◌<◌, Bool, true, false, not, drop, Option, Some, List, [], ◌∷◌}
+use Rattle.annotate_snippets.proofs.Common.{◌≡◌, ℕ, ◌+◌, ◌-◌, ◌<◌, ◌≤◌, All, Bool, true, false, not, drop, Option, Some, List, [], ◌∷◌}
 use Rattle.annotate_snippets.proofs.Common.{◌++◌, length, get_or, map, refl, sym, ap, ◌∙◌, arith, subst, take, zero, suc, enumerate_from, flat_map}
-use Rattle.annotate_snippets.proofs.Common.{slice_get, slice_index_or, zero-add, flat_map-append, append-nil, get_or-map, length-map, take_all, take_more}
+use Rattle.annotate_snippets.proofs.Common.{slice_get, zero-add, flat_map-append, append-nil, get_or-map, length-map, take_all, take_more}
+use Rattle.annotate_snippets.proofs.Common.{Bor, length-drop, option_copied, option_map, slice_get-map, ContextWalk, IsWalkAt}
 use Rattle.annotate_snippets.proofs.Common.{get_or-enumerate_from, length-enumerate_from, get_or_from_slice_get, slice_get-get_or, slice_get_within, Cell}
 use Rattle.annotate_snippets.proofs.Common.{Element, context_at, drawn_elements, first_two_share, is_end, next_of, last_row, element_rows, group_page}
 use Rattle.annotate_snippets.proofs.Common.{CanStandIn, begins_in_row_above, shared_row, drawn_rows, title_part, Group, Title, rows_of_elements, NamedRow}
-use Rattle.annotate_snippets.proofs.Common.{cells_of, group_rows, Renderer, Layout, AreAround, element_of, PreparedElement, GroupPosition, Next, ElementContext}
-use Rattle.std.proofs.Common.{append_assoc}
+use Rattle.annotate_snippets.proofs.Common.{cells_of, group_rows, Renderer, Layout, element_of, PreparedElement, GroupPosition, Next, ElementContext}
+use Rattle.std.proofs.Common.{add-one, append_assoc}
+use Rattle.std.specs.Slice.{IsItemAt}
+use Rattle.annotate_snippets.proofs.ContextLemmas.{front_item, slice_get-drop}
 use Rattle.annotate_snippets.proofs.PageWords.{found_at}
 use Rattle.annotate_snippets.proofs.AroundLaws.{begins_is, can_stand, shared_goes_on, shares_after, shares_before, shares_end}
 
@@ -95,56 +98,90 @@ get-mapped f (y ∷ xs) zero x is =
     ap (λ z. Some (f z)) same
 get-mapped f (y ∷ xs) (suc n) x is = get-mapped f xs n x is
 
--- what stands around the next element
-pub turn_around : (place : GroupPosition) (file : Option (List ℕ)) (ps : List PreparedElement) (around : List ElementContext) (n i : ℕ)
-    (p : PreparedElement) (at : ElementContext) → AreAround place file (map element_of ps) around
-    → (n < length (enumerate_from 0 ps)) × ((i, p) ≡ get_or (enumerate_from 0 ps) n (i, p)) → at ≡ slice_index_or around i at
-    → at ≡ context_at place file (map element_of ps) n (element_of p)
-turn_around place file ps around n i p at are turn is =
-    let item = turn_item ps n i p turn in
-    let there : slice_get around n ≡ Some (context_at place file (map element_of ps) n (element_of p)) = are.each n (element_of p)
-    (get-mapped element_of ps n p item.1) in
-    let found : slice_get around n ≡ Some (slice_index_or around n at) = slice_get-get_or around n at
-    (slice_get_within around n (context_at place file (map element_of ps) n (element_of p)) there) in
-    let same : Some (slice_index_or around n at) ≡ Some (context_at place file (map element_of ps) n (element_of p)) = sym found ∙ there in
-    let equal : slice_index_or around n at ≡ context_at place file (map element_of ps) n (element_of p) = cc in
-    is ∙ ap (λ j. slice_index_or around j at) item.0 ∙ equal
+-- an item of a list, and those after it
+left_first : {X : Type 0} (xs rest : List X) (n : ℕ) (x : X) → drop n xs ≡ x ∷ rest → (slice_get xs n ≡ Some x) × (drop (suc n) xs ≡ rest)
+left_first [] rest zero x is = absurd (cc)
+left_first [] rest (suc n) x is = absurd (cc)
+left_first (y ∷ xs) rest zero x is =
+    let same : y ≡ x = cc in
+    (ap Some same, cc)
+left_first (y ∷ xs) rest (suc n) x is = left_first xs rest n x is
 
--- the next element can stand there
-pub turn_stands : (place : GroupPosition) (file : Option (List ℕ)) (ps : List PreparedElement) (around : List ElementContext) (n i : ℕ)
-    (p : PreparedElement) (at : ElementContext) → AreAround place file (map element_of ps) around
-    → (n < length (enumerate_from 0 ps)) × ((i, p) ≡ get_or (enumerate_from 0 ps) n (i, p)) → at ≡ slice_index_or around i at
-    → CanStandIn at (element_of p)
-turn_stands place file ps around n i p at are turn is =
-    let item = turn_item ps n i p turn in
-    subst (λ a. CanStandIn a (element_of p)) (sym (turn_around place file ps around n i p at are turn is))
-    (can_stand place file (map element_of ps) n (element_of p) (get-mapped element_of ps n p item.1))
+-- the elements that are left are the one that a walk has come to and those after it
+pub record AreLeft (ps : List PreparedElement) (n : ℕ) (left : List PreparedElement) (walk : ContextWalk) : Type 0 where
+  pub left_are : drop n ps ≡ left
+  pub within : n ≤ length ps
+  pub walk_at : IsWalkAt (map element_of ps) n walk
+
+-- before the first of them
+pub left_all : (ps left : List PreparedElement) (walk : ContextWalk) → left ≡ ps → ((es : List Element) → IsWalkAt es 0 walk) → AreLeft ps 0 left walk
+left_all ps left walk all begun = record { left_are = sym all; within = omega arith; walk_at = begun (map element_of ps) }
+
+-- after the last
+pub left_none : (ps left : List PreparedElement) (n : ℕ) (walk : ContextWalk) → AreLeft ps n left walk → length left ≡ 0 → n ≡ length ps
+left_none ps left n walk at none =
+    omega (arith, at.within, length-drop n ps, ap length at.left_are, none)
+
+-- an element is passed: it is the next one, and what stands around it is known
+pub record IsPassed (place : GroupPosition) (file : Option (List ℕ)) (ps : List PreparedElement) (n : ℕ) (p : PreparedElement) (at : ElementContext)
+    (rest : List PreparedElement) (walk : ContextWalk) : Type 0 where
+  pub here : slice_get ps n ≡ Some p
+  pub at_is : at ≡ context_at place file (map element_of ps) n (element_of p)
+  pub left : AreLeft ps (n + 1) rest walk
+
+pub passed : (place : GroupPosition) (file : Option (List ℕ)) (ps left rest : List PreparedElement) (n : ℕ) (walk new : ContextWalk) (p : PreparedElement)
+    (front : Option (Bor PreparedElement)) (at : ElementContext) → AreLeft ps n left walk → left ≡ p ∷ rest → IsItemAt rest 0 front
+    → ((es : List Element) (i : ℕ) → IsWalkAt es i walk → slice_get es i ≡ Some (element_of p)
+    → slice_get es (i + 1) ≡ option_map element_of (option_copied front) → at ≡ context_at place file es i (element_of p))
+    → ((es : List Element) (i : ℕ) → IsWalkAt es i walk → slice_get es i ≡ Some (element_of p)
+    → slice_get es (i + 1) ≡ option_map element_of (option_copied front) → IsWalkAt es (i + 1) new)
+    → IsPassed place file ps n p at rest new
+passed place file ps left rest n walk new p front at before is first around walked =
+    let es : List Element = map element_of ps in
+    let split = left_first ps rest n p (before.left_are ∙ is) in
+    let after : drop (n + 1) ps ≡ rest = ap (λ k. drop k ps) (add-one n) ∙ split.1 in
+    let here : slice_get es n ≡ Some (element_of p) = get-mapped element_of ps n p split.0 in
+    let then : slice_get es (n + 1) ≡ option_map element_of (option_copied front) = slice_get-map element_of ps (n + 1)
+    ∙ ap (option_map element_of) (sym (slice_get-drop ps (n + 1)) ∙ ap (λ (qs : List PreparedElement). slice_get qs 0) after ∙ front_item rest front first) in
+    let inside : n < length ps = slice_get_within ps n p split.0 in
+    record {
+      here = split.0;
+      at_is = around es n before.walk_at here then;
+      left = record { left_are = after; within = omega (arith, inside); walk_at = walked es n before.walk_at here then };
+    }
+
+-- what holds of all of some items holds of each
+pub all_at : {X : Type 0} (P : X → Type 0) (xs : List X) (n : ℕ) (x : X) → All P xs → slice_get xs n ≡ Some x → P x
+all_at P xs n x all here = subst P (get_or_from_slice_get xs n x x here) (all n x (slice_get_within xs n x here))
+
+-- an element can stand where it is passed
+pub stands_there : (place : GroupPosition) (file : Option (List ℕ)) (ps : List PreparedElement) (n : ℕ) (p : PreparedElement) (at : ElementContext)
+    → slice_get ps n ≡ Some p → at ≡ context_at place file (map element_of ps) n (element_of p) → CanStandIn at (element_of p)
+stands_there place file ps n p at here at_is =
+    subst (λ a. CanStandIn a (element_of p)) (sym at_is) (can_stand place file (map element_of ps) n (element_of p) (get-mapped element_of ps n p here))
 
 -- its rows stand below those before it
-pub turn_drawn : (r : Renderer) (layout : Layout) (place : GroupPosition) (file : Option (List ℕ)) (ps : List PreparedElement)
-    (around : List ElementContext) (n m i : ℕ) (p : PreparedElement) (at : ElementContext) (old mid new : List (List Cell))
-    → AreAround place file (map element_of ps) around → (n < length (enumerate_from 0 ps)) × ((i, p) ≡ get_or (enumerate_from 0 ps) n (i, p))
-    → at ≡ slice_index_or around i at → m ≡ n + 1 → DrawnSoFar r layout place file (map element_of ps) n old mid
+pub one_drawn : (r : Renderer) (layout : Layout) (place : GroupPosition) (file : Option (List ℕ)) (ps : List PreparedElement)
+    (n : ℕ) (p : PreparedElement) (at : ElementContext) (old mid new : List (List Cell)) → slice_get ps n ≡ Some p
+    → at ≡ context_at place file (map element_of ps) n (element_of p) → DrawnSoFar r layout place file (map element_of ps) n old mid
     → ((above : List (List Cell)) (found : List Cell) → mid ≡ above ++ shared_row (begins_in_row_above at) found
-    → new ≡ above ++ drawn_rows r layout at found (element_of p)) → DrawnSoFar r layout place file (map element_of ps) m old new
-turn_drawn r layout place file ps around n m i p at old mid new are turn is next before adds =
+    → new ≡ above ++ drawn_rows r layout at found (element_of p)) → DrawnSoFar r layout place file (map element_of ps) (n + 1) old new
+one_drawn r layout place file ps n p at old mid new at_n at_is before adds =
     let es : List Element = map element_of ps in
     let e : Element = element_of p in
-    let here : slice_get es n ≡ Some e = get-mapped element_of ps n p (turn_item ps n i p turn).1 in
-    let at_is : at ≡ context_at place file es n e = turn_around place file ps around n i p at are turn is in
+    let here : slice_get es n ≡ Some e = get-mapped element_of ps n p at_n in
     let begins : begins_in_row_above at ≡ shares_before es n = ap begins_in_row_above at_is ∙ begins_is place file es n e here in
     let above : List (List Cell) = old ++ flat_map cells_of (take n (rows_of_elements r layout place file es)) in
     let found : List Cell = found_at r layout es n in
     let added : new ≡ above ++ drawn_rows r layout at found e = adds above found (before ∙ ap (λ b. above ++ shared_row b found) (sym begins)) in
-    subst (λ k. DrawnSoFar r layout place file es k old new) (sym next)
-    (drawn_more r layout place file es n e old new here (added ∙ ap (λ a. above ++ drawn_rows r layout a found e) at_is))
+    drawn_more r layout place file es n e old new here (added ∙ ap (λ a. above ++ drawn_rows r layout a found e) at_is)
 
 -- after the last all are drawn
-pub turns_all : (r : Renderer) (layout : Layout) (place : GroupPosition) (file : Option (List ℕ)) (ps : List PreparedElement) (n : ℕ)
-    (old new : List (List Cell)) → n ≡ length (enumerate_from 0 ps) → DrawnSoFar r layout place file (map element_of ps) n old new
-    → new ≡ old ++ flat_map cells_of (rows_of_elements r layout place file (map element_of ps))
-turns_all r layout place file ps n old new all drawn =
-    drawn_all r layout place file (map element_of ps) n old new (omega (arith, all, length-enumerate_from 0 ps, length-map ps element_of)) drawn
+pub each_drawn : (r : Renderer) (layout : Layout) (place : GroupPosition) (file : Option (List ℕ)) (ps left : List PreparedElement) (n : ℕ)
+    (walk : ContextWalk) (old new : List (List Cell)) → AreLeft ps n left walk → length left ≡ 0
+    → DrawnSoFar r layout place file (map element_of ps) n old new → new ≡ old ++ flat_map cells_of (rows_of_elements r layout place file (map element_of ps))
+each_drawn r layout place file ps left n walk old new at none drawn =
+    drawn_all r layout place file (map element_of ps) n old new (left_none ps left n walk at none ∙ sym (length-map ps element_of)) drawn
 
 -- the rows of a title that is drawn in an empty grid
 pub title_drawn : (r : Renderer) (layout : Layout) (place : GroupPosition) (next after : Next) (title : Title) (given : Option Title)

@@ -1,17 +1,17 @@
 -- A group that is printed while it is drawn.
 use Rattle.annotate_snippets.proofs.Common.{◌≡◌, ℕ, ◌+◌, ◌<◌, Bool, true, false, not, All, List, [], ◌∷◌, ◌++◌, Option, Some, length}
-use Rattle.annotate_snippets.proofs.Common.{map, refl, sym, ap, ◌∙◌, subst, arith, cond, encode_utf8, get_or, string_bytes, take, enumerate_from}
-use Rattle.annotate_snippets.proofs.Common.{flat_map, slice_get, slice_index_or, false≢true, flat_map-append, IsUtf8-from_ascii, IsAscii-from_all}
+use Rattle.annotate_snippets.proofs.Common.{map, refl, sym, ap, ◌∙◌, subst, arith, cond, encode_utf8, string_bytes, take}
+use Rattle.annotate_snippets.proofs.Common.{flat_map, slice_get, false≢true, flat_map-append, IsUtf8-from_ascii, IsAscii-from_all}
 use Rattle.annotate_snippets.proofs.Common.{append_assoc, append-nil, length-append, further-append, Layout, Char, Piece, piece_text, PrintsFurther, WeavesRows}
 use Rattle.annotate_snippets.proofs.Common.{Heading, heading_of_message, Element, Message, Group, Title, Cell, LevelInner, Stylesheet, one_row, heading_rows}
 use Rattle.annotate_snippets.proofs.Common.{IsPlainHeading, title_rows, TitleStyle, context_at, drawn_elements, is_end, next_of, last_row, element_rows}
 use Rattle.annotate_snippets.proofs.Common.{group_page, CanStandIn, begins_in_row_above, shared_row, drawn_rows, rows_of_elements, cells_of, group_rows}
-use Rattle.annotate_snippets.proofs.Common.{AreAround, element_of, IsPrinting, Renderer, ElementContext, GroupPosition, Next, Printing, rows_after_title}
+use Rattle.annotate_snippets.proofs.Common.{element_of, IsPrinting, Renderer, ContextWalk, ElementContext, GroupPosition, Next, Printing, rows_after_title}
 use Rattle.annotate_snippets.proofs.Common.{title_part, PreparedElement}
 use Rattle.snippet_model.specs.declared.snippet.Message as message
 use Rattle.annotate_snippets.proofs.PageWords.{found_at, message_rows, message_style}
 use Rattle.annotate_snippets.proofs.AroundLaws.{begins_is, shares_after, shares_before}
-use Rattle.annotate_snippets.proofs.ElementRows.{DrawnSoFar, drawn_none, get-mapped, turn_around, turn_drawn, turn_item, turn_stands, turns_all}
+use Rattle.annotate_snippets.proofs.ElementRows.{AreLeft, DrawnSoFar, drawn_none, each_drawn, get-mapped, one_drawn, stands_there}
 use Rattle.annotate_snippets.proofs.NamedRows.{cells_of-others}
 use Rattle.annotate_snippets.proofs.PlainRows.{plain_added}
 
@@ -219,20 +219,18 @@ elements_none sheet level r layout place file es above old page printing =
 
 -- one more, drawn in the grid
 pub elements_drawn : (sheet : Stylesheet) (level : LevelInner) (r : Renderer) (layout : Layout) (place : GroupPosition) (file : Option (List ℕ))
-    (ps : List PreparedElement) (around : List ElementContext) (n m i : ℕ) (p : PreparedElement) (at : ElementContext) (above : List (List Cell))
-    (old : List ℕ) (page after : Printing) → AreAround place file (map element_of ps) around
-    → (n < length (enumerate_from 0 ps)) × ((i, p) ≡ get_or (enumerate_from 0 ps) n (i, p)) → at ≡ slice_index_or around i at → m ≡ n + 1
+    (ps : List PreparedElement) (n : ℕ) (p : PreparedElement) (at : ElementContext) (above : List (List Cell))
+    (old : List ℕ) (page after : Printing) → slice_get ps n ≡ Some p → at ≡ context_at place file (map element_of ps) n (element_of p)
     → after.begun ≡ page.begun → string_bytes after.text ≡ string_bytes page.text
     → ((front : List (List Cell)) (found : List Cell) → page.buffer ≡ front ++ shared_row (begins_in_row_above at) found
     → after.buffer ≡ front ++ drawn_rows r layout at found (element_of p))
     → ElementsPrinted sheet level r layout place file (map element_of ps) n above old page
-    → ElementsPrinted sheet level r layout place file (map element_of ps) m above old after
-elements_drawn sheet level r layout place file ps around n m i p at above old page after are turn is next begun text adds before =
+    → ElementsPrinted sheet level r layout place file (map element_of ps) (n + 1) above old after
+elements_drawn sheet level r layout place file ps n p at above old page after at_n at_is begun text adds before =
     let es : List Element = map element_of ps in
     let e : Element = element_of p in
     let printing = before.printing in
-    let here : slice_get es n ≡ Some e = get-mapped element_of ps n p (turn_item ps n i p turn).1 in
-    let at_is : at ≡ context_at place file es n e = turn_around place file ps around n i p at are turn is in
+    let here : slice_get es n ≡ Some e = get-mapped element_of ps n p at_n in
     let begins : begins_in_row_above at ≡ shares_before es n = ap begins_in_row_above at_is ∙ begins_is place file es n e here in
     let below = drawn_below r layout at e printing.printed page.buffer after.buffer (λ starts. before.shared (sym begins ∙ starts)) adds in
     let found : List Cell = found_at r layout es n in
@@ -240,7 +238,7 @@ elements_drawn sheet level r layout place file ps around n m i p at above old pa
     let now = below front found (sym printing.rows_are ∙ before.drawn ∙ ap (λ b. front ++ shared_row b found) (sym begins)) in
     record {
       rows = printing.printed ++ after.buffer;
-      drawn = turn_drawn r layout place file ps around n m i p at above before.rows (printing.printed ++ after.buffer) are turn is next before.drawn
+      drawn = one_drawn r layout place file ps n p at above before.rows (printing.printed ++ after.buffer) at_n at_is before.drawn
           (λ start row ends. (below start row (sym printing.rows_are ∙ ends)).adds);
       printing = record {
         printed = printing.printed;
@@ -249,20 +247,19 @@ elements_drawn sheet level r layout place file ps around n m i p at above old pa
         begun = λ on. printing.begun (sym begun ∙ on);
         woven = subst (λ (t : List ℕ). WeavesRows sheet level printing.printed old t) (sym text) printing.woven;
       };
-      shared = λ shares. now.some (ap (λ (a : ElementContext). a.shared) at_is ∙ sym (shares_after es n) ∙ ap (shares_before es) (sym next) ∙ shares);
+      shared = λ shares. now.some (ap (λ (a : ElementContext). a.shared) at_is ∙ sym (shares_after es n) ∙ shares);
     }
 
 -- one more, a message that is printed
 pub elements_printed : (sheet now : Stylesheet) (level own : LevelInner) (r : Renderer) (layout : Layout) (place : GroupPosition) (file : Option (List ℕ))
-    (ps : List PreparedElement) (around : List ElementContext) (n m i : ℕ) (p : PreparedElement) (at : ElementContext) (message : message.Message)
-    (style : TitleStyle) (above : List (List Cell)) (old : List ℕ) (page after : Printing) → AreAround place file (map element_of ps) around
-    → (n < length (enumerate_from 0 ps)) × ((i, p) ≡ get_or (enumerate_from 0 ps) n (i, p)) → at ≡ slice_index_or around i at → m ≡ n + 1
-    → element_of p ≡ Message message → style ≡ message_style r layout at → now ≡ sheet → own ≡ level
-    → ((rows : List (List Cell)) → IsPrinting now own old page rows
+    (ps : List PreparedElement) (n : ℕ) (p : PreparedElement) (at : ElementContext) (message : message.Message) (style : TitleStyle)
+    (above : List (List Cell)) (old : List ℕ) (page after : Printing) → slice_get ps n ≡ Some p
+    → at ≡ context_at place file (map element_of ps) n (element_of p) → element_of p ≡ Message message → style ≡ message_style r layout at
+    → now ≡ sheet → own ≡ level → ((rows : List (List Cell)) → IsPrinting now own old page rows
     → IsPrinting now own old after (rows ++ heading_rows r.hyperlink style (heading_of_message message)))
     → ElementsPrinted sheet level r layout place file (map element_of ps) n above old page
-    → ElementsPrinted sheet level r layout place file (map element_of ps) m above old after
-elements_printed sheet now level own r layout place file ps around n m i p at message style above old page after are turn is next of styled same_sheet
+    → ElementsPrinted sheet level r layout place file (map element_of ps) (n + 1) above old after
+elements_printed sheet now level own r layout place file ps n p at message style above old page after at_n at_is of styled same_sheet
     same_level prints before =
     let here = subst (λ s. (rows : List (List Cell)) → IsPrinting s level old page rows
     → IsPrinting s level old after (rows ++ heading_rows r.hyperlink style (heading_of_message message))) same_sheet
@@ -271,17 +268,16 @@ elements_printed sheet now level own r layout place file ps around n m i p at me
     let es : List Element = map element_of ps in
     let e : Element = element_of p in
     let more : List (List Cell) = heading_rows r.hyperlink style (heading_of_message message) in
-    let at_is : at ≡ context_at place file es n e = turn_around place file ps around n i p at are turn is in
-    let stands = turn_stands place file ps around n i p at are turn is in
+    let stands = stands_there place file ps n p at at_n at_is in
     let alone : (begins_in_row_above at ≡ false) × (at.shared ≡ false) = subst (CanStandIn at) of stands in
     let rows_are : more ≡ message_rows r layout at message = ap (λ s. heading_rows r.hyperlink s (heading_of_message message)) styled in
     record {
       rows = before.rows ++ more;
-      drawn = turn_drawn r layout place file ps around n m i p at above before.rows (before.rows ++ more) are turn is next before.drawn
+      drawn = one_drawn r layout place file ps n p at above before.rows (before.rows ++ more) at_n at_is before.drawn
           (λ start row ends. plain_added r layout at row p (Message message) start before.rows (before.rows ++ more) more of stands (λ a. a) ends refl
           (rows_are ∙ sym (cells_of-others (message_rows r layout at message))));
       printing = here before.rows before.printing;
-      shared = λ shares. absurd (never (shares_before es m) (ap (shares_before es) next ∙ shares_after es n
+      shared = λ shares. absurd (never (shares_before es (n + 1)) (shares_after es n
           ∙ sym (ap (λ (a : ElementContext). a.shared) at_is) ∙ alone.1) shares);
     }
   where
@@ -290,15 +286,17 @@ elements_printed sheet now level own r layout place file ps around n m i p at me
 
 -- all of them, and what isn't printed yet
 pub elements_all : (sheet now : Stylesheet) (level own : LevelInner) (r : Renderer) (layout : Layout) (place : GroupPosition) (file : Option (List ℕ))
-    (ps : List PreparedElement) (n : ℕ) (above : List (List Cell)) (old : List ℕ) (page after : Printing) → n ≡ length (enumerate_from 0 ps)
-    → now ≡ sheet → own ≡ level → ((rows : List (List Cell)) → IsPrinting now own old page rows → IsPrinting now own old after rows)
+    (ps left : List PreparedElement) (n : ℕ) (walk : ContextWalk) (above : List (List Cell)) (old : List ℕ) (page after : Printing)
+    → AreLeft ps n left walk → length left ≡ 0 → now ≡ sheet → own ≡ level
+    → ((rows : List (List Cell)) → IsPrinting now own old page rows → IsPrinting now own old after rows)
     → after.buffer ≡ []
     → ElementsPrinted sheet level r layout place file (map element_of ps) n above old page
     → WeavesRows sheet level (above ++ flat_map cells_of (rows_of_elements r layout place file (map element_of ps))) old (string_bytes after.text)
-elements_all sheet now level own r layout place file ps n above old page after all same_sheet same_level flushed empty before =
+elements_all sheet now level own r layout place file ps left n walk above old page after at none same_sheet same_level flushed empty before =
     let here = subst (λ s. (rows : List (List Cell)) → IsPrinting s level old page rows → IsPrinting s level old after rows) same_sheet
     (subst (λ l. (rows : List (List Cell)) → IsPrinting now l old page rows → IsPrinting now l old after rows) same_level flushed) in
-    subst (λ rows. WeavesRows sheet level rows old (string_bytes after.text)) (turns_all r layout place file ps n above before.rows all before.drawn)
+    subst (λ rows. WeavesRows sheet level rows old (string_bytes after.text))
+    (each_drawn r layout place file ps left n walk above before.rows at none before.drawn)
     (all_printed sheet level old after before.rows empty (here before.rows before.printing))
 
 -- ---- a group

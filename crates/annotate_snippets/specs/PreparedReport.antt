@@ -1,7 +1,6 @@
 -- What is known of a report before any row is drawn.
-use Rattle.std.specs.Prelude.{◌≡◌, ℕ, ◌+◌, All, length, map, List, Option, Some}
+use Rattle.std.specs.Prelude.{◌≡◌, ◌+◌, All, length, map}
 use Rattle.std.specs.Cow.{cow_str_bytes}
-use Rattle.std.specs.List.{slice_get}
 use Rattle.std.specs.Str.{IsUtf8}
 use Rattle.snippet_model.specs.declared.snippet.Annotation.{Annotation}
 use Rattle.snippet_model.specs.declared.snippet.Snippet.{Snippet}
@@ -19,9 +18,7 @@ use Rattle.annotate_snippets.specs.declared.renderer.preprocess.PreparedCause.{P
 use Rattle.annotate_snippets.specs.declared.renderer.preprocess.PreparedElement.{PreparedElement}
 use Rattle.annotate_snippets.specs.declared.renderer.preprocess.PreparedElement.TheVariants.{Message, Cause, Suggestion, Origin, Padding}
 use Rattle.annotate_snippets.specs.declared.renderer.preprocess.PreparedGroup.{PreparedGroup}
-use Rattle.annotate_snippets.specs.declared.renderer.element_context.GroupPosition.{GroupPosition}
-use Rattle.annotate_snippets.specs.declared.renderer.element_context.ElementContext.{ElementContext}
-use Rattle.annotate_snippets.specs.ElementContext.{drawn_elements, context_at}
+use Rattle.annotate_snippets.specs.ElementContext.{drawn_elements}
 use Rattle.annotate_snippets.specs.Gutter.{numbered_source}
 use Rattle.snippet_text.specs.TextBounds.{TextFits}
 use Rattle.snippet_style.specs.Bounds.{IsCount, IsUsize}
@@ -77,8 +74,3 @@ pub record IsGroupPrepared (p : PreparedGroup) : Type 0 where
   pub fits : GroupFits p.group.now
   pub elements_are : map element_of p.elements.items ≡ drawn_elements p.group.now
   pub prepared : All IsElementPrepared p.elements.items
-
--- what stands around each of these elements, in order
-pub record AreAround (place : GroupPosition) (file : Option (List ℕ)) (es : List Element) (around : List ElementContext) : Type 0 where
-  pub count : length around ≡ length es
-  pub each : (i : ℕ) (e : Element) → slice_get es i ≡ Some e → slice_get around i ≡ Some (context_at place file es i e)

@@ -1,16 +1,17 @@
 //! What stands around an element, as far as its rows depend on it.
-ghost use Rattle.std.specs.Prelude.{◌≡◌, IfOk, map};
-ghost use Rattle.std.specs.Option.{option_copied};
+ghost use Rattle.std.specs.Prelude.{◌≡◌, ℕ, ◌+◌, ◌∷◌, List, Some, map};
+ghost use Rattle.std.specs.List.{slice_get};
+ghost use Rattle.std.specs.Option.{option_copied, option_map, option_to_list};
+ghost use Rattle.snippet_model.specs.declared.snippet.Element.{Element};
 ghost use Rattle.annotate_snippets.specs.ElementContext as spec;
-ghost use Rattle.annotate_snippets.specs.ElementContext.{is_end, is_before_message, position_of_group};
-ghost use Rattle.annotate_snippets.specs.Walk.{is_first_group};
-ghost use Rattle.annotate_snippets.specs.PreparedReport.{AreAround, element_of};
+ghost use Rattle.annotate_snippets.specs.ElementContext.{context_at, is_end, is_before_message, position_of_group};
+ghost use Rattle.annotate_snippets.specs.Walk.{IsWalkAt, is_first_group};
+ghost use Rattle.annotate_snippets.specs.PreparedReport.{element_of};
 
 use crate::renderer::paths::{is_same_file, path_of};
 use crate::renderer::preprocess::PreparedElement;
 use snippet_grid::Layout;
 use snippet_suggest::SuggestionStart;
-use std::alloc::{AllocError, Global};
 
 /// Where a group stands in its report.
 #[derive(Clone, Copy, Debug, PartialEq, Eq)]
@@ -127,50 +128,84 @@ impl ElementContext {
 pub fn next_of(elements: &[PreparedElement<'_>]) -> Next
     ensures value { result ≡ spec.next_of (map element_of elements.now) }
 {
-    match elements.first() {
+    following(elements.first())
+}
+
+/// A walk over a group's elements, in order: what the rows of the element that it has come to depend on before it.
+#[derive(Clone, Copy)]
+pub struct ContextWalk {
+    /// Whether no element of the group stands before it.
+    pub first: bool,
+    /// Whether no element before it is of a file.
+    pub primary: bool,
+    /// Whether the one right before it shares its last row with it.
+    pub shares: bool,
+}
+
+impl ContextWalk {
+    /// A walk that has come to the first element.
+    pub fn new() -> ContextWalk
+        ensures begun { (es : List Element) → IsWalkAt es 0 result }
+    {
+        ContextWalk {
+            first: true,
+            primary: true,
+            shares: false,
+        }
+    }
+
+    /// What stands around the element that the walk has come to, in a group, before the one after it. The walk goes on
+    /// to that.
+    pub fn pass(
+        &mut self,
+        group: &GroupContext<'_>,
+        element: &PreparedElement<'_>,
+        after: Option<&PreparedElement<'_>>,
+    ) -> ElementContext
+        ensures around { (es : List Element) (i : ℕ) → IsWalkAt es i self.old
+            → slice_get es i ≡ Some (element_of element.now)
+            → slice_get es (i + 1) ≡ option_map element_of (option_copied after.entry)
+            → result ≡ context_at group.now.place (option_copied group.now.file) es i (element_of element.now) }
+        ensures walked { (es : List Element) (i : ℕ) → IsWalkAt es i self.old
+            → slice_get es i ≡ Some (element_of element.now)
+            → slice_get es (i + 1) ≡ option_map element_of (option_copied after.entry)
+            → IsWalkAt es (i + 1) self.new }
+    {
+        let shared = shares_row(element, after);
+        let around = ElementContext {
+            place: group.place,
+            first: self.first,
+            primary: self.primary,
+            start: start_of(group.file, self.shares, element),
+            shared,
+            next: following(after),
+        };
+        self.first = false;
+        self.primary = self.primary && !element.has_file();
+        self.shares = shared;
+        around
+    }
+}
+
+/// What follows, given the element after it.
+fn following(after: Option<&PreparedElement<'_>>) -> Next
+    ensures value { result ≡ spec.next_of (option_to_list (option_map element_of (option_copied after.entry))) }
+{
+    match after {
         None => Next::Nothing,
         Some(PreparedElement::Message(_)) => Next::Message,
         Some(_) => Next::Other,
     }
 }
 
-/// What stands around each of a group's elements, in order. The group stands at this place, and this is the file that
-/// its suggestions are for where they name no other.
-pub fn contexts_of(
-    alloc: Global,
-    place: GroupPosition,
-    file: Option<&str>,
-    elements: &[PreparedElement<'_>],
-) -> Result<Vec<ElementContext>, AllocError>
-    ensures value { IfOk result (λ around. AreAround place (option_copied file.entry)
-        (map element_of elements.now) around.items) }
+/// Whether an element and the one after it are suggestions for one file.
+fn shares_row(element: &PreparedElement<'_>, after: Option<&PreparedElement<'_>>) -> bool
+    ensures value { result ≡ spec.first_two_share (element_of element.now
+        ∷ option_to_list (option_map element_of (option_copied after.entry))) }
 {
-    let mut around = Vec::with_capacity(alloc, elements.len())?;
-    let mut primary = true;
-    let mut shares = false;
-    for (i, element) in elements.iter().enumerate() {
-        let shared = first_two_share(&elements[i..]);
-        around.push(ElementContext {
-            place,
-            first: i == 0,
-            primary,
-            start: start_of(file, shares, element),
-            shared,
-            next: next_of(&elements[i + 1..]),
-        })?;
-        primary = primary && !element.has_file();
-        shares = shared;
-    }
-    Ok(around)
-}
-
-/// Whether the first two of some elements are suggestions for one file.
-fn first_two_share(elements: &[PreparedElement<'_>]) -> bool
-    ensures value { result ≡ spec.first_two_share (map element_of elements.now) }
-{
-    match elements {
-        [first, second, ..] => first.shares_file(second),
-        _ => false,
+    match after {
+        Some(after) => element.shares_file(after),
+        None => false,
     }
 }
 

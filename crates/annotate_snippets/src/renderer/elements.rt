@@ -20,7 +20,7 @@ ghost use Rattle.snippet_titles.specs.declared.style.TitleStyle.TheVariants as s
 
 use crate::renderer::Renderer;
 use crate::renderer::cause::draw_cause;
-use crate::renderer::element_context::{ElementContext, GroupContext, contexts_of};
+use crate::renderer::element_context::{ContextWalk, ElementContext, GroupContext};
 use crate::renderer::preprocess::PreparedElement;
 use crate::renderer::suggestions::draw_patches;
 use snippet_grid::{Layout, StyledBuffer};
@@ -30,6 +30,7 @@ use snippet_titles::{
     draw_heading, draw_origin, draw_padding,
 };
 use std::alloc::AllocError;
+use std::collections::VecDeque;
 
 /// Draws a group's elements below all that stands in the grid.
 ///
@@ -47,10 +48,11 @@ pub fn draw_elements<'a>(
     ensures rows { OnOk result (buffer.new ≡ buffer.old ++ flat_map cells_of (rows_of_elements renderer.now
         group.now.layout group.now.place (option_copied group.now.file) (map element_of elements.entry.items))) }
 {
-    let alloc = buffer.allocator();
-    let around = contexts_of(alloc, group.place, group.file, &elements)?;
-    for (i, element) in elements.into_iter().enumerate() {
-        draw_element(buffer, renderer, group.layout, around[i], element)?;
+    let mut walk = ContextWalk::new();
+    let mut left = VecDeque::from(elements);
+    while let Some(element) = left.pop_front() {
+        let around = walk.pass(group, &element, left.front());
+        draw_element(buffer, renderer, group.layout, around, element)?;
     }
     Ok(())
 }

@@ -29,7 +29,7 @@ ghost use Rattle.annotate_snippets.specs.Printing.{IsPrinting, rows_of_elements}
 ghost use Rattle.annotate_snippets.specs.RowsWithoutSource.{title_part};
 
 use crate::renderer::Renderer;
-use crate::renderer::element_context::{GroupContext, contexts_of, next_of};
+use crate::renderer::element_context::{ContextWalk, GroupContext, next_of};
 use crate::renderer::elements::{draw_element, draw_message, message_style};
 use crate::renderer::page::fed;
 use crate::renderer::preprocess::{PreparedElement, PreparedGroup};
@@ -39,6 +39,7 @@ use snippet_model::snippet::{Message, Title};
 use snippet_style::LevelInner;
 use snippet_titles::{TitleStyle, is_plain_heading, print_heading};
 use std::alloc::{AllocError, Global};
+use std::collections::VecDeque;
 use std::mem;
 
 /// A group that is being printed.
@@ -174,9 +175,10 @@ fn add_elements<'a>(
         group.now.layout group.now.place (option_copied group.now.file) (map element_of elements.entry.items))) old
         (string_bytes page.new.text)) }
 {
-    let around = contexts_of(alloc, group.place, group.file, &elements)?;
-    for (i, element) in elements.into_iter().enumerate() {
-        let place = around[i];
+    let mut walk = ContextWalk::new();
+    let mut left = VecDeque::from(elements);
+    while let Some(element) = left.pop_front() {
+        let place = walk.pass(group, &element, left.front());
         if let PreparedElement::Message(message) = element {
             let style = message_style(group.layout, place);
             add_message(alloc, page, codes, renderer.hyperlink, style, message)?;

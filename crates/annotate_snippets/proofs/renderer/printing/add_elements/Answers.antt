@@ -1,72 +1,74 @@
-use Rattle.annotate_snippets.proofs.Common.{◌∙◌, ap, length, map, refl, subst, option_copied, YieldsList-from_vec, YieldsList-end}
-use Rattle.annotate_snippets.proofs.Common.{YieldsList-from_enumerate, YieldsList-turn, length_push, AreAround, element_of, Printing}
-use Rattle.annotate_snippets.proofs.ElementRows.{turn_stands}
+use Rattle.annotate_snippets.proofs.Common.{◌∙◌, ◌+◌, ap, arith, map, refl, option_copied, HasRoomFor, IsElementPrepared, PreparedElement, element_of, Printing}
+use Rattle.annotate_snippets.proofs.ElementRows.{all_at, left_all, passed, stands_there}
 use Rattle.annotate_snippets.proofs.PrintingLemmas.{elements_all, elements_drawn, elements_none, elements_printed}
 use Rattle.annotate_snippets.proofs.renderer.printing.add_elements.Goals as goal
 
-pub loop-i-init : goal.loop-i-init
-loop-i-init c =
+pub loop-element-init : goal.loop-element-init
+loop-element-init c =
     record {
       sheet = refl;
       level = refl;
+      passed = 0;
+      left = left_all c.args.elements.items c.from-left.result.items c.new-walk.result c.from-left.ensures.0 c.new-walk.ensures.begun;
       printed = λ old above printing. elements_none c.args.codes.now c.args.page.now.level c.args.renderer.now c.args.group.now.layout c.args.group.now.place
           (option_copied c.args.group.now.file) (map element_of c.args.elements.items) above old c.args.page.now printing;
     }
 
-pub draw_element-requires-clause-around : goal.draw_element-requires-clause-around
-draw_element-requires-clause-around c =
-    let turn = YieldsList-turn (YieldsList-from_enumerate (YieldsList-from_vec c.args.elements.items (cc) (cc))
-    (cc)) c.loop-i.yielded c.loop-i.i-iterator c.loop-i.yielded_by c.next.result c.next.new.self
-    (c.in-Some.i, c.in-Some.element) c.in-Some.is c.next.ensures.steps in
-    turn_stands c.args.group.now.place (option_copied c.args.group.now.file) c.args.elements.items c.in_ok-around.around.items (length c.loop-i.yielded)
-    c.in-Some.i c.in-Some.element c.index-place.result.now
-    (subst (λ xs. AreAround c.args.group.now.place (option_copied c.args.group.now.file) (map element_of xs) c.in_ok-around.around.items)
-    c.deref.ensures.value c.in_ok-around.ensures.value) turn c.index-place.ensures
-
-pub loop-i-preserved-in-Continue-branch-2 : goal.loop-i-preserved-in-Continue-branch-2
-loop-i-preserved-in-Continue-branch-2 c =
-    let turn = YieldsList-turn (YieldsList-from_enumerate (YieldsList-from_vec c.args.elements.items (cc) (cc))
-    (cc)) c.loop-i.yielded c.loop-i.i-iterator c.loop-i.yielded_by c.next.result c.next.new.self
-    (c.in-Some.i, c.in-Some.element) c.in-Some.is c.next.ensures.steps in
-    let are = subst (λ xs. AreAround c.args.group.now.place (option_copied c.args.group.now.file) (map element_of xs) c.in_ok-around.around.items)
-    c.deref.ensures.value c.in_ok-around.ensures.value in
-    let message = c.in-Message.message.now in
+pub draw_element-requires : goal.draw_element-requires
+draw_element-requires c =
+    let turn = passed c.args.group.now.place (option_copied c.args.group.now.file) c.args.elements.items c.loop-element.left.items c.pop_front.new.self.items
+    c.loop-element.invariant.passed c.loop-element.walk c.pass-place.new.self c.in-Some.element c.front.result c.pass-place.result
+    c.loop-element.invariant.left c.in-Some.ensures.items c.front.ensures.item c.pass-place.ensures.around c.pass-place.ensures.walked in
+    let ps = c.args.elements.items in
+    let n = c.loop-element.invariant.passed in
     record {
-      sheet = c.in_ok-add_message.ensures.sheet ∙ c.loop-i.invariant.sheet;
-      level = c.in_ok-add_message.ensures.level ∙ c.loop-i.invariant.level;
-      printed = λ old above printing. elements_printed c.args.codes.now c.loop-i.codes c.args.page.now.level c.loop-i.page.level c.args.renderer.now
-          c.args.group.now.layout c.args.group.now.place (option_copied c.args.group.now.file) c.args.elements.items c.in_ok-around.around.items
-          (length c.loop-i.yielded) _ c.in-Some.i c.in-Some.element c.index-place.result.now message c.message_style-style.result above old c.loop-i.page
-          c.add_message.new.page are turn c.index-place.ensures (length_push c.loop-i.yielded (c.in-Some.i, c.in-Some.element))
-          (ap element_of c.in-Message.is) c.message_style-style.ensures.value c.loop-i.invariant.sheet c.loop-i.invariant.level
-          (λ rows. c.in_ok-add_message.ensures.printed old rows)
-          (c.loop-i.invariant.printed old above printing);
+      prepared = all_at IsElementPrepared ps n c.in-Some.element c.requires.prepared turn.here;
+      room = all_at (λ (p : PreparedElement). HasRoomFor c.args.renderer.now c.args.group.now.layout (element_of p)) ps n c.in-Some.element c.requires.room
+          turn.here;
+      around = stands_there c.args.group.now.place (option_copied c.args.group.now.file) ps n c.in-Some.element c.pass-place.result turn.here turn.at_is;
     }
 
-pub loop-i-preserved : goal.loop-i-preserved
-loop-i-preserved c =
-    let turn = YieldsList-turn (YieldsList-from_enumerate (YieldsList-from_vec c.args.elements.items (cc) (cc))
-    (cc)) c.loop-i.yielded c.loop-i.i-iterator c.loop-i.yielded_by c.next.result c.next.new.self
-    (c.in-Some.i, c.in-Some.element) c.in-Some.is c.next.ensures.steps in
-    let are = subst (λ xs. AreAround c.args.group.now.place (option_copied c.args.group.now.file) (map element_of xs) c.in_ok-around.around.items)
-    c.deref.ensures.value c.in_ok-around.ensures.value in
-    let page = c.loop-i.page in
+pub loop-element-preserved-in_ok-add_message-3 : goal.loop-element-preserved-in_ok-add_message-3
+loop-element-preserved-in_ok-add_message-3 c =
+    let turn = passed c.args.group.now.place (option_copied c.args.group.now.file) c.args.elements.items c.loop-element.left.items c.pop_front.new.self.items
+    c.loop-element.invariant.passed c.loop-element.walk c.pass-place.new.self c.in-Some.element c.front.result c.pass-place.result
+    c.loop-element.invariant.left c.in-Some.ensures.items c.front.ensures.item c.pass-place.ensures.around c.pass-place.ensures.walked in
+    let n = c.loop-element.invariant.passed in
+    record {
+      sheet = c.in_ok-add_message.ensures.sheet ∙ c.loop-element.invariant.sheet;
+      level = c.in_ok-add_message.ensures.level ∙ c.loop-element.invariant.level;
+      passed = n + 1;
+      left = turn.left;
+      printed = λ old above printing. elements_printed c.args.codes.now c.loop-element.codes c.args.page.now.level c.loop-element.page.level
+          c.args.renderer.now c.args.group.now.layout c.args.group.now.place (option_copied c.args.group.now.file) c.args.elements.items n
+          c.in-Some.element c.pass-place.result c.in-Message.message.now c.message_style-style.result above old c.loop-element.page
+          c.add_message.new.page turn.here turn.at_is (ap element_of c.in-Message.is) c.message_style-style.ensures.value c.loop-element.invariant.sheet
+          c.loop-element.invariant.level (λ rows. c.in_ok-add_message.ensures.printed old rows) (c.loop-element.invariant.printed old above printing);
+    }
+
+pub loop-element-preserved : goal.loop-element-preserved
+loop-element-preserved c =
+    let turn = passed c.args.group.now.place (option_copied c.args.group.now.file) c.args.elements.items c.loop-element.left.items c.pop_front.new.self.items
+    c.loop-element.invariant.passed c.loop-element.walk c.pass-place.new.self c.in-Some.element c.front.result c.pass-place.result
+    c.loop-element.invariant.left c.in-Some.ensures.items c.front.ensures.item c.pass-place.ensures.around c.pass-place.ensures.walked in
+    let n = c.loop-element.invariant.passed in
+    let page = c.loop-element.page in
     let after : Printing = record { level = page.level; text = page.text; begun = page.begun; buffer = c.draw_element.new.buffer } in
     record {
-      sheet = c.loop-i.invariant.sheet;
-      level = c.loop-i.invariant.level;
+      sheet = c.loop-element.invariant.sheet;
+      level = c.loop-element.invariant.level;
+      passed = n + 1;
+      left = turn.left;
       printed = λ old above printing. elements_drawn c.args.codes.now c.args.page.now.level c.args.renderer.now c.args.group.now.layout
-          c.args.group.now.place (option_copied c.args.group.now.file) c.args.elements.items c.in_ok-around.around.items (length c.loop-i.yielded) _
-          c.in-Some.i c.in-Some.element c.index-place.result.now above old page after are turn c.index-place.ensures
-          (length_push c.loop-i.yielded (c.in-Some.i, c.in-Some.element)) refl refl c.in_ok-draw_element.ensures.rows
-          (c.loop-i.invariant.printed old above printing);
+          c.args.group.now.place (option_copied c.args.group.now.file) c.args.elements.items n c.in-Some.element c.pass-place.result above old page after
+          turn.here turn.at_is refl refl c.in_ok-draw_element.ensures.rows (c.loop-element.invariant.printed old above printing);
     }
 
 pub returns-clause-printed : goal.returns-clause-printed
 returns-clause-printed c = λ old above printing.
-    let end = YieldsList-end (YieldsList-from_enumerate (YieldsList-from_vec c.args.elements.items (cc) (cc))
-    (cc)) c.loop-i.yielded c.loop-i.i-iterator c.loop-i.yielded_by c.next.result c.next.new.self c.in-None.is c.next.ensures.steps in
-    elements_all c.args.codes.now c.loop-i.codes c.args.page.now.level c.loop-i.page.level c.args.renderer.now c.args.group.now.layout c.args.group.now.place
-    (option_copied c.args.group.now.file) c.args.elements.items (length c.loop-i.yielded) above old c.loop-i.page c.flush.new.page end.1
-    c.loop-i.invariant.sheet c.loop-i.invariant.level (λ rows. c.in_ok-flush.ensures.printed old rows) c.in_ok-flush.ensures.empty
-    (c.loop-i.invariant.printed old above printing)
+    elements_all c.args.codes.now c.loop-element.codes c.args.page.now.level c.loop-element.page.level c.args.renderer.now c.args.group.now.layout
+    c.args.group.now.place (option_copied c.args.group.now.file) c.args.elements.items c.loop-element.left.items c.loop-element.invariant.passed
+    c.loop-element.walk above old c.loop-element.page c.flush.new.page c.loop-element.invariant.left
+    (omega (arith, (rw c.in_default.is at c.pop_front.ensures.cases).0, c.loop-element.left.ok.0)) c.loop-element.invariant.sheet
+    c.loop-element.invariant.level (λ rows. c.in_ok-flush.ensures.printed old rows) c.in_ok-flush.ensures.empty
+    (c.loop-element.invariant.printed old above printing)
