@@ -6,7 +6,7 @@
 //! 1 | let x = 1;
 //!   |     ^
 //! ```
-ghost use Rattle.std.specs.Prelude.{◌≡◌, ◌≤◌, [], All, IfErr, IfOk, OnOk, alloc_error, length, slice_get, true};
+ghost use Rattle.std.specs.Prelude.{◌≡◌, ◌≤◌, ◌∷◌, [], All, IfErr, IfOk, OnOk, alloc_error, length, slice_get, true};
 ghost use Rattle.std.specs.List.{filter_map};
 ghost use Rattle.std.specs.Option.{option_copied};
 ghost use Rattle.annotate_snippets.specs.ElementContext as spec;
@@ -26,12 +26,13 @@ use crate::renderer::gutter::gutter_of;
 use crate::renderer::layout::layout_for;
 use crate::renderer::page_sink::PageSink;
 use crate::renderer::paths::{primary_path, report_file};
-use crate::renderer::preprocess::{PreparedGroup, prepare_groups};
+use crate::renderer::preprocess::{PreparedGroup, prepare_group, prepare_groups};
 use crate::renderer::title::draw_title;
 use crate::snippet::Report;
 use snippet_grid::StyledBuffer;
 use snippet_model::snippet::Group;
 use std::alloc::{AllocError, Global};
+use std::slice;
 
 /// What the grid of a report's group depends on beside the group.
 #[derive(Clone, Copy)]
@@ -62,6 +63,10 @@ pub fn draw_page<S: PageSink>(
     ensures stopped { IfErr result (λ error. Stops S.took S.stopped (S.Error.from_gives alloc_error)
         (graphic_form renderer.now groups.now) error sink.old sink.new) }
 {
+    if let [group] = groups {
+        let only = prepare_group(alloc, group)?;
+        return draw_only_group(alloc, renderer, groups, only, sink);
+    }
     let prepared = prepare_groups(alloc, groups)?;
     let gutter = gutter_of(renderer, &prepared);
     let file = report_file(groups);
@@ -75,6 +80,36 @@ pub fn draw_page<S: PageSink>(
         let around = group_context(renderer, &report, i, &group);
         buffer = sink.add(alloc, renderer, &around, group, buffer)?;
     }
+    Ok(())
+}
+
+/// Draws the only group of a report, and gives it to a sink. So a report of one group needs no list of those prepared.
+///
+/// # Errors
+///
+/// The sink stopped.
+fn draw_only_group<S: PageSink>(
+    alloc: Global,
+    renderer: &Renderer,
+    groups: Report<'_>,
+    prepared: PreparedGroup<'_>,
+    sink: &mut S,
+) -> Result<(), S::Error>
+    requires drawable { All IsGroupDrawable groups.now }
+    requires prepared { IsGroupPrepared prepared }
+    requires only { groups.now ≡ prepared.group.now ∷ [] }
+    ensures laws { OnOk result (PageLaws renderer.now groups.now (graphic_form renderer.now groups.now)) }
+    ensures took { OnOk result (Takes S.took true (graphic_form renderer.now groups.now) sink.old sink.new) }
+    ensures stopped { IfErr result (λ error. Stops S.took S.stopped (S.Error.from_gives alloc_error)
+        (graphic_form renderer.now groups.now) error sink.old sink.new) }
+{
+    let report = ReportContext {
+        groups,
+        gutter: gutter_of(renderer, slice::from_ref(&prepared)),
+        file: report_file(groups),
+    };
+    let around = group_context(renderer, &report, 0, &prepared);
+    sink.add(alloc, renderer, &around, prepared, StyledBuffer::new(alloc))?;
     Ok(())
 }
 

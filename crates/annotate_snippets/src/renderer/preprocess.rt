@@ -120,10 +120,26 @@ pub fn prepare_groups<'a>(
 {
     let mut prepared = Vec::with_capacity(alloc, groups.len())?;
     for group in groups {
-        let elements = prepare_elements(alloc, &group.elements)?;
-        prepared.push(PreparedGroup { group, elements })?;
+        prepared.push(prepare_group(alloc, group)?)?;
     }
     Ok(prepared)
+}
+
+/// Prepares a group.
+///
+/// # Errors
+///
+/// There is no memory for what is found.
+pub fn prepare_group<'a>(
+    alloc: Global,
+    group: &'a Group<'a>,
+) -> Result<PreparedGroup<'a>, AllocError>
+    requires drawable { IsGroupDrawable group.now }
+    ensures group { IfOk result (λ p. p.group.now ≡ group.now) }
+    ensures prepared { IfOk result IsGroupPrepared }
+{
+    let elements = prepare_elements(alloc, &group.elements)?;
+    Ok(PreparedGroup { group, elements })
 }
 
 /// Prepares the elements that are drawn, in order.

@@ -1,5 +1,4 @@
-use Rattle.annotate_snippets.proofs.Common.{◌∙◌, [], ap, map, refl, subst, sym, filter, take_all, All-nil, All-same, is_drawn, IsElementDrawable}
-use Rattle.annotate_snippets.proofs.Common.{IsGroupDrawable, IsGroupPrepared}
+use Rattle.annotate_snippets.proofs.Common.{◌∙◌, [], ap, map, subst, sym, take_all, All-nil, All-same, IsGroupDrawable, IsGroupPrepared}
 use Rattle.annotate_snippets.proofs.PreparedLemmas.{ArePrepared-push, group_of}
 use Rattle.annotate_snippets.proofs.renderer.preprocess.prepare_groups.Goals as goal
 
@@ -8,20 +7,16 @@ loop-group-init c =
     let none = c.in_ok-prepared.ensures.items in
     record { groups = ap (map group_of) none; prepared = All-same IsGroupPrepared c.in_ok-prepared.prepared.items [] none (All-nil IsGroupPrepared) }
 
-pub prepare_elements-requires : goal.prepare_elements-requires
-prepare_elements-requires c =
-    let g = c.group-item.result in
-    let drawable : IsGroupDrawable g = subst IsGroupDrawable (sym c.group-item.is) (c.requires.drawable c.loop-group.group-index g c.loop-group-test.true) in
-    record { drawable = All-same IsElementDrawable c.deref.result.now g.elements.items c.deref.ensures.value drawable.1 }
+pub prepare_group-requires : goal.prepare_group-requires
+prepare_group-requires c = record {
+  drawable = subst IsGroupDrawable (sym c.group-item.is) (c.requires.drawable c.loop-group.group-index c.group-item.result c.loop-group-test.true);
+}
 
 pub loop-group-preserved : goal.loop-group-preserved
 loop-group-preserved c =
-    let g = c.group-item.result in
-    let drawable : IsGroupDrawable g = subst IsGroupDrawable (sym c.group-item.is) (c.requires.drawable c.loop-group.group-index g c.loop-group-test.true) in
-    let elements = c.in_ok-elements.ensures.elements ∙ ap (filter is_drawn) c.deref.ensures.value in
-    ArePrepared-push c.args.groups.now c.loop-group.group-index g c.loop-group.prepared.items c.push.new.self.items _ c.in_ok-push.ensures.items
-    c.loop-group-test.true c.group-item.is refl c.loop-group.invariant
-    (record { fits = drawable.0; elements_are = elements; prepared = c.in_ok-elements.ensures.prepared })
+    ArePrepared-push c.args.groups.now c.loop-group.group-index c.group-item.result c.loop-group.prepared.items c.push.new.self.items _
+    c.in_ok-push.ensures.items c.loop-group-test.true c.group-item.is c.in_ok-prepare_group.ensures.group c.loop-group.invariant
+    c.in_ok-prepare_group.ensures.prepared
 
 pub returns : goal.returns
 returns c =
