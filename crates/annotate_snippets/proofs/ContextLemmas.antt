@@ -1,11 +1,11 @@
 -- What stands around the elements of a group is found one by one.
-use Rattle.annotate_snippets.proofs.Common.{◌≡◌, ◌∙◌, ℕ, ◌+◌, ◌-◌, ◌<◌, ◌==◌, ◌&&◌, ◌||◌, not, suc, zero, Bool, true, false}
-use Rattle.annotate_snippets.proofs.Common.{List, [], ◌∷◌, ◌++◌, Option, Some, None, length, map, take, drop, refl, sym, ap, subst, arith}
-use Rattle.annotate_snippets.proofs.Common.{list_any, slice_get, slice_index_or, is_some, option_copied, option_map, option_to_list, nat_tests, drop-map}
-use Rattle.annotate_snippets.proofs.Common.{take_more, list_any-append, slice_get_within, slice_get-map, slice_get_read, get_or_from_slice_get}
-use Rattle.annotate_snippets.proofs.Common.{Bor, Element, Cause, Message, Origin, Padding, Suggestion, SuggestionStart, PreparedElement, GroupPosition}
-use Rattle.annotate_snippets.proofs.Common.{Next, ElementContext, ContextWalk, IsWalkAt, context_at, file_of_element, first_two_share, next_of}
-use Rattle.annotate_snippets.proofs.Common.{suggestion_start, element_of}
+use Rattle.annotate_snippets.proofs.Common.{◌≡◌, ◌∙◌, ℕ, ◌+◌, ◌-◌, ◌==◌, ◌&&◌, ◌||◌, not, suc, zero, Bool, true, false}
+use Rattle.annotate_snippets.proofs.Common.{List, [], ◌∷◌, ◌++◌, Option, Some, None, length, take, drop, refl, sym, ap, arith}
+use Rattle.annotate_snippets.proofs.Common.{list_any, slice_get, is_some, option_copied, option_to_list, nat_tests}
+use Rattle.annotate_snippets.proofs.Common.{take_more, list_any-append, slice_get_within, slice_get_read, get_or_from_slice_get}
+use Rattle.annotate_snippets.proofs.Common.{Bor, Element, Cause, Message, Origin, Padding, Suggestion, SuggestionStart, GroupPosition}
+use Rattle.annotate_snippets.proofs.Common.{Next, ContextWalk, IsWalkAt, context_at, file_of_element, first_two_share, next_of}
+use Rattle.annotate_snippets.proofs.Common.{suggestion_start}
 use Rattle.std.proofs.Common.{add-one}
 use Rattle.std.proofs.lemmas.Option.{slice_get_past}
 use Rattle.std.specs.Slice.{IsItemAt}

@@ -136,7 +136,7 @@ printing_more sheet now level own old lead page done rows more same_sheet same_l
     other b on off = false≢true (sym off ∙ on)
 
 -- a plain heading has a row
-pub heading_some : (hyperlink : Bool) (style : TitleStyle) (heading : Heading) → IsPlainHeading hyperlink heading
+pub heading_some : (hyperlink : Bool) (style : TitleStyle) (heading : Heading) → IsPlainHeading heading
     → 0 < length (heading_rows hyperlink style heading)
 heading_some hyperlink style heading plain =
     let ascii : All (λ b. b < 128) heading.text = λ k d within. omega (arith, plain.plain k d within) in
@@ -251,20 +251,17 @@ elements_drawn sheet level r layout place file ps n p at above old page after at
     }
 
 -- one more, a message that is printed
-pub elements_printed : (sheet now : Stylesheet) (level own : LevelInner) (r : Renderer) (layout : Layout) (place : GroupPosition) (file : Option (List ℕ))
+pub elements_printed : (sheet : Stylesheet) (level own : LevelInner) (r : Renderer) (layout : Layout) (place : GroupPosition) (file : Option (List ℕ))
     (ps : List PreparedElement) (n : ℕ) (p : PreparedElement) (at : ElementContext) (message : message.Message) (style : TitleStyle)
     (above : List (List Cell)) (old : List ℕ) (page after : Printing) → slice_get ps n ≡ Some p
-    → at ≡ context_at place file (map element_of ps) n (element_of p) → element_of p ≡ Message message → style ≡ message_style r layout at
-    → now ≡ sheet → own ≡ level → ((rows : List (List Cell)) → IsPrinting now own old page rows
-    → IsPrinting now own old after (rows ++ heading_rows r.hyperlink style (heading_of_message message)))
+    → at ≡ context_at place file (map element_of ps) n (element_of p) → element_of p ≡ Message message → style ≡ message_style r layout at → own ≡ level
+    → ((rows : List (List Cell)) → IsPrinting sheet own old page rows
+    → IsPrinting sheet own old after (rows ++ heading_rows r.hyperlink style (heading_of_message message)))
     → ElementsPrinted sheet level r layout place file (map element_of ps) n above old page
     → ElementsPrinted sheet level r layout place file (map element_of ps) (n + 1) above old after
-elements_printed sheet now level own r layout place file ps n p at message style above old page after at_n at_is of styled same_sheet
-    same_level prints before =
-    let here = subst (λ s. (rows : List (List Cell)) → IsPrinting s level old page rows
-    → IsPrinting s level old after (rows ++ heading_rows r.hyperlink style (heading_of_message message))) same_sheet
-    (subst (λ l. (rows : List (List Cell)) → IsPrinting now l old page rows
-    → IsPrinting now l old after (rows ++ heading_rows r.hyperlink style (heading_of_message message))) same_level prints) in
+elements_printed sheet level own r layout place file ps n p at message style above old page after at_n at_is of styled same_level prints before =
+    let here = subst (λ l. (rows : List (List Cell)) → IsPrinting sheet l old page rows
+    → IsPrinting sheet l old after (rows ++ heading_rows r.hyperlink style (heading_of_message message))) same_level prints in
     let es : List Element = map element_of ps in
     let e : Element = element_of p in
     let more : List (List Cell) = heading_rows r.hyperlink style (heading_of_message message) in
@@ -285,16 +282,15 @@ elements_printed sheet now level own r layout place file ps n p at message style
     never b off on = false≢true (sym off ∙ on)
 
 -- all of them, and what isn't printed yet
-pub elements_all : (sheet now : Stylesheet) (level own : LevelInner) (r : Renderer) (layout : Layout) (place : GroupPosition) (file : Option (List ℕ))
+pub elements_all : (sheet : Stylesheet) (level own : LevelInner) (r : Renderer) (layout : Layout) (place : GroupPosition) (file : Option (List ℕ))
     (ps left : List PreparedElement) (n : ℕ) (walk : ContextWalk) (above : List (List Cell)) (old : List ℕ) (page after : Printing)
-    → AreLeft ps n left walk → length left ≡ 0 → now ≡ sheet → own ≡ level
-    → ((rows : List (List Cell)) → IsPrinting now own old page rows → IsPrinting now own old after rows)
+    → AreLeft ps n left walk → length left ≡ 0 → own ≡ level
+    → ((rows : List (List Cell)) → IsPrinting sheet own old page rows → IsPrinting sheet own old after rows)
     → after.buffer ≡ []
     → ElementsPrinted sheet level r layout place file (map element_of ps) n above old page
     → WeavesRows sheet level (above ++ flat_map cells_of (rows_of_elements r layout place file (map element_of ps))) old (string_bytes after.text)
-elements_all sheet now level own r layout place file ps left n walk above old page after at none same_sheet same_level flushed empty before =
-    let here = subst (λ s. (rows : List (List Cell)) → IsPrinting s level old page rows → IsPrinting s level old after rows) same_sheet
-    (subst (λ l. (rows : List (List Cell)) → IsPrinting now l old page rows → IsPrinting now l old after rows) same_level flushed) in
+elements_all sheet level own r layout place file ps left n walk above old page after at none same_level flushed empty before =
+    let here = subst (λ l. (rows : List (List Cell)) → IsPrinting sheet l old page rows → IsPrinting sheet l old after rows) same_level flushed in
     subst (λ rows. WeavesRows sheet level rows old (string_bytes after.text))
     (each_drawn r layout place file ps left n walk above before.rows at none before.drawn)
     (all_printed sheet level old after before.rows empty (here before.rows before.printing))
@@ -302,18 +298,18 @@ elements_all sheet now level own r layout place file ps left n walk above old pa
 -- ---- a group
 
 -- the elements below the rows of the title are the group
-pub group_printed : (sheet now : Stylesheet) (level own : LevelInner) (r : Renderer) (layout : Layout) (place : GroupPosition) (file : Option (List ℕ))
-    (g : Group) (es : List Element) (page : Printing) (old new : List ℕ) → es ≡ drawn_elements g → now ≡ sheet → own ≡ level
+pub group_printed : (sheet : Stylesheet) (level own : LevelInner) (r : Renderer) (layout : Layout) (place : GroupPosition) (file : Option (List ℕ))
+    (g : Group) (es : List Element) (page : Printing) (old new : List ℕ) → es ≡ drawn_elements g → own ≡ level
     → IsPrinting sheet level old page (title_part r layout place (next_of (drawn_elements g)) g.title)
-    → ((from : List ℕ) (above : List (List Cell)) → IsPrinting now own from page above
-    → WeavesRows now own (above ++ flat_map cells_of (rows_of_elements r layout place file es)) from new)
+    → ((from : List ℕ) (above : List (List Cell)) → IsPrinting sheet own from page above
+    → WeavesRows sheet own (above ++ flat_map cells_of (rows_of_elements r layout place file es)) from new)
     → WeavesRows sheet level (group_rows (group_page r layout place file g)) old new
-group_printed sheet now level own r layout place file g es page old new drawn same_sheet same_level titled prints =
+group_printed sheet level own r layout place file g es page old new drawn same_level titled prints =
     let title : List (List Cell) = title_part r layout place (next_of (drawn_elements g)) g.title in
-    let here = subst (λ s. IsPrinting s own old page title) (sym same_sheet) (subst (λ l. IsPrinting sheet l old page title) (sym same_level) titled) in
+    let here = subst (λ l. IsPrinting sheet l old page title) (sym same_level) titled in
     let rows : List (List Cell) = title ++ flat_map cells_of (rows_of_elements r layout place file es) in
     subst (λ elements. WeavesRows sheet level (title ++ flat_map cells_of (rows_of_elements r layout place file elements)) old new) drawn
-    (subst (λ s. WeavesRows s level rows old new) same_sheet (subst (λ l. WeavesRows now l rows old new) same_level (prints old title here)))
+    (subst (λ l. WeavesRows sheet l rows old new) same_level (prints old title here))
 
 -- rows below those that are printed, drawn in the grid
 pub printing_drawn : (sheet : Stylesheet) (level : LevelInner) (old : List ℕ) (page after : Printing) (rows more : List (List Cell))

@@ -1,32 +1,16 @@
 -- Codes of which one more is made.
-use Rattle.snippet_grid.proofs.Common.{◌≡◌, inl, inr, ℕ, ◌<◌, Bool, true, false, if◌then◌else◌, List, [], ◌∷◌, ◌++◌, Option, None}
-use Rattle.snippet_grid.proofs.Common.{Some, IfSome, get_or, length, map, refl, sym, ap, ◌∙◌, arith, encode_utf8_all, cases_eq, get_or-set_same}
-use Rattle.snippet_grid.proofs.Common.{get_or-set_other, length-set, get_or_default, get_or-map, AreOpenings, opening_bytes, style_at, styles_in, usual_bytes}
-use Rattle.snippet_grid.proofs.Common.{UsualCode, code, color_code, effect_code, effect_codes, reset, is_plain_style, no_effects, plain_style, Color, Effects}
+use Rattle.snippet_grid.proofs.Common.{UsualCode, usual_bytes}
+use Rattle.snippet_grid.proofs.Common.{◌≡◌, ℕ, ◌<◌, Bool, true, false, if◌then◌else◌, List, [], ◌∷◌, ◌++◌, Option, None}
+use Rattle.snippet_grid.proofs.Common.{Some, IfSome, get_or, map, refl, sym, ap, ◌∙◌, encode_utf8_all}
+use Rattle.snippet_grid.proofs.Common.{get_or_default, get_or-map, AreOpenings, opening_bytes, style_at, styles_in}
+use Rattle.snippet_grid.proofs.Common.{code, color_code, effect_code, effect_codes, reset, is_plain_style, no_effects, plain_style, Color, Effects}
 use Rattle.snippet_grid.proofs.Common.{encode-opening, reset-bytes, bold-alone, plain_is_plain, Style, Stylesheet}
 use Rattle.std.proofs.Common.{append-nil}
-use Rattle.std.proofs.Math.ListN.{set}
 use Rattle.std.specs.Prelude.{codes}
-use Rattle.snippet_grid.proofs.WeaveLemmas.{some_same}
 
--- the code that opens the style at a place is kept
-pub openings_set : {T : Type 0} (bytes : T → List ℕ) (codes : List (Option T)) (styles : List Style) (i : ℕ) (code : T) (d : Style)
-    → AreOpenings bytes codes styles → i < length styles → bytes code ≡ opening_bytes (get_or styles i d) → AreOpenings bytes (set codes i (Some code)) styles
-openings_set {T} bytes codes styles i code d are within is =
-    record {
-      count = length-set codes i (Some code) ∙ are.count;
-      each = λ k other e s inside reads. elim (cases_eq k i) [
-        | inl same ↦
-            let read : Some other ≡ Some code = sym reads ∙ ap (λ j. get_or (set codes i (Some code)) j e) same
-            ∙ get_or-set_same codes i (Some code) e (omega (arith, are.count, within)) in
-            ap bytes (some_same read) ∙ is ∙ ap opening_bytes (get_or_default styles i d s within ∙ ap (λ j. get_or styles j s) (sym same))
-        | inr apart ↦ are.each k other e s inside (sym (get_or-set_other codes i k (Some code) e apart) ∙ reads)
-      ];
-    }
-
--- a usual code that is kept opens the style at its place
+-- a usual code opens the style at its place
 pub opening_kept : (codes : List (Option UsualCode)) (o e : Option UsualCode) (sheet seen : Stylesheet) (i : ℕ)
-    → AreOpenings usual_bytes codes (styles_in sheet) → i < 11 → sheet ≡ seen → get_or codes i e ≡ o
+    → AreOpenings codes (styles_in sheet) → i < 11 → sheet ≡ seen → get_or codes i e ≡ o
     → IfSome o (λ code. usual_bytes code ≡ opening_bytes (style_at seen i))
 opening_kept codes None e sheet seen i are within same is = tt
 opening_kept codes (Some code) e sheet seen i are within same is =

@@ -10,7 +10,8 @@ pub use Rattle.snippet_grid.specs.Html.{same_html_look, started, html_bytes, anc
 pub use Rattle.snippet_grid.specs.HtmlLooks.{look_seen, IsHtmlGap}
 pub use Rattle.snippet_grid.specs.HtmlRead.{unescaped, html_says, piece_tag, tags_of, without_tags, CharInTags, InTags, InText, InTag, InEscape, after_tag}
 pub use Rattle.snippet_grid.specs.HtmlRead.{as_read, html_reads, quoted, reads, tags_in, ReadChar, chars_of_cells, chars_of_rows, feed_read}
-pub use Rattle.snippet_grid.specs.OpenRow.{AddsCells, IsPrinted, Goes}
+pub use Rattle.snippet_grid.specs.GridRow.{AddsToRow, GainsRows, appended}
+pub use Rattle.snippet_grid.specs.OpenRow.{AddsCells, IsPrinted, Goes, cells_alike}
 pub use Rattle.snippet_grid.specs.Print.{row_text, plain_text, further_text}
 pub use Rattle.snippet_grid.specs.RunBounds.{most_runs, fewest_runs, Look, look_of, goes_on, fewest_after, most_after, same_level, same_role, same_look}
 pub use Rattle.snippet_grid.specs.RunBounds.{is_bare}
@@ -18,15 +19,16 @@ pub use Rattle.snippet_grid.specs.Runs.{IsRun, BeginsWith, shown_cell, IsRow, En
 pub use Rattle.snippet_grid.specs.Runs.{cells_to, IsPart, IsGrid, ShowsMore, Differ, IsPut, Continues, AddsRun, Touches, IsWord, IsWidened, IsJoined}
 pub use Rattle.snippet_grid.specs.Runs.{BeginsAfter, IsClear, AreTouchedRuns, ArePieces, BeginsBy, IsFront, IsBack, ShowsCopy, IsLast}
 unfoldable pub use Rattle.snippet_grid.specs.Runs.{grid_shown}
-pub use Rattle.snippet_grid.specs.SheetCodes.{style_at, opening_bytes, styles_in, AreOpenings}
+pub use Rattle.snippet_grid.specs.SheetCodes.{style_at, opening_bytes, styles_in}
 pub use Rattle.snippet_grid.specs.Stored.{Stored, stored}
 pub use Rattle.snippet_grid.specs.Stretch.{PrintsStretch}
 pub use Rattle.snippet_grid.specs.StyledChars.{ch_of, cell_of}
-pub use Rattle.snippet_grid.specs.UsualCodes.{usual_bytes}
+pub use Rattle.snippet_grid.specs.UsualCodes.{AreOpenings, usual_bytes}
 pub use Rattle.snippet_grid.specs.Weaving.{PrintsFurther, WeavesRow, PrintsRows, WeavesRows}
 pub use Rattle.snippet_grid.specs.Woven.{piece_text, Piece, Char, Opening, Reset, PrintsRow, Prints, LinkTo, LinkEnd, PrintsCells, next_style, next_link}
 pub use Rattle.snippet_grid.specs.Woven.{links_of, plain_piece, piece_link, IsStyleOf, IsOfSheet, AreLinksEnded, IsWoven, link_begun, links_after}
 pub use Rattle.snippet_grid.specs.declared.change.Change.{Change}
+pub use Rattle.snippet_grid.specs.declared.grid_row.GridRow.{GridRow}
 pub use Rattle.snippet_grid.specs.declared.printed_row.PrintedRow.{PrintedRow}
 pub use Rattle.snippet_grid.specs.declared.runs.Run.{Run}
 pub use Rattle.snippet_grid.specs.declared.styled_char.StyledChar.{StyledChar}

@@ -1,5 +1,6 @@
 -- What a text in HTML reads as: piece by piece, without tags and with escapes undone, it is the characters of its pieces; and its tags
 -- are those of its pieces.
+use Rattle.snippet_grid.proofs.Common.{cells_alike}
 use Rattle.snippet_grid.proofs.Common.{◌≡◌, ◌==◌, ℕ, zero, suc, replicate, ◌<◌, Bool, true, false, codes, ◌&&◌, if◌then◌else◌, nat_eq}
 use Rattle.snippet_grid.proofs.Common.{List, [], ◌∷◌, ◌++◌, length, Option, map, refl, sym, ap, ◌∙◌, arith, encode_utf8, encode_utf8_all}
 use Rattle.snippet_grid.proofs.Common.{append_assoc, append-nil, flat_map-append, false≢true, encodes-append, encodes-chars, nat_list_eq_equiv, IsUtf8}
@@ -9,7 +10,7 @@ use Rattle.snippet_grid.proofs.Common.{started, Cell, ElementStyle, LevelInner, 
 use Rattle.snippet_grid.proofs.Common.{html_says, piece_tag, tags_of, unescaped, without_tags}
 use Rattle.std.specs.Str.{chars}
 use lib.Pointwise.{pointwise}
-use Rattle.snippet_grid.proofs.ReplaceLemmas.{alike, space_bytes}
+use Rattle.snippet_grid.proofs.ReplaceLemmas.{space_bytes}
 use Rattle.snippet_grid.proofs.WeaveLemmas.{Url}
 
 -- ---- characters that a text lacks
@@ -276,16 +277,16 @@ look_is look class address first second =
 
 -- cells after one that stands in the same
 alike_html : (level : LevelInner) (role : ElementStyle) (link : Option Url) (word : List ℕ) (more : List Cell)
-    → cells_html level (look_at level role link) (alike role link word ++ more) ≡ map Text word ++ cells_html level (look_at level role link) more
+    → cells_html level (look_at level role link) (cells_alike role link word ++ more) ≡ map Text word ++ cells_html level (look_at level role link) more
 alike_html level role link [] more = refl
 alike_html level role link (ch ∷ word) more =
     let look = look_at level role link in
-    ap (λ (tags : List HtmlPiece). tags ++ (Text ch ∷ cells_html level look (alike role link word ++ more))) (between_same look)
+    ap (λ (tags : List HtmlPiece). tags ++ (Text ch ∷ cells_html level look (cells_alike role link word ++ more))) (between_same look)
     ∙ ap (λ (ps : List HtmlPiece). Text ch ∷ ps) (alike_html level role link word more)
 
 -- cells after one that stands in something else, or the same
 stretch_html : (level : LevelInner) (last : HtmlLook) (role : ElementStyle) (link : Option Url) (word : List ℕ) (more : List Cell) → 0 < length word
-    → cells_html level last (alike role link word ++ more)
+    → cells_html level last (cells_alike role link word ++ more)
     ≡ (tags_between last (look_at level role link) ++ map Text word) ++ cells_html level (look_at level role link) more
 stretch_html level last role link [] more some = absurd (omega arith)
 stretch_html level last role link (ch ∷ word) more some =
@@ -303,10 +304,10 @@ HtmlGoes level last done old now =
 -- a stretch was printed
 pub html_stretch : (level : LevelInner) (last : HtmlLook) (role : ElementStyle) (link : Option Url) (word : List ℕ) (done : List Cell) (old now new : List ℕ)
     → 0 < length word → AddsHtml (tags_between last (look_at level role link) ++ map Text word) now new → HtmlGoes level last done old now
-    → HtmlGoes level (look_at level role link) (done ++ alike role link word) old new
+    → HtmlGoes level (look_at level role link) (done ++ cells_alike role link word) old new
 html_stretch level last role link word done old now new some added goes more =
     let look = look_at level role link in
-    let cells = alike role link word in
+    let cells = cells_alike role link word in
     let tags : List HtmlPiece = tags_between last look ++ map Text word in
     let rest : List HtmlPiece = cells_html level look more in
     ap (λ (cs : List Cell). old ++ html_bytes (row_html level cs)) (append_assoc done cells more)

@@ -1,4 +1,5 @@
 -- Rows that are printed as HTML run by run.
+use Rattle.snippet_grid.proofs.Common.{cells_alike}
 use Rattle.snippet_grid.proofs.Common.{◌≡◌, ◌≢◌, ℕ, ◌*◌, ◌+◌, ◌-◌, ◌<◌, ◌≤◌, List, length, get_or, refl, sym, ap, ◌∙◌}
 use Rattle.snippet_grid.proofs.Common.{arith, inl, inr, All, cases_lt, cases_eq, changed_by, IsChanged, IsBlankRun, IsPartOfRow, ShowsSpan, Cell, SPACE, IsRun}
 use Rattle.snippet_grid.proofs.Common.{IsRow, IsPart, IsPut, BeginsWith, EndsBy, Precedes, run_cell, shown_cell, Change, Run, [], ◌∷◌, ◌++◌, map}
@@ -11,7 +12,6 @@ use Rattle.snippet_grid.proofs.ShownLemmas.{pick, painted-grown, holds_inside, h
 use Rattle.snippet_grid.proofs.RunLemmas.{BeginsWith-same, BeginsWith-trans, stretch}
 use Rattle.snippet_grid.proofs.GridShown.{count_shown}
 use Rattle.snippet_grid.proofs.HtmlReads.{HtmlGoes, adds_both, adds_line_feed, html_stretch, rows_html-more}
-use Rattle.snippet_grid.proofs.ReplaceLemmas.{alike}
 
 -- ---- a row
 
@@ -34,7 +34,7 @@ html_spaces : (level : LevelInner) (text : List ℕ) (runs : List Run) (row n co
 html_spaces level text runs row n col to last old now new some before added so_far =
     let count = to - col in
     let word : List ℕ = replicate count 32 in
-    let more : List Cell = alike NoStyle None word in
+    let more : List Cell = cells_alike NoStyle None word in
     let as_cell = λ (ch : ℕ). (let cell : Cell = record { ch = ch; role = NoStyle; link = None } in cell) in
     let long : length word ≡ count = length-replicate count 32 in
     let long_more : length more ≡ count = length-map word as_cell ∙ long in
@@ -77,7 +77,7 @@ html_run level text runs row n col d last old now new is_row within =
     let is_run : IsRun text run = is_row.are_runs n d within in
     let word = run_chars text run in
     let as_cell = λ (ch : ℕ). (let cell : Cell = record { ch = ch; role = run.role; link = option_copied run.link } in cell) in
-    let more : List Cell = alike run.role (option_copied run.link) word in
+    let more : List Cell = cells_alike run.role (option_copied run.link) word in
     let long_more : length more ≡ length word = length-map word as_cell in
     let cells : cells_to text runs row (run.cell + run.count) ≡ cells_to text runs row col
     ++ more = cells_more text runs row col (run.cell + run.count) more (omega (arith, is_run.counted)) (λ k inside.

@@ -1,5 +1,6 @@
 pub mod Common
 pub mod AddedRows
+pub mod AppendLemmas
 pub mod CopyLemmas
 pub mod CodeLemmas
 pub mod CutLemmas

@@ -1,4 +1,5 @@
 -- Lemmas on grids in which a stretch of a row gave its place to other cells.
+use Rattle.snippet_grid.proofs.Common.{cells_alike}
 use Rattle.snippet_grid.proofs.Common.{◌≡◌, ◌≢◌, ℕ, ◌+◌, ◌-◌, ◌<◌, ◌≤◌, max, min, List, [], ◌++◌, length, map, take, drop}
 use Rattle.snippet_grid.proofs.Common.{set, get_or, sym, ap, ◌∙◌, arith, inl, inr, subst, places, same_lists, get_or-map, get_or_past, get_or-set_same}
 use Rattle.snippet_grid.proofs.Common.{get_or-set_other, set-get_or, length-map, length-set, cases_lt, cases_eq, row_at, changed_within, cells_changed}
@@ -269,10 +270,6 @@ row_text-text_cells role [] = refl
 row_text-text_cells role (c ∷ cs) = ap (λ t. c ∷ t) (row_text-text_cells role cs)
 
 -- Cells of one role and one link are printed by their text alone.
--- the cells of these characters, in one role, with one link
-abbrev pub alike : ElementStyle → Option Url → List ℕ → List Cell
-alike role link word = map (λ ch. (let cell : Cell = record { ch = ch; role = role; link = link } in cell)) word
-
 -- the codes between two styles
 pub codes_added : (last next : Style) (old mid new code : List ℕ) → code ≡ encode_utf8_all (reset last) → mid ≡ old ++ code
     → new ≡ mid ++ encode_utf8_all (opening next) → new ≡ old ++ flat_map piece_text (Reset last ∷ Opening next ∷ [])
@@ -291,7 +288,7 @@ more_spaces old mid new a b n sum first second =
 -- after a cell of the same style and link the text is enough
 pub more_printed : (sheet : Stylesheet) (level : LevelInner) (style : Style) (role : ElementStyle) (link : Option Url) (word : List ℕ)
     (done : List Cell) (old now : List ℕ) → style ≡ style_of sheet level role → Goes sheet level (Some style) link done old now
-    → Goes sheet level (Some style) link (done ++ alike role link word) old (now ++ encode_utf8_all word)
+    → Goes sheet level (Some style) link (done ++ cells_alike role link word) old (now ++ encode_utf8_all word)
 more_printed sheet level style role link [] done old now is goes =
     subst (λ (cells : List Cell). Goes sheet level (Some style) link cells old (now ++ [])) (sym (append-nil done))
     (subst (λ (t : List ℕ). Goes sheet level (Some style) link done old t) (sym (append-nil now)) goes)
@@ -303,15 +300,15 @@ more_printed sheet level style role link (ch ∷ word) done old now is goes =
     (λ url is_url differs. absurd (differs is_url)) refl goes in
     let rest = more_printed sheet level style role link word (done ++ cell ∷ []) old (now ++ encode_utf8 ch) is one in
     subst (λ (cells : List Cell). Goes sheet level (Some style) link cells old (now ++ encode_utf8_all (ch ∷ word)))
-    (append_assoc done (cell ∷ []) (alike role link word))
-    (subst (λ (t : List ℕ). Goes sheet level (Some style) link ((done ++ cell ∷ []) ++ alike role link word)
+    (append_assoc done (cell ∷ []) (cells_alike role link word))
+    (subst (λ (t : List ℕ). Goes sheet level (Some style) link ((done ++ cell ∷ []) ++ cells_alike role link word)
     old t) (append_assoc now (encode_utf8 ch) (encode_utf8_all word)) rest)
 
 -- a stretch after cells of another style or link
 pub stretch_printed : (sheet : Stylesheet) (level : LevelInner) (last next : Style) (role : ElementStyle) (last_link next_link : Option Url)
     (word : List ℕ) (done : List Cell) (old now new : List ℕ) → 0 < length word → next ≡ style_of sheet level role
     → PrintsStretch word last next last_link next_link now new → Goes sheet level (Some last) last_link done old now
-    → Goes sheet level (Some next) next_link (done ++ alike role next_link word) old new
+    → Goes sheet level (Some next) next_link (done ++ cells_alike role next_link word) old new
 stretch_printed sheet level last next role last_link next_link [] done old now new some is prints goes = absurd (omega arith)
 stretch_printed sheet level last next role last_link next_link (ch ∷ word) done old now new some is prints goes =
     let cell : Cell = record { ch = ch; role = role; link = next_link } in
@@ -322,8 +319,8 @@ stretch_printed sheet level last next role last_link next_link (ch ∷ word) don
     goes in
     let rest = more_printed sheet level next role next_link word (done ++ cell ∷ []) old first is one in
     let bytes : first ++ encode_utf8_all word ≡ new = append_assoc prints.begun (encode_utf8 ch) (encode_utf8_all word) ∙ sym prints.text_is in
-    subst (λ (cells : List Cell). Goes sheet level (Some next) next_link cells old new) (append_assoc done (cell ∷ []) (alike role next_link word))
-    (subst (λ (t : List ℕ). Goes sheet level (Some next) next_link ((done ++ cell ∷ []) ++ alike role next_link word) old t) bytes rest)
+    subst (λ (cells : List Cell). Goes sheet level (Some next) next_link cells old new) (append_assoc done (cell ∷ []) (cells_alike role next_link word))
+    (subst (λ (t : List ℕ). Goes sheet level (Some next) next_link ((done ++ cell ∷ []) ++ cells_alike role next_link word) old t) bytes rest)
 
 -- the bytes of spaces
 pub space_bytes : (n : ℕ) → encode_utf8_all (replicate n 32) ≡ replicate n 32

@@ -1,4 +1,5 @@
 -- A row that is printed run by run.
+use Rattle.snippet_grid.proofs.Common.{cells_alike}
 use Rattle.snippet_grid.proofs.Common.{◌≡◌, ℕ, ◌+◌, ◌-◌, ◌<◌, ◌≤◌, List, [], ◌∷◌, ◌++◌, length, take, drop, get_or}
 use Rattle.snippet_grid.proofs.Common.{replicate, Option, None, Some, refl, sym, ap, ◌∙◌, subst, arith, false, inl, inr, All, if◌then◌else◌}
 use Rattle.snippet_grid.proofs.Common.{same_lists, take-append-drop, drop_more, length-append, length-map, length-replicate, get_or-map, get_or-replicate}
@@ -8,7 +9,7 @@ use Rattle.snippet_grid.proofs.Common.{holds, painted_over, shown_cell, cells_to
 use Rattle.snippet_grid.proofs.Common.{encode_utf8, append_assoc, append-nil, take_more, take_all, get_or-take, length-take, flat_map-append, range_with_len}
 use Rattle.snippet_grid.proofs.Common.{flat_map, row_at, grid_shown, Piece, Char, piece_text, PrintsFurther, WeavesRow, WeavesRows}
 use Rattle.snippet_grid.proofs.ShownLemmas.{painted-append, All-tail, pick, holds_inside, holds_before, holds-after}
-use Rattle.snippet_grid.proofs.ReplaceLemmas.{alike, stretch_printed}
+use Rattle.snippet_grid.proofs.ReplaceLemmas.{stretch_printed}
 use Rattle.snippet_grid.proofs.WeaveLemmas.{Url, Goes, further-append}
 use Rattle.snippet_grid.proofs.RunLemmas.{stretch, below_take}
 use Rattle.snippet_grid.proofs.PutLemmas.{AreOrdered, rows_rise, split_three, painted_middle}
@@ -95,7 +96,7 @@ pub woven_gap : (sheet : Stylesheet) (level : LevelInner) (text : List ℕ) (run
     → WovenTo sheet level text runs row n to space None old new
 woven_gap sheet level text runs row n col to count style space link old now new some is_count before is prints woven =
     let word : List ℕ = replicate count 32 in
-    let more : List Cell = alike NoStyle None word in
+    let more : List Cell = cells_alike NoStyle None word in
     let long : length word ≡ count = length-replicate count 32 in
     let long_more : length more ≡ count = length-map word (λ ch. (let cell : Cell = record { ch = ch; role = NoStyle; link = None } in cell)) ∙ long in
     let cells : cells_to text runs row to ≡ cells_to text runs row col ++ more = cells_more text runs row col to more (omega arith) (λ k within.
@@ -122,7 +123,7 @@ woven_run sheet level text runs row n col d style next link old now new is_row w
     let is_run : IsRun text run = is_row.are_runs n d within in
     let word = run_chars text run in
     let as_cell = λ (ch : ℕ). (let cell : Cell = record { ch = ch; role = run.role; link = option_copied run.link } in cell) in
-    let more : List Cell = alike run.role (option_copied run.link) word in
+    let more : List Cell = cells_alike run.role (option_copied run.link) word in
     let long_more : length more ≡ length word = length-map word as_cell in
     let cells : cells_to text runs row (run.cell + run.count) ≡ cells_to text runs row col
     ++ more = cells_more text runs row col (run.cell + run.count) more (omega (arith, is_run.counted)) (λ k inside.

@@ -2,6 +2,7 @@ pub mod AddedRow
 pub mod Calls
 pub mod Changes
 pub mod Grid
+pub mod GridRow
 pub mod Html
 pub mod HtmlLooks
 pub mod HtmlRead

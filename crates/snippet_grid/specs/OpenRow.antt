@@ -1,10 +1,12 @@
 -- A row of which the first cells are printed, and the rest is to come.
-use Rattle.std.specs.Prelude.{◌≡◌, ℕ, List, ◌++◌, Option, None, Some, string_bytes}
+use Rattle.std.specs.Prelude.{◌≡◌, ℕ, List, ◌++◌, Option, Some, map, string_bytes}
 use Rattle.std.specs.List.{flat_map}
+use Rattle.std.specs.Option.{option_copied}
 use Rattle.snippet_grid.specs.Woven.{Piece, piece_text, PrintsCells, PrintsRow}
 use Rattle.snippet_grid.specs.declared.printed_row.PrintedRow.{PrintedRow}
 use Rattle.snippet_style.specs.Cell.{Cell}
 use Rattle.snippet_style.specs.Stylesheet.{style_of}
+use Rattle.snippet_style.specs.declared.role.ElementStyle.{ElementStyle}
 use Rattle.snippet_style.specs.declared.role.LevelInner.{LevelInner}
 use Rattle.snippet_style.specs.declared.style.Style.{Style}
 use Rattle.snippet_style.specs.declared.stylesheet.Stylesheet.{Stylesheet}
@@ -20,11 +22,16 @@ abbrev pub Goes : Stylesheet → LevelInner → Option Style → Option (List �
 Goes sheet level style link done old now =
     (rest : List Piece) (more : List Cell) → PrintsCells sheet level style link rest more → Completes sheet level done old now rest more
 
--- these cells of a row are printed under a sheet, after this text: the style of the last one is open, and no link
-pub record IsPrinted (sheet : Stylesheet) (cells : List Cell) (old : List ℕ) (row : PrintedRow) : Type 0 where
-  pub goes : Goes sheet row.level (Some (style_of sheet row.level row.role)) None cells old (string_bytes row.text)
+-- these cells of a row are printed under its sheet, after this text: the style and the link of the last one are open
+pub record IsPrinted (cells : List Cell) (old : List ℕ) (row : PrintedRow) : Type 0 where
+  pub goes : Goes row.codes.now row.level (Some (style_of row.codes.now row.level row.role)) (option_copied row.link) cells old (string_bytes row.text)
 
--- these cells were added to a row, in the same level
-pub record AddsCells (sheet : Stylesheet) (more : List Cell) (before after : PrintedRow) : Type 0 where
+-- these cells were added to a row, under the same sheet and in the same level
+pub record AddsCells (before after : PrintedRow) (more : List Cell) : Type 0 where
+  pub sheet : after.codes.now ≡ before.codes.now
   pub level : after.level ≡ before.level
-  pub printed : (cells : List Cell) (old : List ℕ) → IsPrinted sheet cells old before → IsPrinted sheet (cells ++ more) old after
+  pub printed : (cells : List Cell) (old : List ℕ) → IsPrinted cells old before → IsPrinted (cells ++ more) old after
+
+-- the cells of these characters, all in one role and with one link
+abbrev pub cells_alike : ElementStyle → Option (List ℕ) → List ℕ → List Cell
+cells_alike role link word = map (λ ch. (let cell : Cell = record { ch = ch; role = role; link = link } in cell)) word

@@ -1,8 +1,8 @@
-//! The codes that open a sheet's styles, each made once, when it is first needed.
-ghost use Rattle.std.specs.Prelude.{◌≡◌, ◌≢◌, ◌<◌, ◌++◌, true, false, map, slice_index_or, IfOk, IfSome, OnOk};
+//! The codes that open a sheet's styles. Those of usual styles are known from the start, and take no memory.
+ghost use Rattle.std.specs.Prelude.{◌≡◌, ◌≢◌, ◌<◌, ◌++◌, true, false, map, slice_index_or, IfSome, OnOk};
 ghost use Rattle.std.specs.Prelude.{encode_utf8_all, string_bytes};
 ghost use Rattle.snippet_grid.specs.SheetCodes.{opening_bytes, style_at, styles_in};
-ghost use Rattle.snippet_grid.specs.UsualCodes.{usual_bytes};
+ghost use Rattle.snippet_grid.specs.UsualCodes.{AreOpenings, usual_bytes};
 ghost use Rattle.snippet_style.specs.Codes.{reset};
 ghost use Rattle.snippet_style.specs.Style.{is_plain_style};
 ghost use Rattle.snippet_style.specs.Stylesheet as spec;
@@ -11,26 +11,24 @@ ghost use Rattle.snippet_style.specs.declared.stylesheet.Stylesheet.{Stylesheet}
 
 use crate::usual_codes::{UsualCode, usual_opening};
 use snippet_style::{ElementStyle, LevelInner, Style, Stylesheet, write_opening};
-use std::alloc::{AllocError, Global};
+use std::alloc::AllocError;
 use std::marker::Model;
 
 /// A sheet of styles, with the codes that open them. Both are found by the place of a style among the sheet's fields.
 #[derive(Drop)]
 pub struct SheetCodes {
-    alloc: Global,
     sheet: Stylesheet,
     /// The styles of the sheet, in the order of its fields, and whether each is plain.
     styles: [Style; 11],
     plain: [bool; 11],
-    /// The codes of usual styles that were needed so far, in the same order, and those of others.
+    /// The codes of those that are usual ones, in the same order.
     usual: [Option<UsualCode>; 11],
-    codes: [Option<String>; 11],
 }
 
 impl Model for SheetCodes {
-    ghost use Rattle.std.specs.Prelude.{◌≡◌, map, string_bytes};
-    ghost use Rattle.snippet_grid.specs.SheetCodes.{AreOpenings, styles_in};
-    ghost use Rattle.snippet_grid.specs.UsualCodes.{usual_bytes};
+    ghost use Rattle.std.specs.Prelude.{◌≡◌, map};
+    ghost use Rattle.snippet_grid.specs.SheetCodes.{styles_in};
+    ghost use Rattle.snippet_grid.specs.UsualCodes.{AreOpenings};
     ghost use Rattle.snippet_style.specs.Style.{is_plain_style};
     ghost use Rattle.snippet_style.specs.declared.stylesheet.Stylesheet.{Stylesheet};
 
@@ -41,27 +39,20 @@ impl Model for SheetCodes {
     ghost invariant = { λ c. record {
       styles : c.styles ≡ styles_in c.sheet;
       plain : c.plain ≡ map is_plain_style (styles_in c.sheet);
-      usual : AreOpenings usual_bytes c.usual (styles_in c.sheet);
-      codes : AreOpenings string_bytes c.codes (styles_in c.sheet);
+      usual : AreOpenings c.usual (styles_in c.sheet);
     } };
 }
 
 impl SheetCodes {
-    /// The codes of a sheet, of which none is made yet.
-    pub fn new(alloc: Global, sheet: &Stylesheet) -> SheetCodes
+    /// The codes of a sheet.
+    pub fn new(sheet: &Stylesheet) -> SheetCodes
         ensures sheet { result ≡ sheet.now }
     {
         SheetCodes {
-            alloc,
             sheet: *sheet,
             styles: styles(sheet),
             plain: plain_places(sheet),
-            usual: [
-                None, None, None, None, None, None, None, None, None, None, None,
-            ],
-            codes: [
-                None, None, None, None, None, None, None, None, None, None, None,
-            ],
+            usual: usual_codes(sheet),
         }
     }
 
@@ -96,7 +87,7 @@ impl SheetCodes {
         if self.is_plain(a) {
             return !self.is_plain(b);
         }
-        self.is_plain(b) || self.styles[a] != self.styles[b]
+        self.is_plain(b) || self.style_at(a) != self.style_at(b)
     }
 
     /// Adds the code that switches the style at a place off, if it has one.
@@ -114,79 +105,27 @@ impl SheetCodes {
 
     /// Adds the code that opens the style at a place.
     #[inline(always)]
-    pub(crate) fn push_opening(&mut self, out: &mut String, place: usize) -> Result<(), AllocError>
+    pub(crate) fn push_opening(&self, out: &mut String, place: usize) -> Result<(), AllocError>
         requires within { place < 11 }
-        ensures sheet { self.new ≡ self.old }
         ensures text { OnOk result (string_bytes out.new ≡ string_bytes out.old
-            ++ opening_bytes (style_at self.old place)) }
+            ++ opening_bytes (style_at self.now place)) }
     {
         if self.is_plain(place) {
             return Ok(());
         }
-        if let Some(code) = self.known(place) {
-            return out.push_str(code.text());
+        if let Some(code) = self.usual(place) {
+            return code.push(out);
         }
-        self.push_other(out, place)
+        write_opening(out, self.style_at(place))
     }
 
-    /// The code that opens the style at a place, if the style is a usual one whose code was needed before.
+    /// The code that opens the style at a place, if the style is a usual one.
     #[inline(always)]
-    fn known(&self, place: usize) -> Option<UsualCode>
+    fn usual(&self, place: usize) -> Option<UsualCode>
         requires within { place < 11 }
         ensures bytes { IfSome result (λ code. usual_bytes code ≡ opening_bytes (style_at self.now place)) }
     {
         self.usual[place]
-    }
-
-    /// Adds the code that opens the style at a place, which is no usual one, or needed for the first time.
-    #[inline(never)]
-    fn push_other(&mut self, out: &mut String, place: usize) -> Result<(), AllocError>
-        requires within { place < 11 }
-        ensures sheet { self.new ≡ self.old }
-        ensures text { OnOk result (string_bytes out.new ≡ string_bytes out.old
-            ++ opening_bytes (style_at self.old place)) }
-    {
-        if let Some(code) = &self.codes[place] {
-            return out.push_str(code.as_str());
-        }
-        self.push_first(out, place)
-    }
-
-    /// Adds the code that opens the style at a place, for the first time. That of a usual style takes no memory.
-    fn push_first(&mut self, out: &mut String, place: usize) -> Result<(), AllocError>
-        requires within { place < 11 }
-        ensures sheet { self.new ≡ self.old }
-        ensures text { OnOk result (string_bytes out.new ≡ string_bytes out.old
-            ++ opening_bytes (style_at self.old place)) }
-    {
-        let style = self.style_at(place);
-        if let Some(code) = usual_opening(style) {
-            self.know(place, code);
-            return out.push_str(code.text());
-        }
-        self.push_made(out, place)
-    }
-
-    /// Keeps the usual code that opens the style at a place.
-    fn know(&mut self, place: usize, code: UsualCode)
-        requires within { place < 11 }
-        requires opens { usual_bytes code ≡ opening_bytes (style_at self.old place) }
-        ensures sheet { self.new ≡ self.old }
-    {
-        self.usual[place] = Some(code);
-    }
-
-    /// Adds the code that opens the style at a place, which is made and kept.
-    fn push_made(&mut self, out: &mut String, place: usize) -> Result<(), AllocError>
-        requires within { place < 11 }
-        ensures sheet { self.new ≡ self.old }
-        ensures text { OnOk result (string_bytes out.new ≡ string_bytes out.old
-            ++ opening_bytes (style_at self.old place)) }
-    {
-        let code = opening(self.alloc, self.style_at(place))?;
-        out.push_str(code.as_str())?;
-        self.codes[place] = Some(code);
-        Ok(())
     }
 }
 
@@ -228,20 +167,27 @@ fn plain_places(sheet: &Stylesheet) -> [bool; 11]
     ]
 }
 
+/// The codes of those styles of a sheet that are usual ones, in the order of its fields.
+fn usual_codes(sheet: &Stylesheet) -> [Option<UsualCode>; 11]
+    ensures codes { AreOpenings result (styles_in sheet.now) }
+{
+    [
+        usual_opening(sheet.error),
+        usual_opening(sheet.warning),
+        usual_opening(sheet.info),
+        usual_opening(sheet.note),
+        usual_opening(sheet.help),
+        usual_opening(sheet.line_num),
+        usual_opening(sheet.emphasis),
+        usual_opening(sheet.none),
+        usual_opening(sheet.context),
+        usual_opening(sheet.addition),
+        usual_opening(sheet.removal),
+    ]
+}
+
 /// The code that switches any style off.
 const RESET: &str = "\u{1b}[0m";
-
-/// Room for the code of a style of two effects and a colour of the 256, in bytes.
-const ROOM: usize = 20;
-
-/// The code that opens a style.
-fn opening(alloc: Global, style: Style) -> Result<String, AllocError>
-    ensures text { IfOk result (λ code. string_bytes code ≡ opening_bytes style) }
-{
-    let mut code = String::with_capacity(alloc, ROOM)?;
-    write_opening(&mut code, style)?;
-    Ok(code)
-}
 
 /// The place of the style of what has no style of its own.
 pub(crate) const NONE: usize = 7;

@@ -34,6 +34,7 @@ use crate::words::{fits, write_char, write_word};
 use snippet_style::{ElementStyle, LevelInner, Stylesheet};
 use std::alloc::{AllocError, Global};
 use std::marker::Model;
+use std::mem;
 use std::ops::Range;
 
 /// The bytes that a printed text has room for at first, for each run, beside those of its characters: for the codes
@@ -93,6 +94,22 @@ impl<'a> StyledBuffer<'a> {
         self.alloc
     }
 
+    /// Gives its rows away, and has none then.
+    pub fn take(&mut self) -> StyledBuffer<'a>
+        ensures taken { result ≡ self.old }
+        ensures empty { self.new ≡ [] }
+    {
+        let empty = StyledBuffer::new(self.alloc);
+        mem::replace(self, empty)
+    }
+
+    /// Takes the rows of another grid, in the place of its own.
+    pub fn set(&mut self, rows: StyledBuffer<'a>)
+        ensures rows { self.new ≡ rows.entry }
+    {
+        drop(mem::replace(self, rows));
+    }
+
     /// Takes all rows away. What they had room in is used again.
     pub fn clear(&mut self)
         ensures empty { self.new ≡ [] }
@@ -106,6 +123,13 @@ impl<'a> StyledBuffer<'a> {
         ensures small { IsRowNumber result }
     {
         self.cells.num_rows()
+    }
+
+    /// How many cells a row has, none where there is no such row.
+    pub(crate) fn width(&self, row: usize) -> usize
+        ensures value { result ≡ length (row_at self.now row) }
+    {
+        self.cells.width(row)
     }
 
     /// How many runs of neighbouring cells with one role and one link are kept: as many as are
@@ -205,7 +229,7 @@ impl<'a> StyledBuffer<'a> {
         ensures empty_succeeds { text.now ≡ [] → IsOk result }
         ensures err { OnErr result (self.new ≡ self.old) }
     {
-        let end = self.cells.width(row);
+        let end = self.width(row);
         if !fits(text, usize::MAX - end) {
             return Err(AllocError);
         }
@@ -262,8 +286,7 @@ impl<'a> StyledBuffer<'a> {
             (RestylesCells self.old self.new row cell (cell + 1) style overwrite) }
         ensures err { OnErr result (self.new ≡ self.old) }
     {
-        let width = self.cells.width(row);
-        if cell >= width {
+        if cell >= self.width(row) {
             return Ok(());
         }
         self.set_style_range(row, cell, cell + 1, style, overwrite)
@@ -340,8 +363,8 @@ impl<'a> StyledBuffer<'a> {
         ensures plain { IfOk result (λ t. is_plain_sheet sheet.now ≡ true → links_of self.now ≡ []
             → string_bytes t ≡ encode_utf8_all (spec.plain_text self.now)) }
     {
-        let mut codes = SheetCodes::new(self.alloc, sheet);
-        self.render_after(String::new(self.alloc), level, &mut codes)
+        let codes = SheetCodes::new(sheet);
+        self.render_after(String::new(self.alloc), level, &codes)
     }
 
     /// The text that `render` gives under the sheet of these codes, after one that is there.
@@ -353,10 +376,9 @@ impl<'a> StyledBuffer<'a> {
         &self,
         before: String,
         level: LevelInner,
-        codes: &mut SheetCodes,
+        codes: &SheetCodes,
     ) -> Result<String, AllocError>
-        ensures sheet { codes.new ≡ codes.old }
-        ensures added { IfOk result (λ text. WeavesRows codes.old level self.now (string_bytes before)
+        ensures added { IfOk result (λ text. WeavesRows codes.now level self.now (string_bytes before)
             (string_bytes text)) }
     {
         let mut text = before;

@@ -1,5 +1,5 @@
 //! The codes of the styles that most sheets have: of bold type, of one of the sixteen colours, or of both.
-ghost use Rattle.std.specs.Prelude.{◌≡◌, ◌+◌, ◌++◌, IfSome, true};
+ghost use Rattle.std.specs.Prelude.{◌≡◌, ◌+◌, ◌++◌, IfSome, OnOk, string_bytes, true};
 ghost use Rattle.std.specs.Fmt.{decimal};
 ghost use Rattle.snippet_grid.specs.SheetCodes.{opening_bytes};
 ghost use Rattle.snippet_grid.specs.UsualCodes.{usual_bytes, usual_style};
@@ -7,6 +7,7 @@ ghost use Rattle.snippet_style.specs.Codes as spec;
 ghost use Rattle.snippet_style.specs.Style.{no_effects, plain_style};
 
 use snippet_style::{AnsiColor, Color, Effects, Style};
+use std::alloc::AllocError;
 
 /// The code of such a style.
 #[derive(Clone, Copy)]
@@ -20,14 +21,15 @@ pub(crate) enum UsualCode {
 }
 
 impl UsualCode {
-    /// The code as a text, which takes no memory.
-    pub(crate) fn text(self) -> &'static str
-        ensures value { result.now ≡ usual_bytes self }
+    /// Adds the code to a text. The compiler knows how long the codes of each kind are.
+    #[inline(never)]
+    pub(crate) fn push(self, out: &mut String) -> Result<(), AllocError>
+        ensures text { OnOk result (string_bytes out.new ≡ string_bytes out.old ++ usual_bytes self) }
     {
         match self {
-            UsualCode::Bold => "\u{1b}[1m",
-            UsualCode::Color(color) => color_code(color),
-            UsualCode::BoldColor(color) => bold_color_code(color),
+            UsualCode::Bold => out.push_str("\u{1b}[1m"),
+            UsualCode::Color(color) => out.push_str(color_code(color)),
+            UsualCode::BoldColor(color) => out.push_str(bold_color_code(color)),
         }
     }
 }

@@ -14,9 +14,12 @@ ghost use Rattle.std.specs.List.{AllPairs, flat_map, slice_index_or};
 ghost use Rattle.snippet_grid.specs.SheetCodes.{style_at};
 ghost use Rattle.snippet_grid.specs.Runs.{IsGrid, IsRow, EndsBy, Precedes, cells_to, grid_shown};
 ghost use Rattle.snippet_grid.specs.declared.runs.Run.{Run};
+ghost use Rattle.snippet_grid.specs.OpenRow.{Goes};
 ghost use Rattle.snippet_grid.specs.Stretch.{PrintsStretch};
 ghost use Rattle.snippet_grid.specs.Woven.{Opening, Reset, LinkTo, LinkEnd, piece_text};
 ghost use Rattle.snippet_grid.specs.Weaving.{WeavesRow, WeavesRows};
+ghost use Rattle.snippet_style.specs.Cell.{Cell};
+ghost use Rattle.snippet_style.specs.declared.role.LevelInner.{LevelInner};
 
 use crate::codes::{NONE, SheetCodes, place_of};
 use crate::runs::Run;
@@ -51,11 +54,10 @@ pub(crate) fn weave_rows(
     runs: &[Run<'_>],
     widths: &[usize],
     level: LevelInner,
-    codes: &mut SheetCodes,
+    codes: &SheetCodes,
 ) -> Result<(), AllocError>
     requires grid { IsGrid text.now runs.now widths.now }
-    ensures sheet { codes.new ≡ codes.old }
-    ensures text { OnOk result (WeavesRows codes.old level (grid_shown text.now runs.now widths.now)
+    ensures text { OnOk result (WeavesRows codes.now level (grid_shown text.now runs.now widths.now)
         (string_bytes out.old) (string_bytes out.new)) }
 {
     let mut from = 0;
@@ -98,12 +100,11 @@ fn weave_row(
     runs: &[Run<'_>],
     line: WovenRow,
     level: LevelInner,
-    codes: &mut SheetCodes,
+    codes: &SheetCodes,
 ) -> Result<(), AllocError>
     requires runs { IsRow text.now line.row runs.now }
     requires ends { EndsBy line.width runs.now }
-    ensures sheet { codes.new ≡ codes.old }
-    ensures text { OnOk result (WeavesRow codes.old level (cells_to text.now runs.now line.row line.width)
+    ensures text { OnOk result (WeavesRow codes.now level (cells_to text.now runs.now line.row line.width)
         (string_bytes out.old) (string_bytes out.new)) }
 {
     let mut last = SPACE;
@@ -125,6 +126,21 @@ fn weave_row(
         weave_gap(out, line.width - col, codes, last)?;
         last = SPACE;
     }
+    end_row(out, codes, last)
+}
+
+/// Ends a row whose last cell looks like this.
+#[inline(always)]
+pub(crate) fn end_row(
+    out: &mut String,
+    codes: &SheetCodes,
+    last: WovenLook<'_>,
+) -> Result<(), AllocError>
+    requires within { last.place < 11 }
+    ensures closed { OnOk result ((level : LevelInner) (cells : List Cell) (old : List ℕ)
+        → Goes codes.now level (Some (style_at codes.now last.entry.place)) (option_copied last.entry.link) cells old
+        (string_bytes out.old) → WeavesRow codes.now level cells old (string_bytes out.new)) }
+{
     end_link(out, last.link, None)?;
     codes.push_reset(out, last.place)
 }
@@ -134,15 +150,14 @@ fn weave_row(
 pub(crate) fn weave_stretch(
     out: &mut String,
     word: &str,
-    codes: &mut SheetCodes,
+    codes: &SheetCodes,
     last: WovenLook<'_>,
     next: WovenLook<'_>,
 ) -> Result<(), AllocError>
     requires some { 0 < length (chars word.now) }
     requires within { last.place < 11 × (next.place < 11) }
-    ensures sheet { codes.new ≡ codes.old }
-    ensures text { OnOk result (PrintsStretch (chars word.now) (style_at codes.old last.entry.place)
-        (style_at codes.old next.entry.place) (option_copied last.entry.link) (option_copied next.entry.link)
+    ensures text { OnOk result (PrintsStretch (chars word.now) (style_at codes.now last.entry.place)
+        (style_at codes.now next.entry.place) (option_copied last.entry.link) (option_copied next.entry.link)
         (string_bytes out.old) (string_bytes out.new)) }
 {
     end_link(out, last.link, next.link)?;
@@ -168,12 +183,11 @@ fn push_word(out: &mut String, word: &str) -> Result<(), AllocError>
 pub(crate) fn weave_gap(
     out: &mut String,
     count: usize,
-    codes: &mut SheetCodes,
+    codes: &SheetCodes,
     last: WovenLook<'_>,
 ) -> Result<(), AllocError>
     requires within { last.place < 11 }
-    ensures sheet { codes.new ≡ codes.old }
-    ensures text { OnOk result (PrintsStretch (replicate count 32) (style_at codes.old last.entry.place) codes.old.none
+    ensures text { OnOk result (PrintsStretch (replicate count 32) (style_at codes.now last.entry.place) codes.now.none
         (option_copied last.entry.link) None (string_bytes out.old) (string_bytes out.new)) }
 {
     end_link(out, last.link, None)?;
@@ -200,17 +214,16 @@ fn end_link(out: &mut String, last: Option<&str>, next: Option<&str>) -> Result<
 #[inline(always)]
 fn change_style(
     out: &mut String,
-    codes: &mut SheetCodes,
+    codes: &SheetCodes,
     last: usize,
     next: usize,
 ) -> Result<(), AllocError>
     requires within { last < 11 × (next < 11) }
-    ensures sheet { codes.new ≡ codes.old }
-    ensures kept { OnOk result (style_at codes.old last ≡ style_at codes.old next → string_bytes out.new
+    ensures kept { OnOk result (style_at codes.now last ≡ style_at codes.now next → string_bytes out.new
         ≡ string_bytes out.old) }
-    ensures changed { OnOk result (style_at codes.old last ≢ style_at codes.old next
+    ensures changed { OnOk result (style_at codes.now last ≢ style_at codes.now next
         → string_bytes out.new ≡ string_bytes out.old
-        ++ flat_map piece_text (Reset (style_at codes.old last) ∷ Opening (style_at codes.old next) ∷ [])) }
+        ++ flat_map piece_text (Reset (style_at codes.now last) ∷ Opening (style_at codes.now next) ∷ [])) }
 {
     if codes.differ(last, next) {
         codes.push_reset(out, last)?;

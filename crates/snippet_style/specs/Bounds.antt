@@ -65,10 +65,6 @@ IsCodeCell n = n < code_limit
 abbrev pub IsRowEnd : ℕ → Type 0
 IsRowEnd n = n < 2 ^ 63 + 2 ^ 62
 
--- the cells that the sign of a message takes
-abbrev pub IsSignWidth : ℕ → Type 0
-IsSignWidth n = n < 2 ^ 33
-
 -- ---- what the machine counts
 
 -- how many things a list in memory holds, or a place among them

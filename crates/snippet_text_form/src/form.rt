@@ -250,6 +250,7 @@ fn write_spaces(out: &mut String, count: usize) -> Result<(), AllocError>
 }
 
 /// Adds a text that looks like this: its style is opened before it and reset after it.
+#[inline(always)]
 fn write_styled(
     out: &mut String,
     sheet: &Stylesheet,
@@ -293,6 +294,7 @@ fn end_style(out: &mut String, style: Style, plain: bool) -> Result<(), AllocErr
 }
 
 /// Adds the code that begins a link, if there is one.
+#[inline(always)]
 fn begin_link(out: &mut String, link: Option<&str>) -> Result<(), AllocError>
     ensures added { OnOk result (string_bytes out.new
         ≡ string_bytes out.old ++ flat_map piece_text (link_codes_before (option_copied link.entry))) }
@@ -307,6 +309,7 @@ fn begin_link(out: &mut String, link: Option<&str>) -> Result<(), AllocError>
 }
 
 /// Adds the code that ends a link, if there is one.
+#[inline(always)]
 fn end_link(out: &mut String, link: Option<&str>) -> Result<(), AllocError>
     ensures added { OnOk result (string_bytes out.new
         ≡ string_bytes out.old ++ flat_map piece_text (link_codes_after (option_copied link.entry))) }

@@ -2,7 +2,7 @@
 pub use Rattle.snippet_grid.proofs.ReplaceLemmas.{changed_within_none, changed_within_one}
 pub use Rattle.snippet_grid.proofs.GridShown.{cells_written_last}
 pub use Rattle.snippet_grid.proofs.GridShown.{chars_some}
-pub use Rattle.snippet_grid.proofs.OpenRowLemmas.{adds_more}
+pub use Rattle.snippet_grid.proofs.OpenRowLemmas.{adds_none}
 pub use Rattle.snippet_grid.proofs.RunLemmas.{on_ok_value}
 pub use Rattle.snippet_grid.proofs.ReplaceLemmas.{row_text-text_cells, begun_by_text}
 pub use Rattle.snippet_grid.proofs.RowWoven.{rows_one}
@@ -12,11 +12,13 @@ pub use Rattle.snippet_grid.specs.Calls.{cells_linked}
 pub use Rattle.snippet_grid.specs.Grid.{row_at, cells_written, linked, cell_at}
 unfoldable pub use Rattle.snippet_grid.specs.Grid.{changed_within}
 pub use Rattle.snippet_grid.specs.Layout.{separator_cell, Layout}
-pub use Rattle.snippet_grid.specs.OpenRow.{AddsCells, IsPrinted}
+pub use Rattle.snippet_grid.specs.GridRow.{AddsToRow, appended}
+pub use Rattle.snippet_grid.specs.OpenRow.{AddsCells, IsPrinted, cells_alike}
 pub use Rattle.snippet_grid.specs.Print.{row_text, plain_text}
 pub use Rattle.snippet_grid.specs.Stretch.{PrintsStretch}
 pub use Rattle.snippet_grid.specs.Weaving.{WeavesRow, WeavesRows}
 pub use Rattle.snippet_grid.specs.Woven.{links_after, links_of, Prints, link_begun, piece_text}
+pub use Rattle.snippet_grid.specs.declared.grid_row.GridRow.{GridRow}
 pub use Rattle.snippet_grid.specs.declared.printed_row.PrintedRow.{PrintedRow}
 pub use Rattle.snippet_model.specs.Fits.{LevelFits}
 pub use Rattle.snippet_model.specs.FreeRows.{HasNoNumber, IsFree, IsFreeCell}
@@ -53,7 +55,7 @@ unfoldable pub use Rattle.snippet_text.specs.Normalized.{norm}
 pub use Rattle.snippet_text.specs.Plain.{IsPlain}
 pub use Rattle.snippet_text.specs.Width.{width_of}
 unfoldable pub use Rattle.snippet_text.specs.Width.{char_width}
-pub use Rattle.snippet_titles.specs.Appended.{appended, IsAtEnd, linked_from}
+pub use Rattle.snippet_titles.specs.LastRow.{IsAtEnd}
 pub use Rattle.snippet_titles.specs.HeadingRows.{indent_cells, lines_below, colon_of, heading_lines, id_cells, label_width, roles_of, without_empty_end}
 pub use Rattle.snippet_titles.specs.HeadingRows.{closing_bracket_of, linked_to, opening_bracket_of, sign_cells, address_of, bracketed_cells, on_top, shown_text}
 pub use Rattle.snippet_titles.specs.HeadingRows.{heading_label_text, bracketed_text, id_text, note_bar_of, is_set}
@@ -65,7 +67,7 @@ pub use Rattle.snippet_titles.specs.PrintedHeading.{IsPlainHeading, title_rows}
 pub use Rattle.snippet_titles.specs.ShortRows.{with_end, short_texts}
 unfoldable pub use Rattle.snippet_titles.specs.ShortRows.{short_rows}
 pub use Rattle.snippet_titles.specs.ShownHeading.{IsFreeButText, heading_texts, texts_below}
-pub use Rattle.snippet_titles.specs.StretchCells.{stretch_cells, cells_alike, stretch_room}
+pub use Rattle.snippet_titles.specs.StretchCells.{stretch_cells, stretch_room}
 pub use Rattle.snippet_titles.specs.Title.{id_address, id_links, id_chars, text_links}
 pub use Rattle.snippet_titles.specs.declared.origin.FileStart.{FileStart}
 pub use Rattle.snippet_titles.specs.declared.origin.FileStart.TheVariants.{First, Alone, Later, Secondary}

@@ -1,8 +1,8 @@
 -- Rows that are drawn below all others.
 use Rattle.snippet_titles.proofs.Common.{◌≡◌, ℕ, suc, ◌+◌, ◌-◌, ◌<◌, ◌≤◌, List, [], ◌∷◌, ◌++◌, length, take, replicate}
 use Rattle.snippet_titles.proofs.Common.{refl, sym, ap, ◌∙◌, arith, inl, inr, cases_lt, append-nil, append_assoc, get_or_past, length-append, length-take}
-use Rattle.snippet_titles.proofs.Common.{places, same_lists, take-append_seam, row_at, Cell, written, IsAtEnd, appended, on_top, without_empty_end}
-use Rattle.snippet_titles.proofs.AppendLemmas.{appended-appended, appended-is}
+use Rattle.snippet_titles.proofs.Common.{places, take-append_seam, row_at, Cell, written, IsAtEnd, appended, on_top, without_empty_end}
+use Rattle.snippet_grid.proofs.AppendLemmas.{appended-appended, appended-is, written_past}
 
 -- an empty row at the end isn't there
 pub trimmed-empty : (rows : List (List Cell)) → without_empty_end (rows ++ [] ∷ []) ≡ without_empty_end rows
@@ -66,12 +66,6 @@ past_rows xs n k =
 pub row_at-trimmed : (rows : List (List Cell)) (k : ℕ) → row_at (without_empty_end rows) k ≡ row_at rows k
 row_at-trimmed rows k =
     sym (past_rows (without_empty_end rows) (length rows - length (without_empty_end rows)) k) ∙ ap (λ rs. row_at rs k) (refilled rows).0
-
--- a row after those that were drawn below a grid, of which some at the end may not be there yet
-pub written_past : {X : Type 0} (blank : X) (xs new : List X) (at : ℕ) → length xs ≤ at
-    → written blank xs at new ≡ xs ++ replicate (at - length xs) blank ++ new
-written_past blank xs new at past =
-    same_lists _ _ (unfold written in grind (arith, places)) (λ k d h. unfold written in grind (arith, places))
 
 -- cells that are appended in a row below those so far are one more row
 pub appended-further : (base done : List (List Cell)) (row : ℕ) (cells : List Cell) → row ≡ length base + length done

@@ -1,30 +1,26 @@
 -- A heading's rows, from what is drawn of them.
-use Rattle.snippet_titles.proofs.Common.{◌≡◌, ℕ, List, [], ◌++◌, All, length, map, take, Bool, true, false, if◌then◌else◌, refl, sym, ap}
+use Rattle.snippet_titles.proofs.Common.{◌≡◌, ℕ, List, [], ◌++◌, All, length, map, take, Bool, true, false, if◌then◌else◌, refl, ap}
 use Rattle.snippet_titles.proofs.Common.{◌∙◌, arith, IsUtf8, get_or_past, row_at, Cell, ElementStyle, Level, Heading, norm, IsPlain, norm-plain}
-use Rattle.snippet_titles.proofs.Common.{HeadingRoles, TitleStyle, IsAtEnd, appended, heading_lines, heading_rows, indent_cells, label_cells, label_width}
+use Rattle.snippet_titles.proofs.Common.{HeadingRoles, TitleStyle, appended, heading_lines, heading_rows, indent_cells, label_cells, label_width}
 use Rattle.snippet_titles.proofs.Common.{lines_below, roles_of, sign_cells, without_empty_end}
+use Rattle.snippet_titles.proofs.Common.{AddsToRow, GridRow}
 use Rattle.std.specs.Str.{chars}
-use Rattle.snippet_titles.proofs.AppendLemmas.{row_at-appended}
 use Rattle.snippet_titles.proofs.EndLemmas.{IsAtEnd-begun}
-use Rattle.snippet_titles.proofs.RowLemmas.{appended-two}
 use Rattle.snippet_titles.proofs.SplitLemmas.{lines_at, lines_at-chars}
 
 -- the row below all others has no cells yet
 pub row_at-below : (rows : List (List Cell)) (row : ℕ) → row ≡ length rows → row_at rows row ≡ []
 row_at-below rows row at = get_or_past rows row [] (omega (arith, at))
 
--- the row that a sign began
-pub sign_begun : (old one : List (List Cell)) (row start : ℕ) (sign : List Cell) → row ≡ length old → one ≡ appended old row sign → start ≡ length sign
-    → length (row_at one row) ≡ start
-sign_begun old one row start sign at is size =
-    ap (λ rs. length (row_at rs row)) is ∙ ap (λ (r : List Cell). length r) (row_at-appended old row sign)
-    ∙ ap (λ (r : List Cell). length (r ++ sign)) (row_at-below old row at) ∙ sym size
+-- the cells that a row of a grid gained since no cell of it was there
+pub row_begun : (old drawn : List (List Cell)) (row : ℕ) (start done : GridRow) (cells : List Cell) → start.grid ≡ old → start.number ≡ row
+    → drawn ≡ done.grid → AddsToRow start done cells → drawn ≡ appended old row cells
+row_begun old drawn row start done cells from at is adds =
+    is ∙ adds.grid ∙ ap (λ rows. appended rows start.number cells) from ∙ ap (λ n. appended old n cells) at
 
--- the row of the label is the last one
-pub label_begun : (old one two : List (List Cell)) (row : ℕ) (sign label : List Cell) → row ≡ length old → one ≡ appended old row sign
-    → two ≡ appended one row label → (take row two ≡ old) × (row_at two row ≡ sign ++ label) × IsAtEnd row two
-label_begun old one two row sign label at first second =
-    IsAtEnd-begun old two row (sign ++ label) at (appended-two old one two row sign label first second)
+-- no cells were added to it
+pub row_none : (row : GridRow) → AddsToRow row row []
+row_none row = record { number = refl; grid = refl }
 
 -- the roles of a heading's parts
 pub roles_known : (style : TitleStyle) (heading : Heading) (level : Level) (trusted : Bool) (roles : HeadingRoles) → level ≡ heading.level
@@ -51,17 +47,17 @@ plain_shown trusted text given is plain =
     drawn_as_is trusted text plain ∙ ap (λ (t : List ℕ). if trusted then chars t else norm (chars t)) is
 
 -- the lines after a label make the rows
-pub heading_drawn : (old one two new : List (List Cell)) (row : ℕ) (hyperlink : Bool) (style : TitleStyle) (heading : Heading) (level : Level)
+pub heading_drawn : (old begun new : List (List Cell)) (row : ℕ) (hyperlink : Bool) (style : TitleStyle) (heading : Heading) (level : Level)
     (trusted : Bool) (roles : HeadingRoles) → row ≡ length old → level ≡ heading.level → trusted ≡ heading.allows_styling
-    → roles ≡ roles_of style level.kind trusted → one ≡ appended old row (sign_cells style)
-    → two ≡ appended one row (label_cells hyperlink roles heading)
-    → new ≡ take row two ++ without_empty_end (lines_below (row_at two row) (indent_cells style (label_width heading)) roles.text (heading_lines heading))
+    → roles ≡ roles_of style level.kind trusted → begun ≡ appended old row (sign_cells style ++ label_cells hyperlink roles heading)
+    → new ≡ take row begun ++ without_empty_end
+    (lines_below (row_at begun row) (indent_cells style (label_width heading)) roles.text (heading_lines heading))
     → new ≡ old ++ heading_rows hyperlink style heading
 unfolding heading_rows
-heading_drawn old one two new row hyperlink style heading level trusted roles at leveled trusts roles_are first second third =
-    let begun = label_begun old one two row (sign_cells style) (label_cells hyperlink roles heading) at first second in
-    third ∙ ap (λ rs. rs ++ without_empty_end (lines_below (row_at two row) (indent_cells style (label_width heading)) roles.text (heading_lines heading)))
-    begun.0 ∙ ap (λ (r : List Cell). old ++ without_empty_end (lines_below r (indent_cells style (label_width heading)) roles.text (heading_lines heading)))
-    begun.1 ∙ ap (λ (rs : HeadingRoles). old ++ without_empty_end
+heading_drawn old begun new row hyperlink style heading level trusted roles at leveled trusts roles_are first lines =
+    let all = IsAtEnd-begun old begun row (sign_cells style ++ label_cells hyperlink roles heading) at first in
+    lines ∙ ap (λ rs. rs ++ without_empty_end (lines_below (row_at begun row) (indent_cells style (label_width heading)) roles.text (heading_lines heading)))
+    all.0 ∙ ap (λ (r : List Cell). old ++ without_empty_end (lines_below r (indent_cells style (label_width heading)) roles.text (heading_lines heading)))
+    all.1 ∙ ap (λ (rs : HeadingRoles). old ++ without_empty_end
     (lines_below (sign_cells style ++ label_cells hyperlink rs heading) (indent_cells style (label_width heading))
     rs.text (heading_lines heading))) (roles_known style heading level trusted roles leveled trusts roles_are)

@@ -1,51 +1,55 @@
 -- A heading's label: its cells, its characters, and the columns that they take.
-use Rattle.snippet_titles.proofs.Common.{◌≡◌, ℕ, ◌+◌, ◌^◌, ◌<◌, Bool, true, false, Option, Some, List, ◌++◌, length, sym, ap, ◌∙◌}
-use Rattle.snippet_titles.proofs.Common.{arith, cow_str_bytes, option_map, length-append, sum_by-append, row_at, Cell, text_cells, ElementStyle}
-use Rattle.snippet_titles.proofs.Common.{length-text_cells, length-chars_le, norm, char_width, width_of, length-norm, width_of-norm, width_of-opening}
-use Rattle.snippet_titles.proofs.Common.{width_of-closing, Level, Id, LevelFits, Heading, is_hidden, name_of, HeadingRoles, appended, bracketed_text}
-use Rattle.snippet_titles.proofs.Common.{closing_bracket_of, colon_of, id_cells, id_text, label_cells, opening_bracket_of}
+use Rattle.snippet_titles.proofs.Common.{◌≡◌, ℕ, ◌+◌, Bool, true, false, Option, Some, List, ◌++◌, replicate, sym, ap, ◌∙◌, arith}
+use Rattle.snippet_titles.proofs.Common.{append_assoc, cow_str_bytes, option_map, sum_by-append, Cell, SPACE, text_cells, ElementStyle, LineNumber}
+use Rattle.snippet_titles.proofs.Common.{norm, char_width, width_of, width_of-norm, width_of-opening, width_of-closing, Level, Id, Heading, is_hidden}
+use Rattle.snippet_titles.proofs.Common.{name_of, HeadingRoles, MessageContext, TitleStyle, Message, address_of, bracketed_cells, bracketed_text}
+use Rattle.snippet_titles.proofs.Common.{closing_bracket_of, colon_of, id_cells, id_text, label_cells, linked_to, opening_bracket_of, sign_cells}
+use Rattle.snippet_titles.proofs.Common.{note_sign_of, separator_cell}
 use Rattle.std.proofs.Common.{chars}
-use Rattle.snippet_titles.proofs.AppendLemmas.{row_at-appended}
-use Rattle.snippet_titles.proofs.RowLemmas.{appended-three}
 
--- a level's name, an id and a colon, drawn one after the other, are the label
-pub label_drawn : (old one two new : List (List Cell)) (row : ℕ) (hyperlink : Bool) (roles : HeadingRoles) (heading : Heading) (level : Level)
-    (hidden : Bool) (name colon : List ℕ) (id set : Option Id) → level ≡ heading.level → hidden ≡ is_hidden level.name
-    → name ≡ norm (chars (name_of level)) → id ≡ heading.id → colon ≡ colon_of hidden set → set ≡ heading.id
-    → one ≡ appended old row (text_cells roles.label name) → two ≡ appended one row (id_cells hyperlink hidden roles.label id)
-    → new ≡ appended two row (text_cells roles.colon colon) → new ≡ appended old row (label_cells hyperlink roles heading)
+-- a level's name, an id and a colon, after other cells, are the label
+pub label_is : (done : List Cell) (hyperlink : Bool) (roles : HeadingRoles) (heading : Heading) (level : Level) (hidden : Bool) (name colon : List ℕ)
+    (id : Option Id) → hidden ≡ is_hidden level.name → name ≡ norm (chars (name_of level)) → colon ≡ colon_of hidden id → level ≡ heading.level
+    → id ≡ heading.id → ((done ++ text_cells roles.label name) ++ id_cells hyperlink hidden roles.label id) ++ text_cells roles.colon colon
+    ≡ done ++ label_cells hyperlink roles heading
 unfolding label_cells
-label_drawn old one two new row hyperlink roles heading level hidden name colon id set leveled hides named own colons is_set first second third =
-    appended-three old one two new row _ _ _ first second third
-    ∙ ap (λ (cs : List ℕ). appended old row
-    (text_cells roles.label cs ++ id_cells hyperlink hidden roles.label id ++ text_cells roles.colon colon)) named
-    ∙ ap (λ (cs : List ℕ). appended old row
-    (text_cells roles.label (norm (chars (name_of level))) ++ id_cells hyperlink hidden roles.label id ++ text_cells roles.colon cs)) colons
-    ∙ ap (λ (i : Option Id). appended old row
-    (text_cells roles.label (norm (chars (name_of level)))
-    ++ id_cells hyperlink hidden roles.label i ++ text_cells roles.colon (colon_of hidden set))) own
-    ∙ ap (λ (i : Option Id). appended old row
-    (text_cells roles.label (norm (chars (name_of level)))
-    ++ id_cells hyperlink hidden roles.label heading.id ++ text_cells roles.colon (colon_of hidden i))) is_set
-    ∙ ap (λ (h : Bool). appended old row
-    (text_cells roles.label (norm (chars (name_of level)))
-    ++ id_cells hyperlink h roles.label heading.id ++ text_cells roles.colon (colon_of h heading.id))) hides
-    ∙ ap (λ (l : Level). appended old row
-    (text_cells roles.label (norm (chars (name_of l))) ++ id_cells hyperlink (is_hidden l.name)
-    roles.label heading.id ++ text_cells roles.colon (colon_of (is_hidden l.name) heading.id))) leveled
+label_is done hyperlink roles heading level hidden name colon id hides named colons leveled own =
+    let first : List ℕ → List Cell = text_cells roles.label in
+    append_assoc (done ++ first name) (id_cells hyperlink hidden roles.label id) (text_cells roles.colon colon)
+    ∙ append_assoc done (first name) (id_cells hyperlink hidden roles.label id ++ text_cells roles.colon colon)
+    ∙ ap (λ (cs : List Cell). done ++ cs) (sym (append_assoc (first name) (id_cells hyperlink hidden roles.label id) (text_cells roles.colon colon))
+    ∙ ap (λ (cs : List ℕ). first cs ++ id_cells hyperlink hidden roles.label id ++ text_cells roles.colon colon) named
+    ∙ ap (λ (cs : List ℕ). first (norm (chars (name_of level))) ++ id_cells hyperlink hidden roles.label id ++ text_cells roles.colon cs) colons
+    ∙ ap (λ (i : Option Id). first (norm (chars (name_of level))) ++ id_cells hyperlink hidden roles.label i ++ text_cells roles.colon (colon_of hidden i)) own
+    ∙ ap (λ (h : Bool). first (norm (chars (name_of level))) ++ id_cells hyperlink h roles.label heading.id
+    ++ text_cells roles.colon (colon_of h heading.id)) hides
+    ∙ ap (λ (l : Level). first (norm (chars (name_of l))) ++ id_cells hyperlink (is_hidden l.name) roles.label heading.id
+    ++ text_cells roles.colon (colon_of (is_hidden l.name) heading.id)) leveled)
 
--- a name that fits is short
-pub name_few : (level known : Level) (shown : List ℕ) → level ≡ known → LevelFits known → shown ≡ norm (chars (name_of level)) → length shown < 2 ^ 58
-name_few level known shown same fits is =
-    let size : length (name_of level) ≡ length (name_of known) = ap (λ (l : Level). length (name_of l)) same in
-    omega (arith, ap length is, length-norm (chars (name_of level)), length-chars_le (name_of level), size, fits)
+-- a bracket, the text of an id and a bracket, after other cells, are the id
+pub id_is : (done : List Cell) (hyperlink hidden : Bool) (role : ElementStyle) (id : Id) (text opening shown closing : List ℕ) (address : Option (List ℕ))
+    → option_map cow_str_bytes id.id ≡ Some text → opening ≡ opening_bracket_of hidden → shown ≡ norm (chars text)
+    → address ≡ address_of hyperlink id → closing ≡ closing_bracket_of hidden
+    → ((done ++ text_cells role opening) ++ linked_to address (text_cells role shown)) ++ text_cells role closing
+    ≡ done ++ id_cells hyperlink hidden role (Some id)
+id_is done hyperlink hidden role id text opening shown closing address given opens is to closes =
+    append_assoc (done ++ text_cells role opening) (linked_to address (text_cells role shown)) (text_cells role closing)
+    ∙ append_assoc done (text_cells role opening) (linked_to address (text_cells role shown) ++ text_cells role closing)
+    ∙ ap (λ (cs : List Cell). done ++ cs) (sym (append_assoc (text_cells role opening) (linked_to address (text_cells role shown)) (text_cells role closing))
+    ∙ ap (λ (cs : List ℕ). text_cells role cs ++ linked_to address (text_cells role shown) ++ text_cells role closing) opens
+    ∙ ap (λ (cs : List ℕ). text_cells role (opening_bracket_of hidden) ++ linked_to address (text_cells role cs) ++ text_cells role closing) is
+    ∙ ap (λ (cs : List ℕ). text_cells role (opening_bracket_of hidden) ++ linked_to address (text_cells role (norm (chars text)))
+    ++ text_cells role cs) closes
+    ∙ ap (λ a. bracketed_cells hidden role a (Some text)) to ∙ ap (λ t. bracketed_cells hidden role (address_of hyperlink id) t) (sym given))
 
--- the cells of a row after which a name was drawn
-pub name_start : (old one : List (List Cell)) (row start count : ℕ) (role : ElementStyle) (name : List ℕ) → length (row_at old row) ≡ start
-    → one ≡ appended old row (text_cells role name) → count ≡ length name → length (row_at one row) ≡ start + count
-name_start old one row start count role name size is counted =
-    ap (λ rs. length (row_at rs row)) is ∙ ap (λ (r : List Cell). length r) (row_at-appended old row (text_cells role name))
-    ∙ omega (arith, size, counted, length-append (row_at old row) (text_cells role name), length-text_cells role name)
+-- spaces and a sign, after other cells, are what a message begins with
+pub sign_is : (done : List Cell) (style : TitleStyle) (place : MessageContext) (count : ℕ) (sign : List ℕ) → style ≡ Message place
+    → count ≡ separator_cell place.layout → sign ≡ note_sign_of place.layout.decor place.followed
+    → (done ++ replicate count SPACE) ++ text_cells LineNumber sign ≡ done ++ sign_cells style
+sign_is done style place count sign is counted signed =
+    append_assoc done (replicate count SPACE) (text_cells LineNumber sign)
+    ∙ ap (λ (cs : List Cell). done ++ cs) (ap (λ n. replicate n SPACE ++ text_cells LineNumber sign) counted
+    ∙ ap (λ (cs : List ℕ). replicate (separator_cell place.layout) SPACE ++ text_cells LineNumber cs) signed ∙ ap sign_cells (sym is))
 
 -- the columns of a label's parts
 width_of-three : (a b c : List ℕ) → width_of (a ++ b ++ c) ≡ width_of a + width_of b + width_of c

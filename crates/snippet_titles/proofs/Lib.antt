@@ -1,6 +1,5 @@
 pub mod Common
 pub mod AddedLemmas
-pub mod AppendLemmas
 pub mod DigitLemmas
 pub mod EndLemmas
 pub mod FileRowLemmas

@@ -3,9 +3,9 @@ use Rattle.snippet_titles.proofs.Common.{◌≡◌, ℕ, ◌-◌, List, [], ◌�
 use Rattle.snippet_titles.proofs.Common.{append-nil, places, same_lists, row_at, Cell, text_cells, written, LineAndColumn, NoStyle, Level, Heading}
 use Rattle.snippet_titles.proofs.Common.{HeadingRoles, Short, appended, heading_lines, indent_cells, label_cells, label_width, lines_below, on_top, roles_of}
 use Rattle.snippet_titles.proofs.Common.{without_empty_end, short_rows, with_end}
-use Rattle.snippet_titles.proofs.AppendLemmas.{appended-is}
-use Rattle.snippet_titles.proofs.EndLemmas.{appended_below, get_or-append_seam, row_at-trimmed, written_past}
-use Rattle.snippet_titles.proofs.HeadingLemmas.{label_begun, roles_known}
+use Rattle.snippet_grid.proofs.AppendLemmas.{appended-is, written_past}
+use Rattle.snippet_titles.proofs.EndLemmas.{IsAtEnd-begun, appended_below, get_or-append_seam, row_at-trimmed}
+use Rattle.snippet_titles.proofs.HeadingLemmas.{roles_known}
 
 -- a row with cells in the place of the first of some rows, or where none of them is there
 first_written : (base : List (List Cell)) (row : List Cell) (rows : List (List Cell)) (new : List Cell)
@@ -38,15 +38,14 @@ appended-first base (r ∷ rows) row (cell ∷ cells) at =
     ∙ ap (λ (rs : List (List Cell)). base ++ rs) (sym (on_top-full r cell cells (without_empty_end rows)))
 
 -- a text, a label and a heading's text after it, and a text after the first row
-pub short_drawn : (old one two three new : List (List Cell)) (row : ℕ) (hyperlink : Bool) (before after : List ℕ) (heading : Heading) (level : Level)
+pub short_drawn : (old two three new : List (List Cell)) (row : ℕ) (hyperlink : Bool) (before after : List ℕ) (heading : Heading) (level : Level)
     (trusted : Bool) (roles : HeadingRoles) → row ≡ length old → level ≡ heading.level → trusted ≡ heading.allows_styling
-    → roles ≡ roles_of Short level.kind trusted → one ≡ appended old row (text_cells LineAndColumn before)
-    → two ≡ appended one row (label_cells hyperlink roles heading)
+    → roles ≡ roles_of Short level.kind trusted → two ≡ appended old row (text_cells LineAndColumn before ++ label_cells hyperlink roles heading)
     → three ≡ take row two ++ without_empty_end (lines_below (row_at two row) (indent_cells Short (label_width heading)) roles.text (heading_lines heading))
     → new ≡ appended three row (text_cells NoStyle after) → new ≡ old ++ short_rows hyperlink before after heading
 unfolding short_rows
-short_drawn old one two three new row hyperlink before after heading level trusted roles at leveled trusts roles_are first second third fourth =
-    let begun = label_begun old one two row (text_cells LineAndColumn before) (label_cells hyperlink roles heading) at first second in
+short_drawn old two three new row hyperlink before after heading level trusted roles at leveled trusts roles_are second third fourth =
+    let begun = IsAtEnd-begun old two row (text_cells LineAndColumn before ++ label_cells hyperlink roles heading) at second in
     let known : roles ≡ roles_of Short heading.level.kind heading.allows_styling = roles_known Short heading level trusted roles leveled trusts roles_are in
     let further : List Cell = indent_cells Short (label_width heading) in
     let lines : List (List ℕ) = heading_lines heading in

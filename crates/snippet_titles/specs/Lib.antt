@@ -1,5 +1,5 @@
-pub mod Appended
 pub mod HeadingRows
+pub mod LastRow
 pub mod Origin
 pub mod PrintedHeading
 pub mod ShortParts

@@ -5,7 +5,7 @@ use Rattle.snippet_style.specs.declared.glyphs.DecorStyle.{DecorStyle}
 use Rattle.snippet_style.specs.declared.glyphs.DecorStyle.TheVariants.{Ascii, Unicode}
 use Rattle.snippet_style.specs.declared.role.ElementStyle.TheVariants.{LineAndColumn, LineNumber}
 use Rattle.snippet_style.specs.Glyphs.{alone_start_of, file_start_of, other_start_of}
-use Rattle.snippet_style.specs.Separators.{closing_row, separator_row}
+use Rattle.snippet_style.specs.Separators.{separator_row}
 use Rattle.snippet_style.specs.Cell.{Cell, SPACE, text_cells}
 use Rattle.snippet_text.specs.Normalized.{norm}
 use Rattle.snippet_titles.specs.declared.origin.FileStart.{FileStart}

@@ -1,16 +1,12 @@
 -- The cells of a stretch of a row.
-use Rattle.std.specs.Prelude.{ℕ, ◌+◌, List, Option, length, map}
+use Rattle.std.specs.Prelude.{ℕ, ◌+◌, List, length}
 use Rattle.std.specs.Option.{option_copied}
 use Rattle.std.specs.Str.{chars}
+use Rattle.snippet_grid.specs.OpenRow.{cells_alike}
 use Rattle.snippet_style.specs.Cell.{Cell}
-use Rattle.snippet_style.specs.declared.role.ElementStyle.{ElementStyle}
 use Rattle.snippet_titles.specs.declared.stretch.RowStretch.{RowStretch}
 
--- the cells of these characters, all in one role and with one link
-abbrev pub cells_alike : ElementStyle → Option (List ℕ) → List ℕ → List Cell
-cells_alike role link word = map (λ ch. (let cell : Cell = record { ch = ch; role = role; link = link } in cell)) word
-
--- those of a stretch: one for each character of its text
+-- the cells of a stretch: one for each character of its text
 abbrev pub stretch_cells : RowStretch → List Cell
 stretch_cells s = cells_alike s.role (option_copied s.link) (chars s.text.now)
 

@@ -1,34 +1,35 @@
 //! The rows of a title or message.
-ghost use Rattle.std.specs.Prelude.{◌≡◌, ℕ, ◌≤◌, ◌++◌, ◌==◌, [], length, map, take, drop, chars, All};
+ghost use Rattle.std.specs.Prelude.{◌≡◌, ℕ, ◌≤◌, ◌++◌, ◌==◌, List, [], length, map, take, drop, chars, All};
 ghost use Rattle.std.specs.Prelude.{OnOk, IfOk, IfSome};
 ghost use Rattle.std.specs.List.{slice_index_or, slice_split};
 ghost use Rattle.std.specs.Cow.{cow_str_bytes};
 ghost use Rattle.std.specs.Option.{option_copied};
 ghost use Rattle.snippet_model.specs.Fits.{IdFits};
-ghost use Rattle.snippet_model.specs.Heading.{HeadingFits};
+ghost use Rattle.snippet_model.specs.Heading.{Heading, HeadingFits};
 ghost use Rattle.snippet_model.specs.Heading as model;
-ghost use Rattle.snippet_titles.specs.Appended.{IsAtEnd, appended};
+ghost use Rattle.snippet_titles.specs.LastRow.{IsAtEnd};
+ghost use Rattle.snippet_grid.specs.GridRow.{appended};
 ghost use Rattle.snippet_titles.specs.HeadingRows.{shown_text, heading_rows, indent_cells, label_cells};
 ghost use Rattle.snippet_titles.specs.HeadingRows.{without_empty_end};
 ghost use Rattle.snippet_titles.specs.HeadingRows as spec;
 ghost use Rattle.snippet_titles.specs.ShownHeading.{IsFreeButText, heading_texts};
 ghost use Rattle.snippet_titles.specs.LinkedId.{LinksId};
 ghost use Rattle.snippet_grid.specs.Grid.{row_at};
-ghost use Rattle.snippet_style.specs.Cell.{text_cells};
+ghost use Rattle.snippet_style.specs.Cell.{Cell, text_cells};
 ghost use Rattle.snippet_grid.specs.Print.{row_text};
 ghost use Rattle.snippet_text.specs.Normalized.{norm};
 ghost use Rattle.snippet_text.specs.Width.{width_of};
 ghost use Rattle.snippet_model.specs.Level.{name_of};
 ghost use Rattle.snippet_style.specs.Bounds.{HasNext, IsAddable, IsColumn, IsRowNumber, IsTextWidth};
 
-use crate::id::{IdStyle, draw_id, is_set};
-use crate::row::{RowEnd, draw_indent, draw_sign, extend_row};
+use crate::id::{is_set, write_id};
+use crate::row::{draw_indent, extend_row, write_sign};
 use crate::style::{HeadingRoles, TitleStyle, roles_of};
-use snippet_grid::StyledBuffer;
+use snippet_grid::{GridRow, RowSink, StyledBuffer};
 use snippet_model::MessageOrTitle;
 use snippet_model::level::{Level, LevelName};
 use snippet_model::snippet::Id;
-use snippet_style::{ElementStyle, char_count};
+use snippet_style::ElementStyle;
 use snippet_text::{CowStr, is_plain, normalized, str_width};
 use std::alloc::{AllocError, Global};
 
@@ -53,51 +54,46 @@ pub fn draw_heading<'a>(
     ensures links { OnOk result (LinksId hyperlink style (heading_of heading.now)
         (drop (length buffer.old) buffer.new)) }
 {
+    let alloc = buffer.allocator();
     let row = buffer.num_lines();
     let roles = roles_of(&style, heading.level().kind, heading.allows_styling());
-    draw_sign(buffer, row, &style)?;
-    let end = RowEnd {
-        row,
-        cell: style.start(),
-    };
-    draw_label(buffer, end, hyperlink, roles, heading)?;
+    let mut first = GridRow::of(buffer.take(), row);
+    write_sign(&mut first, &style)?;
+    write_label(
+        alloc,
+        &mut first,
+        hyperlink,
+        roles,
+        heading.level(),
+        heading.id(),
+    )?;
+    let drawn = first.end()?;
+    buffer.set(drawn);
     draw_text(buffer, row, &style, roles.text, heading)
 }
 
-/// Draws what stands before a heading's text after the cells of a row.
+/// Adds to a row what stands in it before a heading's text.
+///
+///     error[E0308]:
+///
 #[inline(always)]
-pub(crate) fn draw_label<'a>(
-    buffer: &mut StyledBuffer<'a>,
-    end: RowEnd,
+pub(crate) fn write_label<'a, S: RowSink<'a>>(
+    alloc: Global,
+    row: &mut S,
     hyperlink: bool,
     roles: HeadingRoles,
-    heading: &'a dyn MessageOrTitle,
+    level: &Level<'_>,
+    id: Option<&'a Id<'a>>,
 ) -> Result<(), AllocError>
-    requires row { HasNext end.row }
-    requires end { length (row_at buffer.old end.row) ≡ end.cell }
-    requires small { IsTextWidth end.cell }
-    requires fits { HeadingFits (heading_of heading.now) }
-    ensures extended { OnOk result (buffer.new
-        ≡ appended buffer.old end.row (label_cells hyperlink roles (heading_of heading.now))) }
+    ensures added { OnOk result ((start : S) (cells : List Cell) (heading : Heading) → level.now ≡ heading.level
+        → option_copied id.entry ≡ heading.id → S.adds start row.old cells
+        → S.adds start row.new (cells ++ label_cells hyperlink roles heading)) }
 {
-    let alloc = buffer.allocator();
-    let row = end.row;
-    let level = heading.level();
     let hidden = is_hidden(level);
     let name = shown_name(alloc, level)?;
-    extend_row(buffer, row, name.as_str(), roles.label)?;
-    let end = RowEnd {
-        row,
-        cell: end.cell + char_count(name.as_str()),
-    };
-    let style = IdStyle {
-        role: roles.label,
-        hyperlink,
-        hidden,
-    };
-    draw_id(buffer, end, style, heading.id())?;
-    extend_row(buffer, row, colon(hidden, heading.id()), roles.colon)?;
-    Ok(())
+    row.add_word(name.as_str(), roles.label)?;
+    write_id(alloc, row, hyperlink, hidden, roles.label, id)?;
+    row.add_word(colon(hidden, id), roles.colon)
 }
 
 /// A level's name as it is drawn, which is empty where it isn't shown.

@@ -1,70 +1,78 @@
 //! A heading's identifier.
-ghost use Rattle.std.specs.Prelude.{◌≡◌, ◌≤◌, chars, length, IfOk, IfSome, OnOk};
+ghost use Rattle.std.specs.Prelude.{◌≡◌, ◌≤◌, ◌++◌, List, Some, chars, length, IfOk, OnOk};
 ghost use Rattle.std.specs.Cow.{cow_str_bytes};
 ghost use Rattle.std.specs.Option.{option_copied};
-ghost use Rattle.snippet_model.specs.Fits.{IdFits};
-ghost use Rattle.snippet_grid.specs.Grid.{row_at};
 ghost use Rattle.snippet_text.specs.Normalized.{norm};
-ghost use Rattle.snippet_titles.specs.Appended.{appended};
-ghost use Rattle.snippet_titles.specs.HeadingRows.{id_cells};
+ghost use Rattle.snippet_titles.specs.HeadingRows.{id_cells, linked_to};
 ghost use Rattle.snippet_titles.specs.HeadingRows as spec;
-ghost use Rattle.snippet_style.specs.Bounds.{HasNext, IsColumn};
+ghost use Rattle.snippet_style.specs.Cell.{Cell, text_cells};
 
-use crate::row::{RowEnd, extend_row, link_from};
-use snippet_grid::StyledBuffer;
+use snippet_grid::RowSink;
 use snippet_model::snippet::Id;
 use snippet_style::ElementStyle;
 use snippet_text::{CowStr, normalized};
 use std::alloc::{AllocError, Global};
 
-/// How an id is drawn.
-#[derive(Clone, Copy)]
-pub(crate) struct IdStyle {
-    /// The role of its cells.
-    pub(crate) role: ElementStyle,
-    /// Whether its text links to its URL.
-    pub(crate) hyperlink: bool,
-    /// Whether the name of its level is hidden: then it stands in no brackets.
-    pub(crate) hidden: bool,
-}
-
-/// Draws an id after a row's cells.
+/// Adds an id to a row: in brackets, unless the name of its level is hidden. Where links are on its text links to its
+/// URL.
 ///
 ///     [E0308]
 ///
-pub(crate) fn draw_id<'a>(
-    buffer: &mut StyledBuffer<'a>,
-    end: RowEnd,
-    style: IdStyle,
+#[inline(always)]
+pub(crate) fn write_id<'a, S: RowSink<'a>>(
+    alloc: Global,
+    row: &mut S,
+    hyperlink: bool,
+    hidden: bool,
+    role: ElementStyle,
     id: Option<&'a Id<'a>>,
 ) -> Result<(), AllocError>
-    requires row { HasNext end.row }
-    requires end { length (row_at buffer.old end.row) ≡ end.cell }
-    requires short { IsColumn end.cell }
-    requires fits { IfSome (option_copied id) IdFits }
-    ensures extended { OnOk result (buffer.new ≡ appended buffer.old end.row
-        (id_cells style.hyperlink style.hidden style.role (option_copied id.entry))) }
+    ensures added { OnOk result ((start : S) (cells : List Cell) → S.adds start row.old cells
+        → S.adds start row.new (cells ++ id_cells hyperlink hidden role (option_copied id.entry))) }
 {
-    let alloc = buffer.allocator();
-    let RowEnd { row, cell } = end;
-    let IdStyle {
-        role,
-        hyperlink,
-        hidden,
-    } = style;
-    let Some(id) = id else {
-        return Ok(());
-    };
+    match id {
+        Some(id) => write_set_id(alloc, row, hyperlink, hidden, role, id),
+        None => Ok(()),
+    }
+}
+
+/// Adds an id to a row, if it has a text.
+#[inline(never)]
+fn write_set_id<'a, S: RowSink<'a>>(
+    alloc: Global,
+    row: &mut S,
+    hyperlink: bool,
+    hidden: bool,
+    role: ElementStyle,
+    id: &'a Id<'a>,
+) -> Result<(), AllocError>
+    ensures added { OnOk result ((start : S) (cells : List Cell) → S.adds start row.old cells
+        → S.adds start row.new (cells ++ id_cells hyperlink hidden role (Some id.now))) }
+{
     let Some(text) = &id.id else {
         return Ok(());
     };
     let shown = shown_text(alloc, text)?;
-    let opening = opening_bracket(hidden);
-    extend_row(buffer, row, opening, role)?;
-    extend_row(buffer, row, shown.as_str(), role)?;
-    link_from(buffer, row, cell + opening.len(), address_of(hyperlink, id))?;
-    extend_row(buffer, row, closing_bracket(hidden), role)?;
-    Ok(())
+    row.add_word(opening_bracket(hidden), role)?;
+    write_linked(row, shown.as_str(), role, address_of(hyperlink, id))?;
+    row.add_word(closing_bracket(hidden), role)
+}
+
+/// Adds a text to a row, which links to an address, if there is one.
+#[inline(always)]
+fn write_linked<'a, S: RowSink<'a>>(
+    row: &mut S,
+    text: &str,
+    role: ElementStyle,
+    address: Option<&'a str>,
+) -> Result<(), AllocError>
+    ensures added { OnOk result ((start : S) (cells : List Cell) → S.adds start row.old cells
+        → S.adds start row.new (cells ++ linked_to (option_copied address.entry) (text_cells role (chars text.now)))) }
+{
+    match address {
+        Some(url) => row.add_link(text, role, url),
+        None => row.add_word(text, role),
+    }
 }
 
 /// An id's text as it is drawn.

@@ -4,7 +4,7 @@ ghost use Rattle.std.specs.Fmt.{decimal};
 ghost use Rattle.snippet_text.specs.Normalized.{norm};
 ghost use Rattle.snippet_titles.specs.Origin as spec;
 ghost use Rattle.snippet_titles.specs.Origin.{file_glyph, file_row, line_text, origin_row};
-ghost use Rattle.snippet_titles.specs.Appended.{appended};
+ghost use Rattle.snippet_grid.specs.GridRow.{appended};
 ghost use Rattle.snippet_style.specs.Bounds.{HasNext, IsRowNumber};
 ghost use Rattle.snippet_style.specs.Cell.{text_cells};
 ghost use Rattle.snippet_style.specs.declared.role.ElementStyle.TheVariants.{LineAndColumn};

@@ -1,23 +1,15 @@
 //! The rows that a heading is drawn into: what is added after their cells.
-ghost use Rattle.std.specs.Prelude.{◌≡◌, ◌+◌, [], chars, length, replicate, OnOk};
-ghost use Rattle.std.specs.Option.{option_copied};
-ghost use Rattle.snippet_titles.specs.Appended.{appended, linked_from};
+ghost use Rattle.std.specs.Prelude.{◌≡◌, ◌+◌, ◌++◌, List, [], chars, length, replicate, OnOk};
+ghost use Rattle.snippet_grid.specs.GridRow.{appended};
 ghost use Rattle.snippet_titles.specs.HeadingRows.{indent_cells, sign_cells};
 ghost use Rattle.snippet_grid.specs.Grid.{row_at};
-ghost use Rattle.snippet_style.specs.Cell.{SPACE, text_cells};
+ghost use Rattle.snippet_style.specs.Cell.{Cell, SPACE, text_cells};
 ghost use Rattle.snippet_style.specs.Bounds.{HasNext, IsAddable, IsUsize};
 
 use crate::style::TitleStyle;
-use snippet_grid::StyledBuffer;
+use snippet_grid::{RowSink, StyledBuffer};
 use snippet_style::ElementStyle;
 use std::alloc::AllocError;
-
-/// Where a row ends, and what is added to it begins: its number, and how many cells it has.
-#[derive(Clone, Copy)]
-pub(crate) struct RowEnd {
-    pub(crate) row: usize,
-    pub(crate) cell: usize,
-}
 
 /// Adds a text after the cells of a row. An empty one makes no row.
 pub(crate) fn extend_row(
@@ -30,21 +22,6 @@ pub(crate) fn extend_row(
     ensures extended { OnOk result (buffer.new ≡ appended buffer.old row (text_cells role (chars text.now))) }
 {
     buffer.append(row, text, role)?;
-    Ok(())
-}
-
-/// Links a row's cells from this one on to an address, if there is one.
-pub(crate) fn link_from<'a>(
-    buffer: &mut StyledBuffer<'a>,
-    row: usize,
-    from: usize,
-    address: Option<&'a str>,
-) -> Result<(), AllocError>
-    ensures linked { OnOk result (buffer.new ≡ linked_from (option_copied address.entry) row from buffer.old) }
-{
-    if let Some(url) = address {
-        buffer.link(row, from..usize::MAX, url)?;
-    }
     Ok(())
 }
 
@@ -66,25 +43,19 @@ pub(crate) fn add_spaces(
     Ok(())
 }
 
-/// Begins the row below all others with the sign of a message. A title has none.
+/// Begins a row with the sign of a message. A title has none.
 #[inline(always)]
-pub(crate) fn draw_sign(
-    buffer: &mut StyledBuffer,
-    row: usize,
+pub(crate) fn write_sign<'a, S: RowSink<'a>>(
+    row: &mut S,
     style: &TitleStyle,
 ) -> Result<(), AllocError>
-    requires row { HasNext row }
-    requires empty { row_at buffer.old row ≡ [] }
-    ensures extended { OnOk result (buffer.new ≡ appended buffer.old row (sign_cells style.now)) }
+    ensures added { OnOk result ((start : S) (cells : List Cell) → S.adds start row.old cells
+        → S.adds start row.new (cells ++ sign_cells style.now)) }
 {
     if let TitleStyle::Message(place) = style {
         let layout = place.layout;
-        buffer.puts(
-            row,
-            layout.separator_cell(),
-            place.sign(),
-            ElementStyle::LineNumber,
-        )?;
+        row.add_spaces(layout.separator_cell())?;
+        row.add_word(place.sign(), ElementStyle::LineNumber)?;
     }
     Ok(())
 }

@@ -8,22 +8,21 @@ ghost use Rattle.std.specs.Cow.{cow_str_bytes};
 ghost use Rattle.std.specs.Option.{option_copied};
 ghost use Rattle.snippet_grid.specs.Woven.{Prints};
 ghost use Rattle.snippet_model.specs.Heading.{HeadingFits, heading_of_title};
-ghost use Rattle.snippet_style.specs.Bounds.{IsTextWidth};
 ghost use Rattle.snippet_style.specs.declared.role.ElementStyle.{ElementStyle};
 ghost use Rattle.snippet_text.specs.Plain.{IsPlain};
 ghost use Rattle.snippet_titles.specs.HeadingRows.{id_cells};
 ghost use Rattle.snippet_titles.specs.ShortParts.{rows_of, shown_id_cells};
 ghost use Rattle.snippet_titles.specs.ShortRows.{short_rows};
 
-use crate::heading::{colon, draw_label, draw_text, is_hidden, shown_name};
+use crate::heading::{colon, draw_text, is_hidden, shown_name, write_label};
 use crate::id::{address_of, closing_bracket, opening_bracket};
-use crate::row::{RowEnd, extend_row};
+use crate::row::extend_row;
 use crate::stretch::{RowStretch, print_row};
 use crate::style::{TitleStyle, roles_of};
-use snippet_grid::StyledBuffer;
+use snippet_grid::{GridRow, RowSink, StyledBuffer};
 use snippet_model::MessageOrTitle;
 use snippet_model::snippet::{Id, Title};
-use snippet_style::{ElementStyle, LevelInner, Stylesheet, char_count};
+use snippet_style::{ElementStyle, LevelInner, Stylesheet};
 use snippet_text::{CowStr, is_plain, normalized};
 use std::alloc::{AllocError, Global};
 use std::marker::Model;
@@ -47,9 +46,8 @@ struct ShortParts<'a> {
 }
 
 impl<'a> Model for ShortTitle<'a> {
-    ghost use Rattle.std.specs.Prelude.{List, chars, length, string_bytes};
+    ghost use Rattle.std.specs.Prelude.{List};
     ghost use Rattle.snippet_model.specs.Heading.{HeadingFits, heading_of_title};
-    ghost use Rattle.snippet_style.specs.Bounds.{IsTextWidth};
     ghost use Rattle.snippet_style.specs.Cell.{Cell};
     ghost use Rattle.snippet_titles.specs.ShortParts.{rows_of};
 
@@ -57,15 +55,13 @@ impl<'a> Model for ShortTitle<'a> {
 
     ghost view = { λ s. rows_of s.parts };
 
-    ghost invariant = { λ s. HeadingFits (heading_of_title s.parts.title.now)
-        × IsTextWidth (length (chars (string_bytes s.parts.before))) };
+    ghost invariant = { λ s. HeadingFits (heading_of_title s.parts.title.now) };
 }
 
 impl<'a> ShortTitle<'a> {
     /// A title between these texts.
     pub fn new(hyperlink: bool, before: String, after: String, title: &'a Title<'a>) -> Self
         requires fits { HeadingFits (heading_of_title title.now) }
-        requires short { IsTextWidth (length (chars (string_bytes before))) }
         ensures rows { result ≡ short_rows hyperlink (chars (string_bytes before))
             (chars (string_bytes after)) (heading_of_title title.now) }
     {
@@ -197,22 +193,28 @@ fn draw_short<'a>(
     heading: &'a dyn MessageOrTitle,
 ) -> Result<(), AllocError>
     requires fits { HeadingFits (heading_of heading.now) }
-    requires short { IsTextWidth (length (chars before.now)) }
     ensures rows { OnOk result (buffer.new ≡ buffer.old
         ++ short_rows hyperlink (chars before.now) (chars after.now) (heading_of heading.now)) }
 {
+    let alloc = buffer.allocator();
     let row = buffer.num_lines();
     let roles = roles_of(
         &TitleStyle::Short,
         heading.level().kind,
         heading.allows_styling(),
     );
-    extend_row(buffer, row, before, ElementStyle::LineAndColumn)?;
-    let end = RowEnd {
-        row,
-        cell: char_count(before),
-    };
-    draw_label(buffer, end, hyperlink, roles, heading)?;
+    let mut first = GridRow::of(buffer.take(), row);
+    first.add_word(before, ElementStyle::LineAndColumn)?;
+    write_label(
+        alloc,
+        &mut first,
+        hyperlink,
+        roles,
+        heading.level(),
+        heading.id(),
+    )?;
+    let drawn = first.end()?;
+    buffer.set(drawn);
     draw_text(buffer, row, &TitleStyle::Short, roles.text, heading)?;
     extend_row(buffer, row, after, ElementStyle::NoStyle)
 }

@@ -5,7 +5,6 @@ ghost use Rattle.snippet_style.specs.Cell.{unlinked_cell};
 ghost use Rattle.snippet_style.specs.Glyphs.{note_sign_of};
 ghost use Rattle.snippet_titles.specs.HeadingRows as spec;
 ghost use Rattle.snippet_titles.specs.declared.style.TitleStyle.TheVariants.{Short, Title};
-ghost use Rattle.snippet_style.specs.Bounds.{IsSignWidth};
 
 use snippet_grid::Layout;
 use snippet_style::{DecorStyle, ElementStyle, LevelInner};
@@ -90,22 +89,6 @@ impl MessageContext {
         match (layout.decor, self.followed) {
             (DecorStyle::Unicode, true) => (layout.decor.separator(), ElementStyle::LineNumber),
             (DecorStyle::Unicode, false) | (DecorStyle::Ascii, _) => (' ', ElementStyle::NoStyle),
-        }
-    }
-}
-
-impl TitleStyle {
-    /// How many cells the first row begins with before its label.
-    pub(crate) fn start(&self) -> usize
-        ensures value { result ≡ length (spec.sign_cells self.now) }
-        ensures small { IsSignWidth result }
-    {
-        match self {
-            TitleStyle::Title | TitleStyle::Short => 0,
-            TitleStyle::Message(place) => {
-                let layout = place.layout;
-                layout.inner_cell()
-            }
         }
     }
 }

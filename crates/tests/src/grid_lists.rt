@@ -165,9 +165,9 @@ fn is_same_twice(
     plain: &PlainGrid,
     sheet: &Stylesheet,
 ) -> Result<bool, AllocError> {
-    let mut codes = SheetCodes::new(alloc, sheet);
-    let once = buffer.render_after(String::new(alloc), LevelInner::Error, &mut codes)?;
-    let twice = buffer.render_after(once, LevelInner::Error, &mut codes)?;
+    let codes = SheetCodes::new(sheet);
+    let once = buffer.render_after(String::new(alloc), LevelInner::Error, &codes)?;
+    let twice = buffer.render_after(once, LevelInner::Error, &codes)?;
     let mut wanted = plain.text(alloc, LevelInner::Error, sheet)?;
     wanted.push_str(plain.text(alloc, LevelInner::Error, sheet)?.as_str())?;
     Ok(twice == wanted)

@@ -156,6 +156,7 @@ impl ContextWalk {
 
     /// What stands around the element that the walk has come to, in a group, before the one after it. The walk goes on
     /// to that.
+    #[inline(always)]
     pub fn pass(
         &mut self,
         group: &GroupContext<'_>,

@@ -57,7 +57,7 @@ fn page_text(
         IsTextUnder form.Graphic renderer.now groups.now sheet.now (string_bytes text)) }
 {
     let mut page = SheetPage {
-        codes: SheetCodes::new(alloc, sheet),
+        codes: SheetCodes::new(sheet),
         text: String::with_capacity(alloc, ROOM)?,
     };
     draw_page(alloc, renderer, groups, &mut page)?;
@@ -98,7 +98,7 @@ impl PageSink for SheetPage {
             begun: false,
             buffer: empty,
         };
-        print_group(alloc, &mut page, &mut self.codes, renderer, around, group)?;
+        print_group(alloc, &mut page, &self.codes, renderer, around, group)?;
         self.text = page.text;
         Ok(page.buffer)
     }

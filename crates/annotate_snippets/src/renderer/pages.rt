@@ -131,7 +131,7 @@ fn empty_pages(alloc: Global, sheets: &[Stylesheet]) -> Result<Vec<SheetPage>, A
     let mut pages = Vec::with_capacity(alloc, sheets.len())?;
     for sheet in sheets {
         pages.push(SheetPage {
-            codes: SheetCodes::new(alloc, sheet),
+            codes: SheetCodes::new(sheet),
             text: String::new(alloc),
         })?;
     }
@@ -166,7 +166,7 @@ fn print_on(
 {
     let text = mem::replace(&mut page.text, String::new(alloc));
     let lead = fed(text, is_first)?;
-    page.text = rows.render_after(lead, level, &mut page.codes)?;
+    page.text = rows.render_after(lead, level, &page.codes)?;
     Ok(())
 }
 

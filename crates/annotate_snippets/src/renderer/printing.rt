@@ -13,6 +13,7 @@ ghost use Rattle.std.specs.Prelude.{◌≡◌, ◌++◌, [], All, Bool, IfOk, Li
 ghost use Rattle.std.specs.Prelude.{true, ℕ};
 ghost use Rattle.std.specs.List.{flat_map};
 ghost use Rattle.std.specs.Option.{option_copied};
+ghost use Rattle.snippet_grid.specs.OpenRow.{IsPrinted};
 ghost use Rattle.snippet_grid.specs.Weaving.{WeavesRows};
 ghost use Rattle.snippet_model.specs.Fits.{MessageFits};
 ghost use Rattle.snippet_model.specs.Heading.{heading_of_message, heading_of_title};
@@ -34,7 +35,7 @@ use crate::renderer::elements::{draw_element, draw_message, message_style};
 use crate::renderer::page::fed;
 use crate::renderer::preprocess::{PreparedElement, PreparedGroup};
 use crate::renderer::title::{draw_below_title, draw_title};
-use snippet_grid::{SheetCodes, StyledBuffer};
+use snippet_grid::{PrintedRow, SheetCodes, StyledBuffer};
 use snippet_model::snippet::{Message, Title};
 use snippet_style::LevelInner;
 use snippet_titles::{TitleStyle, is_plain_heading, print_heading};
@@ -63,7 +64,7 @@ pub struct Printing<'a> {
 pub fn print_group<'a>(
     alloc: Global,
     page: &mut Printing<'a>,
-    codes: &mut SheetCodes,
+    codes: &SheetCodes,
     renderer: &Renderer,
     around: &GroupContext<'_>,
     group: PreparedGroup<'a>,
@@ -72,9 +73,8 @@ pub fn print_group<'a>(
     requires empty { page.old.buffer ≡ [] }
     requires prepared { IsGroupPrepared group }
     requires room { All (λ e. HasRoomFor renderer.now around.now.layout (element_of e)) group.elements.items }
-    ensures sheet { codes.new ≡ codes.old }
     ensures empty { OnOk result (page.new.buffer ≡ []) }
-    ensures printed { OnOk result (WeavesRows codes.old page.old.level (group_rows (group_page renderer.now
+    ensures printed { OnOk result (WeavesRows codes.now page.old.level (group_rows (group_page renderer.now
         around.now.layout around.now.place (option_copied around.now.file) group.entry.group.now))
         (string_bytes page.old.text) (string_bytes page.new.text)) }
 {
@@ -86,7 +86,7 @@ pub fn print_group<'a>(
 fn add_title<'a>(
     alloc: Global,
     page: &mut Printing<'a>,
-    codes: &mut SheetCodes,
+    codes: &SheetCodes,
     renderer: &Renderer,
     around: &GroupContext<'_>,
     group: &PreparedGroup<'a>,
@@ -94,9 +94,8 @@ fn add_title<'a>(
     requires unbegun { page.old.begun ≡ false }
     requires empty { page.old.buffer ≡ [] }
     requires prepared { IsGroupPrepared group.now }
-    ensures sheet { codes.new ≡ codes.old }
     ensures level { OnOk result (page.new.level ≡ page.old.level) }
-    ensures printed { OnOk result (IsPrinting codes.old page.old.level (string_bytes page.old.text) page.new
+    ensures printed { OnOk result (IsPrinting codes.now page.old.level (string_bytes page.old.text) page.new
         (title_part renderer.now around.now.layout around.now.place (spec.next_of (drawn_elements group.now.group.now))
         group.now.group.now.title)) }
 {
@@ -104,74 +103,73 @@ fn add_title<'a>(
         return Ok(());
     };
     let next = next_of(&group.elements);
-    if is_plain_title(renderer.hyperlink, title) {
-        add_plain_title(alloc, page, codes, title)?;
+    if is_plain_title(title) {
+        add_plain_title(alloc, page, codes, renderer.hyperlink, title)?;
         draw_below_title(&mut page.buffer, around, next, title)
     } else {
         draw_title(&mut page.buffer, renderer, around, next, title)
     }
 }
 
-/// Whether a title stands in one row that links to nothing.
-fn is_plain_title(hyperlink: bool, title: &Title<'_>) -> bool
-    ensures yes { result ≡ true → IsPlainHeading hyperlink (heading_of_title title.now) }
+/// Whether a title stands in one row.
+fn is_plain_title(title: &Title<'_>) -> bool
+    ensures yes { result ≡ true → IsPlainHeading (heading_of_title title.now) }
 {
-    is_plain_heading(hyperlink, title)
+    is_plain_heading(title)
 }
 
 /// Prints the one row of a title below all rows of its group.
-fn add_plain_title(
+fn add_plain_title<'a>(
     alloc: Global,
     page: &mut Printing<'_>,
-    codes: &mut SheetCodes,
-    title: &Title<'_>,
+    codes: &SheetCodes,
+    hyperlink: bool,
+    title: &'a Title<'a>,
 ) -> Result<(), AllocError>
-    ensures sheet { codes.new ≡ codes.old }
     ensures level { OnOk result (page.new.level ≡ page.old.level) }
-    ensures printed { OnOk result ((hyperlink : Bool) (old : List ℕ) (rows : List (List Cell))
-        → IsPlainHeading hyperlink (heading_of_title title.now)
-        → IsPrinting codes.old page.old.level old page.old rows
-        → IsPrinting codes.old page.old.level old page.new (rows ++ title_rows hyperlink title.now)) }
+    ensures printed { OnOk result ((old : List ℕ) (rows : List (List Cell))
+        → IsPlainHeading (heading_of_title title.now)
+        → IsPrinting codes.now page.old.level old page.old rows
+        → IsPrinting codes.now page.old.level old page.new (rows ++ title_rows hyperlink title.now)) }
 {
     flush(alloc, page, codes)?;
     let text = mem::replace(&mut page.text, String::new(alloc));
     let lead = fed(text, !page.begun)?;
-    page.text = print_title(alloc, lead, page.level, codes, title)?;
+    let row = PrintedRow::after(lead, codes, page.level);
+    page.text = print_title(alloc, row, hyperlink, title)?;
     page.begun = true;
     Ok(())
 }
 
-/// A text, and after it the one row of a title.
-fn print_title(
+/// The text that ends with the one row of a title, which begins there.
+fn print_title<'a>(
     alloc: Global,
-    before: String,
-    level: LevelInner,
-    codes: &mut SheetCodes,
-    title: &Title<'_>,
+    row: PrintedRow<'_, 'a>,
+    hyperlink: bool,
+    title: &'a Title<'a>,
 ) -> Result<String, AllocError>
-    ensures sheet { codes.new ≡ codes.old }
-    ensures rows { IfOk result (λ text. (hyperlink : Bool) → IsPlainHeading hyperlink (heading_of_title title.now)
-        → WeavesRows codes.old level (title_rows hyperlink title.now) (string_bytes before) (string_bytes text)) }
+    ensures rows { IfOk result (λ text. (old : List ℕ) → IsPlainHeading (heading_of_title title.now)
+        → IsPrinted [] old row.entry → WeavesRows row.entry.codes.now row.entry.level (title_rows hyperlink title.now)
+        old (string_bytes text)) }
 {
-    print_heading(alloc, before, level, codes, TitleStyle::Title, title)
+    print_heading(alloc, row, hyperlink, TitleStyle::Title, title)
 }
 
 /// Adds a group's elements below all its rows, and prints what isn't printed then.
 fn add_elements<'a>(
     alloc: Global,
     page: &mut Printing<'a>,
-    codes: &mut SheetCodes,
+    codes: &SheetCodes,
     renderer: &Renderer,
     group: &GroupContext<'_>,
     elements: Vec<PreparedElement<'a>>,
 ) -> Result<(), AllocError>
     requires prepared { All IsElementPrepared elements.items }
     requires room { All (λ e. HasRoomFor renderer.now group.now.layout (element_of e)) elements.items }
-    ensures sheet { codes.new ≡ codes.old }
     ensures empty { OnOk result (page.new.buffer ≡ []) }
     ensures printed { OnOk result ((old : List ℕ) (above : List (List Cell))
-        → IsPrinting codes.old page.old.level old page.old above
-        → WeavesRows codes.old page.old.level (above ++ flat_map cells_of (rows_of_elements renderer.now
+        → IsPrinting codes.now page.old.level old page.old above
+        → WeavesRows codes.now page.old.level (above ++ flat_map cells_of (rows_of_elements renderer.now
         group.now.layout group.now.place (option_copied group.now.file) (map element_of elements.entry.items))) old
         (string_bytes page.new.text)) }
 {
@@ -194,84 +192,80 @@ fn add_elements<'a>(
 fn add_message<'a>(
     alloc: Global,
     page: &mut Printing<'a>,
-    codes: &mut SheetCodes,
+    codes: &SheetCodes,
     hyperlink: bool,
     style: TitleStyle,
     message: &'a Message<'a>,
 ) -> Result<(), AllocError>
     requires fits { MessageFits message.now }
-    ensures sheet { codes.new ≡ codes.old }
     ensures level { OnOk result (page.new.level ≡ page.old.level) }
     ensures printed { OnOk result ((old : List ℕ) (rows : List (List Cell))
-        → IsPrinting codes.old page.old.level old page.old rows
-        → IsPrinting codes.old page.old.level old page.new
+        → IsPrinting codes.now page.old.level old page.old rows
+        → IsPrinting codes.now page.old.level old page.new
         (rows ++ heading_rows hyperlink style (heading_of_message message.now))) }
 {
-    if is_plain_message(hyperlink, message) {
-        add_plain_message(alloc, page, codes, style, message)
+    if is_plain_message(message) {
+        add_plain_message(alloc, page, codes, hyperlink, style, message)
     } else {
         draw_message(&mut page.buffer, hyperlink, style, message)
     }
 }
 
-/// Whether a message stands in one row that links to nothing.
-fn is_plain_message(hyperlink: bool, message: &Message<'_>) -> bool
-    ensures yes { result ≡ true → IsPlainHeading hyperlink (heading_of_message message.now) }
+/// Whether a message stands in one row.
+fn is_plain_message(message: &Message<'_>) -> bool
+    ensures yes { result ≡ true → IsPlainHeading (heading_of_message message.now) }
 {
-    is_plain_heading(hyperlink, message)
+    is_plain_heading(message)
 }
 
 /// Prints the one row of a message below all rows of its group.
-fn add_plain_message(
+fn add_plain_message<'a>(
     alloc: Global,
     page: &mut Printing<'_>,
-    codes: &mut SheetCodes,
+    codes: &SheetCodes,
+    hyperlink: bool,
     style: TitleStyle,
-    message: &Message<'_>,
+    message: &'a Message<'a>,
 ) -> Result<(), AllocError>
-    ensures sheet { codes.new ≡ codes.old }
     ensures level { OnOk result (page.new.level ≡ page.old.level) }
-    ensures printed { OnOk result ((hyperlink : Bool) (old : List ℕ) (rows : List (List Cell))
-        → IsPlainHeading hyperlink (heading_of_message message.now)
-        → IsPrinting codes.old page.old.level old page.old rows
-        → IsPrinting codes.old page.old.level old page.new
+    ensures printed { OnOk result ((old : List ℕ) (rows : List (List Cell))
+        → IsPlainHeading (heading_of_message message.now)
+        → IsPrinting codes.now page.old.level old page.old rows
+        → IsPrinting codes.now page.old.level old page.new
         (rows ++ heading_rows hyperlink style (heading_of_message message.now))) }
 {
     flush(alloc, page, codes)?;
     let text = mem::replace(&mut page.text, String::new(alloc));
     let lead = fed(text, !page.begun)?;
-    page.text = print_message(alloc, lead, page.level, codes, style, message)?;
+    let row = PrintedRow::after(lead, codes, page.level);
+    page.text = print_message(alloc, row, hyperlink, style, message)?;
     page.begun = true;
     Ok(())
 }
 
-/// A text, and after it the one row of a message.
-fn print_message(
+/// The text that ends with the one row of a message, which begins there.
+fn print_message<'a>(
     alloc: Global,
-    before: String,
-    level: LevelInner,
-    codes: &mut SheetCodes,
+    row: PrintedRow<'_, 'a>,
+    hyperlink: bool,
     style: TitleStyle,
-    message: &Message<'_>,
+    message: &'a Message<'a>,
 ) -> Result<String, AllocError>
-    ensures sheet { codes.new ≡ codes.old }
-    ensures rows { IfOk result (λ text. (hyperlink : Bool)
-        → IsPlainHeading hyperlink (heading_of_message message.now)
-        → WeavesRows codes.old level (heading_rows hyperlink style (heading_of_message message.now))
-        (string_bytes before) (string_bytes text)) }
+    ensures rows { IfOk result (λ text. (old : List ℕ) → IsPlainHeading (heading_of_message message.now)
+        → IsPrinted [] old row.entry → WeavesRows row.entry.codes.now row.entry.level
+        (heading_rows hyperlink style (heading_of_message message.now)) old (string_bytes text)) }
 {
-    print_heading(alloc, before, level, codes, style, message)
+    print_heading(alloc, row, hyperlink, style, message)
 }
 
 /// Prints the rows of a group that stand in its grid, if there are any.
 #[inline(always)]
-fn flush(alloc: Global, page: &mut Printing<'_>, codes: &mut SheetCodes) -> Result<(), AllocError>
-    ensures sheet { codes.new ≡ codes.old }
+fn flush(alloc: Global, page: &mut Printing<'_>, codes: &SheetCodes) -> Result<(), AllocError>
     ensures level { OnOk result (page.new.level ≡ page.old.level) }
     ensures empty { OnOk result (page.new.buffer ≡ []) }
     ensures printed { OnOk result ((old : List ℕ) (rows : List (List Cell))
-        → IsPrinting codes.old page.old.level old page.old rows
-        → IsPrinting codes.old page.old.level old page.new rows) }
+        → IsPrinting codes.now page.old.level old page.old rows
+        → IsPrinting codes.now page.old.level old page.new rows) }
 {
     if page.buffer.num_lines() == 0 {
         return Ok(());

@@ -25,17 +25,17 @@ use std::io::{self, Write};
 pub struct ReportWriter<'a, W> {
     target: &'a mut W,
     /// The codes of the sheet that the report is printed under.
-    codes: &'a mut SheetCodes,
+    codes: &'a SheetCodes,
     /// It is set where a write failed, by `ReportWriter::write`, and nowhere else.
     has_failed: bool,
 }
 
 impl<'a, W: Write> ReportWriter<'a, W> {
     /// This writer, for a report under the sheet of these codes. No write to it has failed yet.
-    pub fn new(target: &'a mut W, codes: &'a mut SheetCodes) -> ReportWriter<'a, W>
+    pub fn new(target: &'a mut W, codes: &'a SheetCodes) -> ReportWriter<'a, W>
         ensures same_reference { result.target.ghost_name ≡ target.entry.ghost_name }
         ensures writer { result.target.now ≡ target.old }
-        ensures sheet { result.codes.now ≡ codes.old }
+        ensures sheet { result.codes.now ≡ codes.now }
         ensures sound { result.has_failed ≡ false }
     {
         ReportWriter {
@@ -97,10 +97,9 @@ fn group_text(
     rows: &StyledBuffer<'_>,
     level: LevelInner,
     is_first: bool,
-    codes: &mut SheetCodes,
+    codes: &SheetCodes,
 ) -> Result<String, AllocError>
-    ensures sheet { codes.new ≡ codes.old }
-    ensures prints { IfOk result (λ text. PrintsGroup codes.old is_first level rows.now (string_bytes text)) }
+    ensures prints { IfOk result (λ text. PrintsGroup codes.now is_first level rows.now (string_bytes text)) }
 {
     let before = line_break(alloc, is_first)?;
     rows.render_after(before, level, codes)

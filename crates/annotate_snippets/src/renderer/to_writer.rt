@@ -120,8 +120,8 @@ impl Renderer {
             ⊎ WritesPart (ShowsReport self.now groups.now self.now.stylesheet)
             (W.contents out.old) (W.contents out.new)) }
     {
-        let mut codes = SheetCodes::new(alloc, &self.stylesheet);
-        let mut lent = ReportWriter::new(out, &mut codes);
+        let codes = SheetCodes::new(&self.stylesheet);
+        let mut lent = ReportWriter::new(out, &codes);
         self.write_report(alloc, groups, &mut lent)
     }
 

@@ -1,10 +1,9 @@
-use Rattle.snippet_grid.proofs.Common.{◌≡◌, ◌∙◌, ◌≤◌, ◌<◌, ap, subst, sym, arith, get_or, refl, length, None, Some, replicate}
-use Rattle.snippet_grid.proofs.Common.{string_bytes, List, ℕ, ◌-◌, on_ok_weaker, option_copied, style_at, run_bytes, cells_to, PrintsStretch, Run}
-use Rattle.snippet_grid.proofs.Common.{MainHeaderMsg, Style, Stylesheet}
+use Rattle.snippet_grid.proofs.Common.{◌≡◌, ◌≤◌, ◌<◌, subst, arith, get_or, refl, length, None}
+use Rattle.snippet_grid.proofs.Common.{string_bytes, List, ℕ, on_ok_weaker, option_copied, style_at, run_bytes, cells_to, PrintsStretch, Run}
+use Rattle.snippet_grid.proofs.Common.{MainHeaderMsg}
 use Rattle.std.specs.Str.{chars}
 use Rattle.snippet_grid.proofs.RunLemmas.{starts_at_boundary, ends_at_boundary}
 use Rattle.snippet_grid.proofs.RowWoven.{WovenTo, woven_start, woven_gap, woven_run, first_ahead}
-use Rattle.snippet_grid.proofs.WeaveLemmas.{Goes, row_closed}
 use Rattle.snippet_grid.proofs.weave.weave_row.Goals as goal
 use Rattle.snippet_grid.proofs.weave.weave_row.Goals.{then-col-run+in_ok-weave_gap, else-col-run, then-col-line+in_ok-weave_gap-2, else-col-line}
 
@@ -15,7 +14,6 @@ none = record { row = 0; cell = 0; count = 0; start = 0; end = 0; role = MainHea
 pub loop-run-init : goal.loop-run-init
 loop-run-init c =
     record {
-      sheet = refl;
       woven = woven_start c.args.codes.now c.args.level c.args.text.now c.args.runs.now c.args.line.row (string_bytes c.args.out.now);
       placed = omega arith;
       inside = omega arith;
@@ -27,22 +25,15 @@ loop-run-preserved c =
     let run : Run = get_or c.args.runs.now i none in
     let ahead : (k : ℕ) (d : Run) → i ≤ k → k < length c.args.runs.now
     → run.cell ≤ (get_or c.args.runs.now k d).cell = first_ahead c.args.text.now c.args.line.row c.args.runs.now i none c.requires.runs c.loop-run-test.true in
-    let kept : c.if-col-run.codes ≡ c.args.codes.now = elim c.if-col-run.branch [
-      | then-col-run+in_ok-weave_gap w ↦ w.codes-is ∙ w.in_ok-weave_gap.ensures.sheet ∙ c.loop-run.invariant.sheet
-      | else-col-run w ↦ w.codes-is ∙ c.loop-run.invariant.sheet
-    ] in
     let before : WovenTo c.args.codes.now c.args.level c.args.text.now c.args.runs.now c.args.line.row i run.cell
     (style_at c.args.codes.now c.if-col-run.last.place) (option_copied c.if-col-run.last.link) (string_bytes c.args.out.now)
     (string_bytes c.if-col-run.out) = elim c.if-col-run.branch [
       | then-col-run+in_ok-weave_gap w ↦
-          let gap = subst (λ (s : Stylesheet). PrintsStretch (replicate (run.cell - c.loop-run.col) 32) (style_at s c.loop-run.last.place) s.none
-          (option_copied c.loop-run.last.link) None (string_bytes c.loop-run.out)
-          (string_bytes w.weave_gap.new.out)) c.loop-run.invariant.sheet w.in_ok-weave_gap.ensures.text in
           rw (w.out-is, w.last-is)
           (woven_gap c.args.codes.now c.args.level c.args.text.now c.args.runs.now c.args.line.row i c.loop-run.col run.cell _
           (style_at c.args.codes.now c.loop-run.last.place)
           c.args.codes.now.none (option_copied c.loop-run.last.link) (string_bytes c.args.out.now) (string_bytes c.loop-run.out)
-          (string_bytes w.weave_gap.new.out) w.if-col-run.true (omega arith) ahead refl gap c.loop-run.invariant.woven)
+          (string_bytes w.weave_gap.new.out) w.if-col-run.true (omega arith) ahead refl w.in_ok-weave_gap.ensures.text c.loop-run.invariant.woven)
       | else-col-run w ↦
           let here : c.loop-run.col ≡ run.cell = omega (
             arith,
@@ -55,15 +46,10 @@ loop-run-preserved c =
           (string_bytes c.loop-run.out)) here c.loop-run.invariant.woven)
     ] in
     let bytes : c.range.result.now ≡ run_bytes c.args.text.now run = c.range.ensures.value in
-    let word = subst (λ (t : List ℕ). PrintsStretch (chars t) (style_at c.if-col-run.codes c.if-col-run.last.place)
-    (style_at c.if-col-run.codes c.place_of.result)
-    (option_copied c.if-col-run.last.link) (option_copied run.link) (string_bytes c.if-col-run.out)
+    let prints = subst (λ (t : List ℕ). PrintsStretch (chars t) (style_at c.args.codes.now c.if-col-run.last.place)
+    (style_at c.args.codes.now c.place_of.result) (option_copied c.if-col-run.last.link) (option_copied run.link) (string_bytes c.if-col-run.out)
     (string_bytes c.weave_stretch.new.out)) bytes c.in_ok-weave_stretch.ensures.text in
-    let prints = subst (λ (s : Stylesheet). PrintsStretch (chars (run_bytes c.args.text.now run)) (style_at s c.if-col-run.last.place)
-    (style_at s c.place_of.result)
-    (option_copied c.if-col-run.last.link) (option_copied run.link) (string_bytes c.if-col-run.out) (string_bytes c.weave_stretch.new.out)) kept word in
     record {
-      sheet = c.in_ok-weave_stretch.ensures.sheet ∙ kept;
       woven = woven_run c.args.codes.now c.args.level c.args.text.now c.args.runs.now c.args.line.row i run.cell none
           (style_at c.args.codes.now c.if-col-run.last.place)
           (style_at c.args.codes.now c.place_of.result) (option_copied c.if-col-run.last.link) (string_bytes c.args.out.now) (string_bytes c.if-col-run.out)
@@ -83,40 +69,28 @@ range-requires-clause-end_boundary c =
     ends_at_boundary c.args.text.now (get_or c.args.runs.now c.loop-run.run-index none) c.utf8.text
     (c.requires.runs.are_runs c.loop-run.run-index none c.loop-run-test.true)
 
-pub returns-clause-text : goal.returns-clause-text
-returns-clause-text c =
+pub returns : goal.returns
+returns c =
     let n = c.loop-run.run-index in
     let past : (k : ℕ) (d : Run) → n ≤ k → k < length c.args.runs.now → c.args.line.width ≤ (get_or c.args.runs.now k d).cell = λ k d after within.
     absurd (omega (arith, c.loop-run-test.false)) in
-    let kept : c.if-col-line.codes ≡ c.args.codes.now = elim c.if-col-line.branch [
-      | then-col-line+in_ok-weave_gap-2 w ↦ w.codes-is ∙ w.in_ok-weave_gap-2.ensures.sheet ∙ c.loop-run.invariant.sheet
-      | else-col-line w ↦ w.codes-is ∙ c.loop-run.invariant.sheet
-    ] in
     let last : WovenTo c.args.codes.now c.args.level c.args.text.now c.args.runs.now c.args.line.row n c.args.line.width
     (style_at c.args.codes.now c.if-col-line.last.place) (option_copied c.if-col-line.last.link) (string_bytes c.args.out.now)
     (string_bytes c.if-col-line.out) = elim c.if-col-line.branch [
       | then-col-line+in_ok-weave_gap-2 w ↦
-          let gap = subst (λ (s : Stylesheet). PrintsStretch (replicate (c.args.line.width - c.loop-run.col) 32) (style_at s c.loop-run.last.place) s.none
-          (option_copied c.loop-run.last.link) None (string_bytes c.loop-run.out)
-          (string_bytes w.weave_gap-then-col-line.new.out)) c.loop-run.invariant.sheet w.in_ok-weave_gap-2.ensures.text in
           rw (w.out-is, w.last-is)
           (woven_gap c.args.codes.now c.args.level c.args.text.now c.args.runs.now c.args.line.row n c.loop-run.col c.args.line.width _
           (style_at c.args.codes.now c.loop-run.last.place)
           c.args.codes.now.none (option_copied c.loop-run.last.link) (string_bytes c.args.out.now) (string_bytes c.loop-run.out)
-          (string_bytes w.weave_gap-then-col-line.new.out) w.if-col-line.true (omega arith) past refl gap c.loop-run.invariant.woven)
+          (string_bytes w.weave_gap-then-col-line.new.out) w.if-col-line.true (omega arith) past refl w.in_ok-weave_gap-2.ensures.text
+          c.loop-run.invariant.woven)
       | else-col-line w ↦
           let here : c.loop-run.col ≡ c.args.line.width = omega (arith, w.if-col-line.false, c.loop-run.invariant.inside) in
           rw (w.out-is, w.last-is) (subst (λ col. WovenTo c.args.codes.now c.args.level c.args.text.now c.args.runs.now c.args.line.row n col
           (style_at c.args.codes.now c.loop-run.last.place) (option_copied c.loop-run.last.link) (string_bytes c.args.out.now)
           (string_bytes c.loop-run.out)) here c.loop-run.invariant.woven)
     ] in
-    let style = style_at c.if-col-line.codes c.if-col-line.last.place in
-    let worn : style ≡ style_at c.args.codes.now c.if-col-line.last.place = ap (λ s. style_at s c.if-col-line.last.place) kept in
-    on_ok_weaker c.push_reset.result
-    (λ bytes. row_closed c.args.codes.now c.args.level style (option_copied c.if-col-line.last.link)
-    (cells_to c.args.text.now c.args.runs.now c.args.line.row c.args.line.width) (string_bytes c.args.out.now) (string_bytes c.if-col-line.out)
-    (string_bytes c.end_link.new.out) _ c.in_ok-end_link.ensures.none c.in_ok-end_link.ensures.ended bytes
-    (subst (λ (s : Style). Goes c.args.codes.now c.args.level (Some s) (option_copied c.if-col-line.last.link)
-    (cells_to c.args.text.now c.args.runs.now c.args.line.row c.args.line.width) (string_bytes c.args.out.now) (string_bytes c.if-col-line.out))
-    (sym worn) last.goes))
-    c.push_reset.ensures.text
+    record {
+      text = on_ok_weaker c.end_row.result (λ closed. closed c.args.level (cells_to c.args.text.now c.args.runs.now c.args.line.row c.args.line.width)
+          (string_bytes c.args.out.now) last.goes) c.end_row.ensures.closed;
+    }

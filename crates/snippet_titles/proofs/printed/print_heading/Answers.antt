@@ -1,14 +1,16 @@
-use Rattle.snippet_titles.proofs.Common.{string_bytes, IfOk-weaker}
-use Rattle.snippet_titles.proofs.PrintedLemmas.{heading_printed}
+use Rattle.snippet_titles.proofs.Common.{[], List, adds_none, string_bytes, subst, Cell, IfOk-weaker, WeavesRows}
+use Rattle.snippet_titles.proofs.PrintedLemmas.{row_known, row_some}
 use Rattle.snippet_titles.proofs.printed.print_heading.Goals as goal
 
-pub returns-clause-rows : goal.returns-clause-rows
-returns-clause-rows g c =
-    IfOk-weaker c.end.result _ _ (λ text ends hyperlink plain.
-    heading_printed c.args.codes.now c.print_sign.new.codes c.print_label.new.codes c.add_word.new.codes c.args.level hyperlink c.args.style _
-    _ _ c.roles_of-roles.result c.text.result.now (string_bytes c.args.before) (string_bytes text) c.after-row.result c.print_sign.new.row
-    c.print_label.new.row c.add_word.new.self c.level.ensures c.allows_styling.ensures c.roles_of-roles.ensures.value
-    c.text.ensures c.text.utf8 plain c.in_ok-print_sign.ensures.sheet c.in_ok-print_label.ensures.sheet c.in_ok-add_word.ensures.sheet
-    c.after-row.ensures.level (c.after-row.ensures.none c.args.codes.now) c.in_ok-print_sign.ensures.added
-    (c.in_ok-print_label.ensures.added hyperlink plain.unlinked) c.in_ok-add_word.ensures.added ends)
-    c.end.ensures.row
+pub returns : goal.returns
+returns g c =
+    let start = c.args.begun in
+    let adds = c.in_ok-add_word.ensures.added start _ (c.in_ok-write_label.ensures.added start _ _ c.level-2.ensures c.id.ensures
+    (c.in_ok-write_sign.ensures.added start [] (adds_none start))) in
+    record {
+      rows = IfOk-weaker c.end.result _ _ (λ text gained old plain begun.
+          subst (λ (rows : List (List Cell)). WeavesRows start.codes.now start.level rows old (string_bytes text))
+          (row_known c.args.hyperlink c.args.style _ _ _ c.roles_of-roles.result _ c.level.ensures c.allows_styling.ensures c.roles_of-roles.ensures.value
+          c.text.ensures c.text.utf8 plain)
+          (gained start _ adds (row_some _ c.roles_of-roles.result.text _ _ c.text.ensures c.text.utf8 plain) old begun)) c.end.ensures.gained;
+    }

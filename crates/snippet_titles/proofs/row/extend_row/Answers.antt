@@ -1,4 +1,4 @@
-use Rattle.snippet_titles.proofs.AppendLemmas.{appended_text}
+use Rattle.snippet_grid.proofs.AppendLemmas.{appended_text}
 use Rattle.snippet_titles.proofs.row.extend_row.Goals as goal
 
 pub returns : goal.returns

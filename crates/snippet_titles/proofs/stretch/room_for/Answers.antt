@@ -1,4 +1,4 @@
-use Rattle.snippet_titles.proofs.Common.{arith, take, sum_by, ◌≤◌, List, [], None, sum_by_more, sum_by-take-le, MainHeaderMsg, stretch_room, RowStretch}
+use Rattle.snippet_titles.proofs.Common.{arith, sum_by, ◌≤◌, [], None, sum_by_more, sum_by-take-le, MainHeaderMsg, stretch_room, RowStretch}
 use Rattle.snippet_titles.proofs.stretch.room_for.Goals as goal
 
 -- what stands where a list has no stretch

@@ -1,4 +1,4 @@
-use Rattle.annotate_snippets.proofs.Common.{◌++◌, string_bytes, codes, on_ok_weaker, on_ok_value}
+use Rattle.annotate_snippets.proofs.Common.{string_bytes, codes, on_ok_weaker, on_ok_value}
 use Rattle.annotate_snippets.proofs.ArticleLemmas.{bytes-added}
 use Rattle.annotate_snippets.proofs.renderer.article.push_drawing.Goals as goal
 

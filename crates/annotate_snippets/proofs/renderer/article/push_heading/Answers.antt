@@ -1,4 +1,4 @@
-use Rattle.annotate_snippets.proofs.Common.{◌++◌, string_bytes, codes, on_ok_weaker, on_ok_value, html_bytes, heading_of_title, title_html}
+use Rattle.annotate_snippets.proofs.Common.{string_bytes, codes, on_ok_weaker, on_ok_value, html_bytes, heading_of_title, title_html}
 use Rattle.annotate_snippets.proofs.ArticleLemmas.{bytes-added}
 use Rattle.annotate_snippets.proofs.renderer.article.push_heading.Goals as goal
 

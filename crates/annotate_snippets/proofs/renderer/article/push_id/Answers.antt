@@ -1,4 +1,4 @@
-use Rattle.annotate_snippets.proofs.Common.{◌≡◌, ◌∙◌, ℕ, List, map, subst, sym, ap, ap₂, string_bytes, ◌++◌, on_ok_weaker, cow_str_bytes}
+use Rattle.annotate_snippets.proofs.Common.{◌∙◌, ℕ, List, map, subst, sym, ap, ap₂, string_bytes, on_ok_weaker, cow_str_bytes}
 use Rattle.annotate_snippets.proofs.Common.{option_copied, option_map, AddsHtml, HtmlPiece, norm, closing_bracket_of, opening_bracket_of, address_of}
 use Rattle.annotate_snippets.proofs.Common.{linked_html}
 use Rattle.std.proofs.Common.{chars}

@@ -1,4 +1,4 @@
-use Rattle.annotate_snippets.proofs.Common.{◌++◌, string_bytes, subst, sym, ap, on_ok_weaker, option_copied, AddsHtml, linked_html}
+use Rattle.annotate_snippets.proofs.Common.{string_bytes, subst, sym, on_ok_weaker, option_copied, AddsHtml, linked_html}
 use Rattle.std.proofs.Common.{chars}
 use Rattle.annotate_snippets.proofs.ArticleLemmas.{linked-added}
 use Rattle.annotate_snippets.proofs.renderer.article.push_linked.Goals as goal

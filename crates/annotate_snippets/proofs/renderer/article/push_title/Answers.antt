@@ -1,4 +1,4 @@
-use Rattle.annotate_snippets.proofs.Common.{◌≡◌, ◌∙◌, ℕ, List, map, subst, ap, ap₂, string_bytes, ◌++◌, on_ok_weaker, cow_str_bytes}
+use Rattle.annotate_snippets.proofs.Common.{◌≡◌, ◌∙◌, ℕ, List, map, subst, ap, ap₂, string_bytes, on_ok_weaker, cow_str_bytes}
 use Rattle.annotate_snippets.proofs.Common.{option_copied, AddsHtml, HtmlPiece, is_hidden, name_of, norm, colon_of, id_html}
 use Rattle.std.proofs.Common.{chars}
 use Rattle.snippet_grid.specs.Html.{Text}

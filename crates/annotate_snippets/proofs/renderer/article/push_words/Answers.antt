@@ -1,4 +1,4 @@
-use Rattle.annotate_snippets.proofs.Common.{◌++◌, string_bytes, codes, encode_utf8_all, on_ok_weaker, on_ok_value}
+use Rattle.annotate_snippets.proofs.Common.{string_bytes, codes, encode_utf8_all, on_ok_weaker, on_ok_value}
 use Rattle.std.proofs.Common.{chars}
 use Rattle.snippet_grid.specs.Html.{escaped}
 use Rattle.annotate_snippets.proofs.ArticleLemmas.{bytes-added}

@@ -1,4 +1,4 @@
-use Rattle.annotate_snippets.proofs.Common.{◌≡◌, ◌∙◌, ◌==◌, ◌+◌, ◌<◌, [], ◌∷◌, alloc_error, ap, arith, drop, inr, length, map, refl, subst, sym}
+use Rattle.annotate_snippets.proofs.Common.{◌≡◌, ◌∙◌, ◌<◌, [], ◌∷◌, alloc_error, ap, arith, drop, inr, length, map, refl, subst, sym}
 use Rattle.annotate_snippets.proofs.Common.{take, true, take_all, get_or, enumerate_from, option_copied, graphic_form, gutter_of_report, Stops, Takes}
 use Rattle.annotate_snippets.proofs.Common.{All, suc, zero, IsGroupPrepared, PreparedGroup}
 use Rattle.annotate_snippets.proofs.AreTexts.{AreTexts, prepared_texts}

@@ -1,4 +1,4 @@
-use Rattle.annotate_snippets.proofs.Common.{◌∙◌, [], ◌∷◌, ◌++◌, ap, cond, string_bytes, SheetPage}
+use Rattle.annotate_snippets.proofs.Common.{◌∙◌, [], ◌∷◌, ◌++◌, ap, refl, cond, string_bytes, SheetPage}
 use Rattle.annotate_snippets.proofs.WriteLemmas.{rows_added}
 use Rattle.annotate_snippets.proofs.renderer.pages.print_on.Goals as goal
 
@@ -7,7 +7,7 @@ returns c =
     let page : SheetPage = c.args.page.now in
     record {
       printed = record {
-        under = c.in_ok-page.ensures.sheet;
+        under = refl;
         added = rows_added page.codes c.args.level c.args.rows.now c.args.is_first (string_bytes page.text) (string_bytes c.in_ok-lead.lead)
             (string_bytes c.in_ok-page.field-0)
             (c.in_ok-lead.ensures.value

@@ -6,7 +6,6 @@ use Rattle.annotate_snippets.proofs.renderer.printing.add_elements.Goals as goal
 pub loop-element-init : goal.loop-element-init
 loop-element-init c =
     record {
-      sheet = refl;
       level = refl;
       passed = 0;
       left = left_all c.args.elements.items c.from-left.result.items c.new-walk.result c.from-left.ensures.0 c.new-walk.ensures.begun;
@@ -35,14 +34,13 @@ loop-element-preserved-in_ok-add_message-3 c =
     c.loop-element.invariant.left c.in-Some.ensures.items c.front.ensures.item c.pass-place.ensures.around c.pass-place.ensures.walked in
     let n = c.loop-element.invariant.passed in
     record {
-      sheet = c.in_ok-add_message.ensures.sheet ∙ c.loop-element.invariant.sheet;
       level = c.in_ok-add_message.ensures.level ∙ c.loop-element.invariant.level;
       passed = n + 1;
       left = turn.left;
-      printed = λ old above printing. elements_printed c.args.codes.now c.loop-element.codes c.args.page.now.level c.loop-element.page.level
+      printed = λ old above printing. elements_printed c.args.codes.now c.args.page.now.level c.loop-element.page.level
           c.args.renderer.now c.args.group.now.layout c.args.group.now.place (option_copied c.args.group.now.file) c.args.elements.items n
           c.in-Some.element c.pass-place.result c.in-Message.message.now c.message_style-style.result above old c.loop-element.page
-          c.add_message.new.page turn.here turn.at_is (ap element_of c.in-Message.is) c.message_style-style.ensures.value c.loop-element.invariant.sheet
+          c.add_message.new.page turn.here turn.at_is (ap element_of c.in-Message.is) c.message_style-style.ensures.value
           c.loop-element.invariant.level (λ rows. c.in_ok-add_message.ensures.printed old rows) (c.loop-element.invariant.printed old above printing);
     }
 
@@ -55,7 +53,6 @@ loop-element-preserved c =
     let page = c.loop-element.page in
     let after : Printing = record { level = page.level; text = page.text; begun = page.begun; buffer = c.draw_element.new.buffer } in
     record {
-      sheet = c.loop-element.invariant.sheet;
       level = c.loop-element.invariant.level;
       passed = n + 1;
       left = turn.left;
@@ -66,9 +63,8 @@ loop-element-preserved c =
 
 pub returns-clause-printed : goal.returns-clause-printed
 returns-clause-printed c = λ old above printing.
-    elements_all c.args.codes.now c.loop-element.codes c.args.page.now.level c.loop-element.page.level c.args.renderer.now c.args.group.now.layout
+    elements_all c.args.codes.now c.args.page.now.level c.loop-element.page.level c.args.renderer.now c.args.group.now.layout
     c.args.group.now.place (option_copied c.args.group.now.file) c.args.elements.items c.loop-element.left.items c.loop-element.invariant.passed
     c.loop-element.walk above old c.loop-element.page c.flush.new.page c.loop-element.invariant.left
-    (omega (arith, (rw c.in_default.is at c.pop_front.ensures.cases).0, c.loop-element.left.ok.0)) c.loop-element.invariant.sheet
-    c.loop-element.invariant.level (λ rows. c.in_ok-flush.ensures.printed old rows) c.in_ok-flush.ensures.empty
-    (c.loop-element.invariant.printed old above printing)
+    (omega (arith, (rw c.in_default.is at c.pop_front.ensures.cases).0, c.loop-element.left.ok.0)) c.loop-element.invariant.level
+    (λ rows. c.in_ok-flush.ensures.printed old rows) c.in_ok-flush.ensures.empty (c.loop-element.invariant.printed old above printing)

@@ -12,5 +12,5 @@ returns-in_ok-add_plain_title-clause-printed c =
     c.in-Some.title _ page below after c.in-Some.is
     (c.next_of-next.ensures.value ∙ ap (λ es. next_of (map element_of es)) c.deref.ensures.value ∙ ap next_of c.requires.prepared.elements_are)
     c.requires.unbegun c.requires.empty refl refl (rows c.args.renderer.now)
-    (λ some printing. c.in_ok-add_plain_title.ensures.printed c.args.renderer.now.hyperlink (string_bytes page.text) some
+    (λ some printing. c.in_ok-add_plain_title.ensures.printed (string_bytes page.text) some
     (c.is_plain_title.ensures.yes c.if-is_plain_title.true) printing)) c.draw_below_title.ensures.rows

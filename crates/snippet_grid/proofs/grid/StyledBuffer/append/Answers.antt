@@ -1,5 +1,5 @@
-use Rattle.snippet_grid.proofs.Common.{◌≡◌, ◌∙◌, ap, sym, subst, arith, length, List, false≢true, on_ok_weaker, row_at, cells_written}
-use Rattle.snippet_grid.proofs.Common.{WritesCells, Cell, text_cells, length-chars_le}
+use Rattle.snippet_grid.proofs.Common.{◌∙◌, ap, sym, subst, arith, length, false≢true, on_ok_weaker, cells_written}
+use Rattle.snippet_grid.proofs.Common.{WritesCells, text_cells, length-chars_le}
 use Rattle.std.specs.Str.{chars}
 use Rattle.snippet_grid.proofs.grid.StyledBuffer.append.Goals as goal
 
@@ -12,14 +12,10 @@ returns-then-not-fits-clause-empty_succeeds c =
 
 pub returns-clause-ok : goal.returns-clause-ok
 returns-clause-ok c =
-    let end : c.width-end.result ≡ length (row_at c.args.self.now c.args.row) =
-    c.width-end.ensures.value ∙ ap (λ (rows : List (List Cell)). length (row_at rows c.args.row)) c.self.view_is in
     on_ok_weaker c.puts.result (λ is some. is some ∙ ap (λ at. cells_written c.args.self.now c.args.row at
-    (text_cells c.args.role (chars c.args.text.now))) end) c.puts.ensures.ok
+    (text_cells c.args.role (chars c.args.text.now))) c.width-end.ensures.value) c.puts.ensures.ok
 
 pub returns-clause-reads : goal.returns-clause-reads
 returns-clause-reads c =
-    let end : c.width-end.result ≡ length (row_at c.args.self.now c.args.row) =
-    c.width-end.ensures.value ∙ ap (λ (rows : List (List Cell)). length (row_at rows c.args.row)) c.self.view_is in
     on_ok_weaker c.puts.result (λ reads some. subst (λ at. WritesCells c.args.self.now c.puts.new.self c.args.row at
-    (text_cells c.args.role (chars c.args.text.now))) end (reads some)) c.puts.ensures.reads
+    (text_cells c.args.role (chars c.args.text.now))) c.width-end.ensures.value (reads some)) c.puts.ensures.reads

@@ -5,7 +5,7 @@ use Rattle.snippet_grid.proofs.WovenLemmas.{Prints-from_adds, IsWoven-from_print
 use Rattle.snippet_grid.proofs.grid.StyledBuffer.render.Goals as goal
 
 -- what is added to no text prints the rows
-printed : (c : goal.After-array_drop-codes-inside) (new : List ℕ) → WeavesRows c.new-codes.result c.args.level c.args.self.now (string_bytes c.new.result) new
+printed : (c : goal.After-render_after) (new : List ℕ) → WeavesRows c.new-codes.result c.args.level c.args.self.now (string_bytes c.new.result) new
     → Prints c.args.sheet.now c.args.level c.args.self.now new
 printed c new adds =
     let under : WeavesRows c.args.sheet.now c.args.level c.args.self.now (string_bytes c.new.result) new = subst (λ sheet.

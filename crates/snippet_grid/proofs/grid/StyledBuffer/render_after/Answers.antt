@@ -15,7 +15,6 @@ returns c =
     let shown = grid_read (string_bytes c.cells.inside.text) c.as_str.result.now c.cells.inside.runs.items c.deref.result.now c.cells.inside.widths.items
     c.deref-2.result.now c.as_str.ensures.value c.deref.ensures.value c.deref-2.ensures.value ∙ ap (λ (s : Stored). s.rows) c.cells.view_is ∙ c.self.view_is in
     record {
-      sheet = c.in_ok-weave_rows.ensures.sheet;
       added = AddsRows-same c.args.codes.now c.args.level c.args.self.now _ _ _ _ shown
           c.in_ok-reserve.ensures.bytes c.in_ok-weave_rows.ensures.text;
     }

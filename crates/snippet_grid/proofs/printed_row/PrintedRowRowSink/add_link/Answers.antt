@@ -1,0 +1,11 @@
+use Rattle.snippet_grid.proofs.Common.{List, AddsCells, Cell, on_ok_weaker, subst}
+use Rattle.std.specs.Str.{chars}
+use Rattle.snippet_grid.proofs.OpenRowLemmas.{adds_more, linked_alike}
+use Rattle.snippet_grid.proofs.printed_row.PrintedRowRowSink.add_link.Goals as goal
+
+pub returns : goal.returns
+returns c = record {
+  added = on_ok_weaker c.add_stretch.result (λ added start cells adds. adds_more start _ _ cells _ (subst (λ (more : List Cell).
+      AddsCells c.args.self.now c.add_stretch.new.self more) (linked_alike c.args.role c.args.url.now (chars c.args.word.now)) added) adds)
+      c.add_stretch.ensures.added;
+}
