@@ -35,17 +35,27 @@ impl UsualCode {
 }
 
 /// The code that opens a style, if it is one of these.
+#[inline(always)]
 pub(crate) fn usual_opening(style: Style) -> Option<UsualCode>
     ensures bytes { IfSome result (λ code. usual_bytes code ≡ opening_bytes style) }
 {
     let bold = style.effects.bold;
-    if style != style_with(bold, style.fg) {
+    let rest = Style {
+        fg: None,
+        effects: Effects {
+            bold: false,
+            ..style.effects
+        },
+        ..style
+    };
+    if !rest.is_plain() {
         return None;
     }
     usual_code(bold, style.fg)
 }
 
 /// The code of the style of this foreground colour, bold or not, that has nothing else, if it is one of these.
+#[inline(always)]
 fn usual_code(bold: bool, fg: Option<Color>) -> Option<UsualCode>
     ensures style { IfSome result (λ code. usual_style code
         ≡ record plain_style { fg = fg; effects = record no_effects { bold = bold } }) }
@@ -56,17 +66,6 @@ fn usual_code(bold: bool, fg: Option<Color>) -> Option<UsualCode>
         (Some(Color::Ansi(color)), false) => Some(UsualCode::Color(color)),
         _ => None,
     }
-}
-
-/// The style with this foreground colour, in bold type or not, that has nothing else.
-fn style_with(bold: bool, fg: Option<Color>) -> Style
-    ensures value { result ≡ record plain_style { fg = fg; effects = record no_effects { bold = bold } } }
-{
-    let effects = Effects {
-        bold,
-        ..Effects::new()
-    };
-    Style::new().fg_color(fg).effects(effects)
 }
 
 /// The code of a colour of the sixteen.
