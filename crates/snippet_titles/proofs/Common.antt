@@ -67,13 +67,11 @@ pub use Rattle.snippet_titles.specs.PrintedHeading.{IsPlainHeading, title_rows}
 pub use Rattle.snippet_titles.specs.ShortRows.{with_end, short_texts}
 unfoldable pub use Rattle.snippet_titles.specs.ShortRows.{short_rows}
 pub use Rattle.snippet_titles.specs.ShownHeading.{IsFreeButText, heading_texts, texts_below}
-pub use Rattle.snippet_titles.specs.StretchCells.{stretch_cells, stretch_room}
 pub use Rattle.snippet_titles.specs.Title.{id_address, id_links, id_chars, text_links}
 pub use Rattle.snippet_titles.specs.declared.origin.FileStart.{FileStart}
 pub use Rattle.snippet_titles.specs.declared.origin.FileStart.TheVariants.{First, Alone, Later, Secondary}
 pub use Rattle.snippet_titles.specs.declared.origin.OriginLayout.{OriginLayout}
 pub use Rattle.snippet_titles.specs.declared.origin.OriginLocation.{OriginLocation}
-pub use Rattle.snippet_titles.specs.declared.stretch.RowStretch.{RowStretch}
 pub use Rattle.snippet_titles.specs.declared.style.HeadingRoles.{HeadingRoles}
 pub use Rattle.snippet_titles.specs.declared.style.MessageContext.{MessageContext}
 pub use Rattle.snippet_titles.specs.declared.style.TitleStyle.{TitleStyle}

@@ -26,5 +26,4 @@ pub mod ShortLemmas
 pub mod ShortRowLemmas
 pub mod SignLemmas
 pub mod SplitLemmas
-pub mod StretchRow
 pub mod TextLemmas

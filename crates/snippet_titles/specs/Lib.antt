@@ -5,6 +5,5 @@ pub mod PrintedHeading
 pub mod ShortParts
 pub mod ShortRows
 pub mod ShownHeading
-pub mod StretchCells
 pub mod Title
 pub mod LinkedId

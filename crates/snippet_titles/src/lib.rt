@@ -9,7 +9,6 @@ pub mod printed;
 mod row;
 pub mod separators;
 pub mod short;
-mod stretch;
 pub mod style;
 pub mod title;
 

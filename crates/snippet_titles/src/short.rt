@@ -3,27 +3,22 @@
 //! ```text
 //! src/main.rs:1:5: error: unused: here
 //! ```
-ghost use Rattle.std.specs.Prelude.{◌≡◌, ◌<◌, ◌++◌, [], All, chars, length, IfOk, OnOk, string_bytes, true};
+ghost use Rattle.std.specs.Prelude.{◌≡◌, ◌<◌, ◌≤◌, ◌+◌, ◌++◌, All, chars, length, IfOk, OnOk, string_bytes};
 ghost use Rattle.std.specs.Cow.{cow_str_bytes};
-ghost use Rattle.std.specs.Option.{option_copied};
 ghost use Rattle.snippet_grid.specs.Woven.{Prints};
 ghost use Rattle.snippet_model.specs.Heading.{HeadingFits, heading_of_title};
-ghost use Rattle.snippet_style.specs.declared.role.ElementStyle.{ElementStyle};
 ghost use Rattle.snippet_text.specs.Plain.{IsPlain};
-ghost use Rattle.snippet_titles.specs.HeadingRows.{id_cells};
-ghost use Rattle.snippet_titles.specs.ShortParts.{rows_of, shown_id_cells};
+ghost use Rattle.snippet_titles.specs.ShortParts.{rows_of};
 ghost use Rattle.snippet_titles.specs.ShortRows.{short_rows};
 
-use crate::heading::{colon, draw_text, is_hidden, shown_name, write_label};
-use crate::id::{address_of, closing_bracket, opening_bracket};
+use crate::heading::{draw_text, write_label};
 use crate::row::extend_row;
-use crate::stretch::{RowStretch, print_row};
 use crate::style::{TitleStyle, roles_of};
-use snippet_grid::{GridRow, RowSink, StyledBuffer};
+use snippet_grid::{GridRow, PrintedRow, RowSink, SheetCodes, StyledBuffer};
 use snippet_model::MessageOrTitle;
-use snippet_model::snippet::{Id, Title};
+use snippet_model::snippet::Title;
 use snippet_style::{ElementStyle, LevelInner, Stylesheet};
-use snippet_text::{CowStr, is_plain, normalized};
+use snippet_text::is_plain;
 use std::alloc::{AllocError, Global};
 use std::marker::Model;
 
@@ -118,69 +113,36 @@ fn row_text(
     ensures prints { IfOk result (λ text. Prints sheet.now level (rows_of parts.now) (string_bytes text)) }
 {
     let title = parts.title;
-    let kind = title.level.kind;
-    let roles = roles_of(&TitleStyle::Short, kind, title.allows_styling);
-    let hidden = is_hidden(&title.level);
-    let name = shown_name(alloc, &title.level)?;
-    let given = title.id();
-    let id = shown_id(alloc, parts.hyperlink, hidden, given)?;
-    let colon = colon(hidden, given);
-    let stretches = [
-        RowStretch::unlinked(parts.before.as_str(), ElementStyle::LineAndColumn),
-        RowStretch::unlinked(name.as_str(), roles.label),
-        RowStretch::unlinked(id.opening, roles.label),
-        RowStretch::linked(id.text.as_str(), roles.label, id.address),
-        RowStretch::unlinked(id.closing, roles.label),
-        RowStretch::unlinked(colon, roles.colon),
-        RowStretch::unlinked(title.text.as_str(), roles.text),
-        RowStretch::unlinked(parts.after.as_str(), ElementStyle::NoStyle),
-    ];
-    print_row(alloc, &stretches, level, sheet)
+    let roles = roles_of(&TitleStyle::Short, title.level.kind, title.allows_styling);
+    let codes = SheetCodes::new(sheet);
+    let room = String::with_capacity(alloc, room_for(parts))?;
+    let mut row = PrintedRow::after(room, &codes, level);
+    row.add_word(parts.before.as_str(), ElementStyle::LineAndColumn)?;
+    write_label(
+        alloc,
+        &mut row,
+        parts.hyperlink,
+        roles,
+        &title.level,
+        title.id(),
+    )?;
+    row.add_word(title.text.as_str(), roles.text)?;
+    row.add_word(parts.after.as_str(), ElementStyle::NoStyle)?;
+    row.end()
 }
 
-/// An id as it is drawn: its text between brackets, and the address that it links to. Where there is none it is empty.
-#[derive(Drop)]
-struct ShownId<'r> {
-    opening: &'static str,
-    text: CowStr<'r>,
-    closing: &'static str,
-    address: Option<&'r str>,
-}
+/// The bytes that a row has room for at first, beside its texts: for a level's name, an id and codes.
+const ROW_BYTES: usize = 64;
 
-/// An id as it is drawn.
-fn shown_id<'r>(
-    alloc: Global,
-    hyperlink: bool,
-    hidden: bool,
-    id: Option<&'r Id<'r>>,
-) -> Result<ShownId<'r>, AllocError>
-    ensures cells { IfOk result (λ shown. (role : ElementStyle) → shown_id_cells role shown
-        ≡ id_cells hyperlink hidden role (option_copied id.entry)) }
+/// The bytes that the row of a title has room for at first.
+fn room_for(parts: &ShortParts<'_>) -> usize
+    ensures most { result ≤ length (string_bytes parts.now.before) + length (string_bytes parts.now.after)
+        + length (cow_str_bytes parts.now.title.now.text) + 64 }
 {
-    let Some(id) = id else {
-        return Ok(no_id());
-    };
-    match &id.id {
-        Some(text) => Ok(ShownId {
-            opening: opening_bracket(hidden),
-            text: normalized(alloc, text.as_str())?,
-            closing: closing_bracket(hidden),
-            address: address_of(hyperlink, id),
-        }),
-        None => Ok(no_id()),
-    }
-}
-
-/// What stands where there is no id.
-fn no_id<'r>() -> ShownId<'r>
-    ensures cells { (role : ElementStyle) → shown_id_cells role result ≡ [] }
-{
-    ShownId {
-        opening: "",
-        text: CowStr::Borrowed(""),
-        closing: "",
-        address: None,
-    }
+    let texts = parts.before.len().saturating_add(parts.after.len());
+    texts
+        .saturating_add(parts.title.text.len())
+        .saturating_add(ROW_BYTES)
 }
 
 /// Draws a title in the short form below all that stands in the grid: after a text, and its first row goes on with
