@@ -1,33 +1,31 @@
 -- Codes of which one more is made.
-use Rattle.snippet_grid.proofs.Common.{UsualCode, usual_bytes}
-use Rattle.snippet_grid.proofs.Common.{◌≡◌, ℕ, ◌<◌, Bool, true, false, if◌then◌else◌, List, [], ◌∷◌, ◌++◌, Option, None}
-use Rattle.snippet_grid.proofs.Common.{Some, IfSome, get_or, map, refl, sym, ap, ◌∙◌, encode_utf8_all}
-use Rattle.snippet_grid.proofs.Common.{get_or_default, get_or-map, AreOpenings, opening_bytes, style_at, styles_in}
+use Rattle.snippet_grid.proofs.Common.{◌≡◌, ℕ, ◌<◌, arith, Bool, true, false, if◌then◌else◌, List, [], ◌∷◌, ◌++◌, Option, length, zero, suc}
+use Rattle.snippet_grid.proofs.Common.{get_or, refl, sym, ap, ◌∙◌, subst, encode_utf8_all, AllZip, IsCodeOf, StyleCode}
+use Rattle.snippet_grid.proofs.Common.{get_or_default, opening_bytes, style_at, styles_in}
 use Rattle.snippet_grid.proofs.Common.{code, color_code, effect_code, effect_codes, reset, is_plain_style, no_effects, plain_style, Color, Effects}
 use Rattle.snippet_grid.proofs.Common.{encode-opening, reset-bytes, bold-alone, plain_is_plain, Style, Stylesheet}
 use Rattle.std.proofs.Common.{append-nil}
 use Rattle.std.specs.Prelude.{codes}
 
--- a usual code opens the style at its place
-pub opening_kept : (codes : List (Option UsualCode)) (o e : Option UsualCode) (sheet seen : Stylesheet) (i : ℕ)
-    → AreOpenings codes (styles_in sheet) → i < 11 → sheet ≡ seen → get_or codes i e ≡ o
-    → IfSome o (λ code. usual_bytes code ≡ opening_bytes (style_at seen i))
-opening_kept codes None e sheet seen i are within same is = tt
-opening_kept codes (Some code) e sheet seen i are within same is =
-    are.each i code e sheet.none within is ∙ ap opening_bytes (ap (λ s. style_at s i) same)
+-- what opens each of some styles, place by place
+zipped : (codes : List StyleCode) (styles : List Style) (i : ℕ) (c : StyleCode) (s : Style) → AllZip IsCodeOf codes styles → i < length styles
+    → IsCodeOf (get_or codes i c) (get_or styles i s)
+zipped codes [] i c s are within = absurd (omega (arith, within))
+zipped [] (y ∷ styles) i c s are within = absurd are
+zipped (x ∷ codes) (y ∷ styles) zero c s are within = are.0
+zipped (x ∷ codes) (y ∷ styles) (suc i) c s are within = zipped codes styles i c s are.1 (omega (arith, within))
+
+-- what opens the style at a place stands there
+pub code_read : (codes : List StyleCode) (c : StyleCode) (sheet seen : Stylesheet) (i : ℕ) → AllZip IsCodeOf codes (styles_in sheet) → i < 11 → sheet ≡ seen
+    → IsCodeOf (get_or codes i c) (style_at seen i)
+code_read codes c sheet seen i are within same =
+    subst (λ (s : Stylesheet). IsCodeOf (get_or codes i c) (style_at s i)) same (zipped codes (styles_in sheet) i c sheet.none are within)
 
 -- the style at a place of a sheet stands there among its styles
 pub style_read : (sheet seen : Stylesheet) (styles : List Style) (i : ℕ) (d : Style) → i < 11 → sheet ≡ seen → styles ≡ styles_in sheet
     → style_at seen i ≡ get_or styles i d
 style_read sheet seen styles i d within same are =
     ap (λ s. style_at s i) (sym same) ∙ get_or_default (styles_in sheet) i sheet.none d within ∙ ap (λ (l : List Style). get_or l i d) (sym are)
-
--- whether the style at a place of a sheet is plain stands there among what is known of its styles
-pub plain_read : (sheet seen : Stylesheet) (plain : List Bool) (i : ℕ) (d : Bool) → i < 11 → sheet ≡ seen → plain ≡ map is_plain_style (styles_in sheet)
-    → get_or plain i d ≡ is_plain_style (style_at seen i)
-plain_read sheet seen plain i d within same are =
-    ap (λ (l : List Bool). get_or l i d) are ∙ get_or-map is_plain_style (styles_in sheet) i sheet.none d within
-    ∙ ap (λ s. is_plain_style (style_at s i)) same
 
 -- nothing switches a plain style off
 pub reset_plain : (s : Style) (old : List ℕ) → is_plain_style s ≡ true → old ≡ old ++ encode_utf8_all (reset s)

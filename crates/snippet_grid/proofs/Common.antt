@@ -23,7 +23,7 @@ pub use Rattle.snippet_grid.specs.SheetCodes.{style_at, opening_bytes, styles_in
 pub use Rattle.snippet_grid.specs.Stored.{Stored, stored}
 pub use Rattle.snippet_grid.specs.Stretch.{PrintsStretch}
 pub use Rattle.snippet_grid.specs.StyledChars.{ch_of, cell_of}
-pub use Rattle.snippet_grid.specs.UsualCodes.{AreOpenings, usual_bytes}
+pub use Rattle.snippet_grid.specs.UsualCodes.{IsCodeOf, usual_bytes}
 pub use Rattle.snippet_grid.specs.Weaving.{PrintsFurther, WeavesRow, PrintsRows, WeavesRows}
 pub use Rattle.snippet_grid.specs.Woven.{piece_text, Piece, Char, Opening, Reset, PrintsRow, Prints, LinkTo, LinkEnd, PrintsCells, next_style, next_link}
 pub use Rattle.snippet_grid.specs.Woven.{links_of, plain_piece, piece_link, IsStyleOf, IsOfSheet, AreLinksEnded, IsWoven, link_begun, links_after}
@@ -32,6 +32,7 @@ pub use Rattle.snippet_grid.specs.declared.grid_row.GridRow.{GridRow}
 pub use Rattle.snippet_grid.specs.declared.printed_row.PrintedRow.{PrintedRow}
 pub use Rattle.snippet_grid.specs.declared.runs.Run.{Run}
 pub use Rattle.snippet_grid.specs.declared.styled_char.StyledChar.{StyledChar}
+pub use Rattle.snippet_grid.specs.declared.usual_codes.StyleCode.{StyleCode}
 pub use Rattle.snippet_grid.specs.declared.usual_codes.UsualCode.{UsualCode}
 pub use Rattle.snippet_style.proofs.CellLemmas.{length-chars_le, length-text_cells, slice_index_or-text_cells, length-written, slice_index_or-written_before}
 pub use Rattle.snippet_style.proofs.CellLemmas.{slice_index_or-written_inside, slice_index_or-written_after, written_end, written_last}

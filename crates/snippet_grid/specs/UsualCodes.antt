@@ -1,9 +1,11 @@
 -- The codes of the styles that most sheets have.
-use Rattle.std.specs.Prelude.{◌≡◌, ℕ, ◌<◌, List, Option, Some, length, slice_index_or}
+use Rattle.std.specs.Prelude.{◌≡◌, ℕ, List, true, false}
 use Rattle.snippet_grid.specs.SheetCodes.{opening_bytes}
+use Rattle.snippet_grid.specs.declared.usual_codes.StyleCode.{StyleCode}
+use Rattle.snippet_grid.specs.declared.usual_codes.StyleCode.TheVariants.{Nothing, Usual, Other}
 use Rattle.snippet_grid.specs.declared.usual_codes.UsualCode.{UsualCode}
 use Rattle.snippet_grid.specs.declared.usual_codes.UsualCode.TheVariants.{Bold, Color, BoldColor}
-use Rattle.snippet_style.specs.Style.{colored, emboldened, plain_style}
+use Rattle.snippet_style.specs.Style.{colored, emboldened, is_plain_style, plain_style}
 use Rattle.snippet_style.specs.declared.style.Style.{Style}
 
 -- the style that such a code opens
@@ -16,8 +18,8 @@ usual_style (BoldColor c) = emboldened (colored c)
 abbrev pub usual_bytes : UsualCode → List ℕ
 usual_bytes code = opening_bytes (usual_style code)
 
--- usual codes are those that open some styles, in order, as far as these are usual ones
-pub record AreOpenings (codes : List (Option UsualCode)) (styles : List Style) : Type 0 where
-  pub count : length codes ≡ length styles
-  pub each : (i : ℕ) (code : UsualCode) (e : Option UsualCode) (s : Style) → i < length styles → slice_index_or codes i e ≡ Some code
-      → usual_bytes code ≡ opening_bytes (slice_index_or styles i s)
+-- what opens a style: nothing where it is plain, and else a code, which is the style's own where it is a usual one
+abbrev pub IsCodeOf : StyleCode → Style → Type 0
+IsCodeOf Nothing s = is_plain_style s ≡ true
+IsCodeOf (Usual code) s = (is_plain_style s ≡ false) × (usual_bytes code ≡ opening_bytes s)
+IsCodeOf Other s = is_plain_style s ≡ false

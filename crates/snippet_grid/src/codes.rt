@@ -1,15 +1,16 @@
 //! The codes that open a sheet's styles. Those of usual styles are known from the start, and take no memory.
-ghost use Rattle.std.specs.Prelude.{◌≡◌, ◌≢◌, ◌<◌, ◌++◌, true, false, map, slice_index_or, IfSome, OnOk};
+ghost use Rattle.std.specs.Prelude.{◌≡◌, ◌≢◌, ◌<◌, ◌++◌, true, false, slice_index_or, OnOk};
 ghost use Rattle.std.specs.Prelude.{encode_utf8_all, string_bytes};
+ghost use Rattle.std.specs.List.{AllZip};
 ghost use Rattle.snippet_grid.specs.SheetCodes.{opening_bytes, style_at, styles_in};
-ghost use Rattle.snippet_grid.specs.UsualCodes.{AreOpenings, usual_bytes};
+ghost use Rattle.snippet_grid.specs.UsualCodes.{IsCodeOf};
 ghost use Rattle.snippet_style.specs.Codes.{reset};
 ghost use Rattle.snippet_style.specs.Style.{is_plain_style};
 ghost use Rattle.snippet_style.specs.Stylesheet as spec;
 ghost use Rattle.snippet_style.specs.declared.style.Style.{Style};
 ghost use Rattle.snippet_style.specs.declared.stylesheet.Stylesheet.{Stylesheet};
 
-use crate::usual_codes::{UsualCode, usual_opening};
+use crate::usual_codes::{StyleCode, code_of};
 use snippet_style::{ElementStyle, LevelInner, Style, Stylesheet, write_opening};
 use std::alloc::AllocError;
 use std::marker::Model;
@@ -18,18 +19,16 @@ use std::marker::Model;
 #[derive(Drop)]
 pub struct SheetCodes {
     sheet: Stylesheet,
-    /// The styles of the sheet, in the order of its fields, and whether each is plain.
+    /// The styles of the sheet, in the order of its fields, and what opens each.
     styles: [Style; 11],
-    plain: [bool; 11],
-    /// The codes of those that are usual ones, in the same order.
-    usual: [Option<UsualCode>; 11],
+    codes: [StyleCode; 11],
 }
 
 impl Model for SheetCodes {
-    ghost use Rattle.std.specs.Prelude.{◌≡◌, map};
+    ghost use Rattle.std.specs.Prelude.{◌≡◌};
+    ghost use Rattle.std.specs.List.{AllZip};
     ghost use Rattle.snippet_grid.specs.SheetCodes.{styles_in};
-    ghost use Rattle.snippet_grid.specs.UsualCodes.{AreOpenings};
-    ghost use Rattle.snippet_style.specs.Style.{is_plain_style};
+    ghost use Rattle.snippet_grid.specs.UsualCodes.{IsCodeOf};
     ghost use Rattle.snippet_style.specs.declared.stylesheet.Stylesheet.{Stylesheet};
 
     ghost Value = { Stylesheet };
@@ -38,8 +37,7 @@ impl Model for SheetCodes {
 
     ghost invariant = { λ c. record {
       styles : c.styles ≡ styles_in c.sheet;
-      plain : c.plain ≡ map is_plain_style (styles_in c.sheet);
-      usual : AreOpenings c.usual (styles_in c.sheet);
+      codes : AllZip IsCodeOf c.codes (styles_in c.sheet);
     } };
 }
 
@@ -51,8 +49,7 @@ impl SheetCodes {
         SheetCodes {
             sheet: *sheet,
             styles: styles(sheet),
-            plain: plain_places(sheet),
-            usual: usual_codes(sheet),
+            codes: codes(sheet),
         }
     }
 
@@ -70,7 +67,7 @@ impl SheetCodes {
         requires within { place < 11 }
         ensures value { result ≡ is_plain_style (style_at self.now place) }
     {
-        self.plain[place]
+        matches!(self.code_at(place), StyleCode::Nothing)
     }
 
     /// Whether the styles at two places differ.
@@ -110,22 +107,20 @@ impl SheetCodes {
         ensures text { OnOk result (string_bytes out.new ≡ string_bytes out.old
             ++ opening_bytes (style_at self.now place)) }
     {
-        if self.is_plain(place) {
-            return Ok(());
+        match self.code_at(place) {
+            StyleCode::Nothing => Ok(()),
+            StyleCode::Usual(code) => code.push(out),
+            StyleCode::Other => write_opening(out, self.style_at(place)),
         }
-        if let Some(code) = self.usual(place) {
-            return code.push(out);
-        }
-        write_opening(out, self.style_at(place))
     }
 
-    /// The code that opens the style at a place, if the style is a usual one.
+    /// What opens the style at a place.
     #[inline(always)]
-    fn usual(&self, place: usize) -> Option<UsualCode>
+    fn code_at(&self, place: usize) -> StyleCode
         requires within { place < 11 }
-        ensures bytes { IfSome result (λ code. usual_bytes code ≡ opening_bytes (style_at self.now place)) }
+        ensures code { IsCodeOf result (style_at self.now place) }
     {
-        self.usual[place]
+        self.codes[place]
     }
 }
 
@@ -148,41 +143,22 @@ fn styles(sheet: &Stylesheet) -> [Style; 11]
     ]
 }
 
-/// Whether each style of a sheet is plain, in the order of its fields.
-fn plain_places(sheet: &Stylesheet) -> [bool; 11]
-    ensures value { result ≡ map is_plain_style (styles_in sheet.now) }
+/// What opens each style of a sheet, in the order of its fields.
+fn codes(sheet: &Stylesheet) -> [StyleCode; 11]
+    ensures codes { AllZip IsCodeOf result (styles_in sheet.now) }
 {
     [
-        sheet.error.is_plain(),
-        sheet.warning.is_plain(),
-        sheet.info.is_plain(),
-        sheet.note.is_plain(),
-        sheet.help.is_plain(),
-        sheet.line_num.is_plain(),
-        sheet.emphasis.is_plain(),
-        sheet.none.is_plain(),
-        sheet.context.is_plain(),
-        sheet.addition.is_plain(),
-        sheet.removal.is_plain(),
-    ]
-}
-
-/// The codes of those styles of a sheet that are usual ones, in the order of its fields.
-fn usual_codes(sheet: &Stylesheet) -> [Option<UsualCode>; 11]
-    ensures codes { AreOpenings result (styles_in sheet.now) }
-{
-    [
-        usual_opening(sheet.error),
-        usual_opening(sheet.warning),
-        usual_opening(sheet.info),
-        usual_opening(sheet.note),
-        usual_opening(sheet.help),
-        usual_opening(sheet.line_num),
-        usual_opening(sheet.emphasis),
-        usual_opening(sheet.none),
-        usual_opening(sheet.context),
-        usual_opening(sheet.addition),
-        usual_opening(sheet.removal),
+        code_of(sheet.error),
+        code_of(sheet.warning),
+        code_of(sheet.info),
+        code_of(sheet.note),
+        code_of(sheet.help),
+        code_of(sheet.line_num),
+        code_of(sheet.emphasis),
+        code_of(sheet.none),
+        code_of(sheet.context),
+        code_of(sheet.addition),
+        code_of(sheet.removal),
     ]
 }
 

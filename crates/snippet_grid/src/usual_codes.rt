@@ -1,10 +1,8 @@
 //! The codes of the styles that most sheets have: of bold type, of one of the sixteen colours, or of both.
-ghost use Rattle.std.specs.Prelude.{◌≡◌, ◌+◌, ◌++◌, IfSome, OnOk, string_bytes, true};
+ghost use Rattle.std.specs.Prelude.{◌≡◌, ◌+◌, ◌++◌, OnOk, string_bytes, true};
 ghost use Rattle.std.specs.Fmt.{decimal};
-ghost use Rattle.snippet_grid.specs.SheetCodes.{opening_bytes};
-ghost use Rattle.snippet_grid.specs.UsualCodes.{usual_bytes, usual_style};
+ghost use Rattle.snippet_grid.specs.UsualCodes.{IsCodeOf, usual_bytes};
 ghost use Rattle.snippet_style.specs.Codes as spec;
-ghost use Rattle.snippet_style.specs.Style.{no_effects, plain_style};
 
 use snippet_style::{AnsiColor, Color, Effects, Style};
 use std::alloc::AllocError;
@@ -34,10 +32,21 @@ impl UsualCode {
     }
 }
 
-/// The code that opens a style, if it is one of these.
+/// What opens a style.
+#[derive(Clone, Copy)]
+pub(crate) enum StyleCode {
+    /// Nothing, since it is plain.
+    Nothing,
+    /// A usual code.
+    Usual(UsualCode),
+    /// A code that is written anew each time.
+    Other,
+}
+
+/// What opens a style.
 #[inline(always)]
-pub(crate) fn usual_opening(style: Style) -> Option<UsualCode>
-    ensures bytes { IfSome result (λ code. usual_bytes code ≡ opening_bytes style) }
+pub(crate) fn code_of(style: Style) -> StyleCode
+    ensures code { IsCodeOf result style }
 {
     let bold = style.effects.bold;
     let rest = Style {
@@ -49,22 +58,14 @@ pub(crate) fn usual_opening(style: Style) -> Option<UsualCode>
         ..style
     };
     if !rest.is_plain() {
-        return None;
+        return StyleCode::Other;
     }
-    usual_code(bold, style.fg)
-}
-
-/// The code of the style of this foreground colour, bold or not, that has nothing else, if it is one of these.
-#[inline(always)]
-fn usual_code(bold: bool, fg: Option<Color>) -> Option<UsualCode>
-    ensures style { IfSome result (λ code. usual_style code
-        ≡ record plain_style { fg = fg; effects = record no_effects { bold = bold } }) }
-{
-    match (fg, bold) {
-        (None, true) => Some(UsualCode::Bold),
-        (Some(Color::Ansi(color)), true) => Some(UsualCode::BoldColor(color)),
-        (Some(Color::Ansi(color)), false) => Some(UsualCode::Color(color)),
-        _ => None,
+    match (style.fg, bold) {
+        (None, false) => StyleCode::Nothing,
+        (None, true) => StyleCode::Usual(UsualCode::Bold),
+        (Some(Color::Ansi(color)), true) => StyleCode::Usual(UsualCode::BoldColor(color)),
+        (Some(Color::Ansi(color)), false) => StyleCode::Usual(UsualCode::Color(color)),
+        _ => StyleCode::Other,
     }
 }
 
