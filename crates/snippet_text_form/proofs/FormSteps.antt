@@ -1,6 +1,6 @@
 -- How the text of a form grows, piece by piece.
 use Rattle.snippet_text_form.proofs.Common.{◌≡◌, ℕ, ◌-◌, ◌<◌, ◌≤◌, ◌==◌, ◌||◌, nat_lt, not, Bool, true, false, List, []}
-use Rattle.snippet_text_form.proofs.Common.{◌∷◌, ◌++◌, Option, if◌then◌else◌, length, replicate, take, drop, refl, sym, ap, ◌∙◌, arith}
+use Rattle.snippet_text_form.proofs.Common.{◌∷◌, ◌++◌, Option, length, replicate, take, drop, refl, sym, ap, ◌∙◌, arith}
 use Rattle.snippet_text_form.proofs.Common.{encode_utf8, encode_utf8_all, decimal, flat_map, IsUtf8, nat_tests, flat_map-append, append-nil, append_assoc}
 use Rattle.snippet_text_form.proofs.Common.{All-weaker, All-replicate, chars-IsAscii, chars-nil, encodes-chars, length-le-encodes, IsAscii-from_all, opening}
 use Rattle.snippet_text_form.proofs.Common.{reset, Piece, Reset, piece_text, stretch, length-stretch_of, IsUtf8-stretch, Style, Stylesheet, IsDigit}

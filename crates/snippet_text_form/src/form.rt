@@ -124,8 +124,7 @@ impl<'a> TextForm<'a> {
     pub fn add_number(&mut self, number: usize) -> Result<(), AllocError>
         ensures added { OnOk result (self.new ≡ self.old ++ bare (decimal number)) }
     {
-        let mut digits = Buffer::new();
-        self.text.push_str(digits.format(number))
+        push_number(&mut self.text, number)
     }
 
     /// Adds this many spaces without codes.
@@ -236,6 +235,18 @@ fn write_mark(
         MarkKind::Break => Ok(()),
         MarkKind::Styled(look) => write_styled(out, sheet, look, word),
     }
+}
+
+/// Adds a number to a text. Many a line and column has one digit, for which nothing is called.
+fn push_number(out: &mut String, number: usize) -> Result<(), AllocError>
+    ensures bytes { OnOk result (string_bytes out.new ≡ string_bytes out.old ++ decimal number) }
+    ensures grown { BeginsWith (string_bytes out.old) (string_bytes out.new) }
+{
+    if number < 10 {
+        return out.push(char::from(b'0' + number as u8));
+    }
+    let mut digits = Buffer::new();
+    out.push_str(digits.format(number))
 }
 
 /// Adds this many spaces to a text.
