@@ -1,8 +1,8 @@
 -- Laws of trimmed edits and of the patched source.
-use Rattle.snippet_splice.proofs.Common.{◌≡◌, ℕ, ◌+◌, ◌-◌, ◌≤◌, ◌&&◌, ltb, leb, Option, Some, None, List, [], ◌∷◌, ◌++◌}
-use Rattle.snippet_splice.proofs.Common.{length, map, take, drop, refl, sym, ap, ◌∙◌, arith, append_assoc, append-nil, length-take-le, length-drop}
-use Rattle.snippet_splice.proofs.Common.{take-append-drop, take-take, drop-drop, drop-take, cond_both, and_parts, leb-true, slice_range, sandwich, Edit, shrunk}
-use Rattle.snippet_splice.proofs.Common.{trimmed_edit, edited_from, AreApart, IsSandwiched}
+use Rattle.snippet_splice.proofs.Common.{◌≡◌, ℕ, ◌+◌, ◌-◌, ◌≤◌, ◌&&◌, ltb, leb, Option, Some, None, List, [], ◌∷◌, ◌++◌, length, map, take, drop, refl, sym}
+use Rattle.snippet_splice.proofs.Common.{ap, ◌∙◌, arith, append_assoc, length-take-le, length-drop, take-append-drop, take-take, drop-drop, drop-take}
+use Rattle.snippet_splice.proofs.Common.{cond_both, and_parts, leb-true, slice_range, sandwich, Edit, shrunk, trimmed_edit, edited_from, AreApart}
+use Rattle.snippet_splice.proofs.Common.{IsSandwiched, rules}
 use Rattle.snippet_splice.proofs.TrimLemmas.{sandwich-sandwiched}
 
 -- ---- parts of a list
@@ -33,38 +33,12 @@ pub record IsShrunk (source : List ℕ) (e t : Edit) : Type 0 where
   pub text : e.text ≡ slice_range source e.start t.start ++ (t.text ++ slice_range source t.end e.end)
 
 unchanged : (source : List ℕ) (e : Edit) → e.start ≤ e.end → IsShrunk source e e
-unchanged source e ordered = record {
-  start = omega arith;
-  ordered = ordered;
-  end = omega arith;
-  text = nothing-around (e.start) (e.end) (e.text);
-}
-  where
-    nothing : (a : ℕ) → slice_range source a a ≡ []
-    nothing a = let n : a - a ≡ 0 = omega arith in ap (λ k. take k (drop a source)) n
-
-    nothing-around : (a b : ℕ) (t : List ℕ) → t ≡ slice_range source a a ++ (t ++ slice_range source b b)
-    nothing-around a b t = sym (ap (λ l. l ++ (t ++ slice_range source b b)) (nothing a) ∙ ap (λ l. t ++ l) (nothing b) ∙ append-nil t)
+unchanged source e ordered = search rules
 
 -- what is kept of a replaced text: the parts of it before and after
 pub shrunk-by : (source : List ℕ) (e : Edit) (a : ℕ) (m : List ℕ) (b : ℕ) → e.start ≤ e.end → e.end ≤ length source
     → IsSandwiched (slice_range source e.start e.end) e.text a m b → IsShrunk source e (shrunk e (Some (a, m, b)))
-shrunk-by source e a m b ordered within h =
-    let o : List ℕ = slice_range source e.start e.end in
-    let size : length o ≡ e.end - e.start = length-take-le (e.end - e.start) (drop e.start source) (omega (arith, length-drop e.start source)) in
-    let parts : a + b ≡ e.end - e.start = h.parts ∙ size in
-    let before : take a o ≡ slice_range source e.start (e.start + a) = take-take a (e.end - e.start) (drop e.start source) (omega arith)
-    ∙ ap (λ k. take k (drop e.start source)) (omega arith) in
-    let n : e.end - e.start ≡ a + b = sym parts in
-    let back : drop a o ≡ slice_range source (e.end - b) e.end = ap (λ k. drop a (take k (drop e.start source))) n ∙ drop-take a b (drop e.start source)
-    ∙ ap (take b) (drop-drop a e.start source ∙ ap (λ k. drop k source) (omega arith)) ∙ ap (λ k. take k (drop (e.end - b) source)) (omega arith) in
-    record {
-      start = omega arith;
-      ordered = omega arith;
-      end = omega arith;
-      text = h.whole ∙ append_assoc (take a o) m (drop a o) ∙ ap (λ l. l ++ (m ++ drop a o)) before
-          ∙ ap (λ l. slice_range source e.start (e.start + a) ++ (m ++ l)) back;
-    }
+shrunk-by source e a m b ordered within h = grind (arith, length-take-le, length-drop, take-take, drop-take, drop-drop, append_assoc)
 
 -- a trimmed edit is the edit made smaller, where that doesn't end before it starts
 pub trimmed_edit-shrunk : (source : List ℕ) (e : Edit) → e.start ≤ e.end → IsShrunk source e (trimmed_edit source e)
@@ -98,13 +72,7 @@ AreApart-earlier a b (e ∷ es) low apart = (omega (arith, apart.0), apart.1, ap
 -- trimmed edits stand apart as the untrimmed ones do
 pub trimmed-apart : (source : List ℕ) (at : ℕ) (es : List Edit) → AreApart at es → AreApart at (map (trimmed_edit source) es)
 trimmed-apart source at [] apart = tt
-trimmed-apart source at (e ∷ es) apart =
-    let h : IsShrunk source e (trimmed_edit source e) = trimmed_edit-shrunk source e apart.1 in (
-      omega (arith, h.start, apart.0),
-      h.ordered,
-      AreApart-earlier (trimmed_edit source e).end e.end (map (trimmed_edit source) es) h.end
-          (trimmed-apart source e.end es apart.2),
-    )
+trimmed-apart source at (e ∷ es) apart = grind (arith, trimmed_edit-shrunk, AreApart-earlier, trimmed-apart source e.end es apart.2)
 
 -- trimmed edits give what the untrimmed ones do
 pub edited_from-trimmed : (source : List ℕ) (at : ℕ) (es : List Edit) → AreApart at es

@@ -1,12 +1,10 @@
 -- How many LF, and so how many lines, the text that is shown has at most.
-use Rattle.snippet_splice.proofs.Common.{◌≡◌, ℕ, zero, suc, ◌+◌, ◌-◌, ◌<◌, ◌≤◌, Bool, true, false, cond, ◌&&◌, eqb, ltb, min}
-use Rattle.snippet_splice.proofs.Common.{List, [], ◌∷◌, ◌++◌, length, map, take, drop, get_or, refl, sym, ap, ◌∙◌, arith, and_parts, cond_both}
-use Rattle.snippet_splice.proofs.Common.{eqb-true, ltb-true, take-append-drop, sum_by-cons, sum_by_more, take-add, slice_range, sum_by, lines_of, source_lines}
-use Rattle.snippet_splice.proofs.Common.{start_of, text_at, last_byte, is_lf, newline_count, put_in, line_of, IsLine-at, length-lines_of, length-source_lines}
-use Rattle.snippet_splice.proofs.Common.{start_of-zero, line_of-within, start_of-inside, copied, end_from, in_text, written_from, Edit, in_order, precedes}
-use Rattle.snippet_splice.proofs.Common.{trimmed_edit, trimmed_edits, closes_line, first_start, shown_rest, shown_start, shown_text, without_final_line_feeds}
-use Rattle.snippet_splice.proofs.Common.{shown_line, AreApart}
-use Rattle.snippet_splice.proofs.LineEnds.{is_inside_line_end}
+use Rattle.snippet_splice.proofs.Common.{◌≡◌, ℕ, zero, suc, ◌+◌, ◌-◌, ◌<◌, ◌≤◌, Bool, eqb, List, [], ◌∷◌, ◌++◌, length, map, take, drop, refl, sym, ap, ◌∙◌}
+use Rattle.snippet_splice.proofs.Common.{arith, and_parts, cond_both, eqb-true, ltb-true, take-append-drop, sum_by-cons, sum_by_more, take-add, slice_range}
+use Rattle.snippet_splice.proofs.Common.{sum_by, lines_of, source_lines, start_of, last_byte, newline_count, put_in, IsLine-at, length-lines_of}
+use Rattle.snippet_splice.proofs.Common.{length-source_lines, start_of-zero, line_of-within, start_of-inside, copied, end_from, in_text, written_from, Edit}
+use Rattle.snippet_splice.proofs.Common.{in_order, precedes, trimmed_edit, trimmed_edits, closes_line, first_start, shown_rest, shown_start, shown_text}
+use Rattle.snippet_splice.proofs.Common.{without_final_line_feeds, shown_line, AreApart, rules}
 use Rattle.snippet_splice.proofs.EditLemmas.{IsShrunk, trimmed_edit-shrunk}
 use Rattle.snippet_splice.proofs.LineLemmas.{Shortens, Shortens-final}
 use Rattle.snippet_splice.proofs.RangeLemmas.{feeds, feeds-append, feeds-none, feeds-shown}
@@ -20,9 +18,7 @@ lines-feeds (b ∷ bs) = omega (arith, length-lines_of b bs)
 
 feeds-source : (source : List ℕ) → feeds source ≤ length (source_lines source)
 unfolding newline_count
-feeds-source source =
-    let one : (b : Bool) → cond b 1 0 ≤ 1 = λ b. elim b as (λ v. cond v 1 0 ≤ 1) [ true ↦ omega arith | false ↦ omega arith ] in
-    omega (arith, length-source_lines source, one (is_lf (last_byte source)))
+feeds-source source = grind (arith, length-source_lines)
 
 -- ---- the LF before a byte
 
@@ -36,27 +32,10 @@ feeds-after text b = sym (feeds-append (take b text) (drop b text)) ∙ ap feeds
 
 -- a byte is moved to the left, and over no LF from before the end of the source
 in_text-le : (source : List ℕ) (b : ℕ) → in_text source b ≤ b
-in_text-le source b =
-    let at : ℕ = min b (text_end source) in
-    cond_both (is_inside_line_end source at) (at - 1) at (λ n. n ≤ b) (λ _. omega arith) (λ _. omega arith)
+in_text-le source b = search rules
 
 in_text-feeds : (source : List ℕ) (b : ℕ) → b ≤ text_end source → feeds (take b source) ≤ feeds (take (in_text source b) source)
-in_text-feeds source b inside =
-    let at : ℕ = min b (text_end source) in
-    let same : at ≡ b = omega (arith, inside) in
-    cond_both (is_inside_line_end source at) (at - 1) at (λ n. feeds (take b source) ≤ feeds (take n source))
-    (λ t. let cr = and_parts (ltb 0 at && ltb at (length source) && eqb (get_or source at 0) 10) (eqb (get_or source (at - 1) 0) 13) t in
-    let lf = and_parts (ltb 0 at && ltb at (length source)) (eqb (get_or source at 0) 10) cr.0 in
-    let bounds = and_parts (ltb 0 at) (ltb at (length source)) lf.0 in
-    let low : 0 < at = ltb-true 0 at bounds.0 in
-    let high : at < length source = ltb-true at (length source) bounds.1 in
-    let next : at - 1 + 1 ≡ b = omega (arith, low, same) in
-    let one : ℕ → ℕ = λ c. cond (is_lf c) 1 0 in
-    let none : one (get_or source (at - 1) 0) ≡ 0 = ap one (eqb-true (get_or source (at - 1) 0) 13 cr.1) in
-    let more : feeds (take (at - 1 + 1) source) ≡ feeds (take (at - 1) source) + one (get_or source (at - 1) 0) = sum_by_more one source (at - 1) 0
-    (omega (arith, high)) in
-    omega (arith, ap (λ n. feeds (take n source)) next, more, none))
-    (λ _. omega (arith, ap (λ n. feeds (take n source)) same))
+in_text-feeds source b inside = grind (arith, cond_both, and_parts, ltb-true, eqb-true, sum_by_more)
 
 -- the text that is shown begins before the end of the source
 start-inside : (source : List ℕ) (k : ℕ) → k < length (source_lines source) → start_of (source_lines source) k ≤ text_end source
@@ -69,9 +48,7 @@ start-inside source (suc k) within =
     omega (arith, ap (start_of (source_lines source)) next, short, all)
 
 shown_start-inside : (fold : Bool) (source : List ℕ) (first : ℕ) → shown_start fold source first ≤ text_end source
-shown_start-inside fold source first =
-    cond_both fold (start_of (source_lines source) (line_of (source_lines source) first)) 0 (λ n. n ≤ text_end source) (λ _.
-    start-inside source (line_of (source_lines source) first) (line_of-within source first)) (λ _. omega arith)
+shown_start-inside fold source first = grind (arith, cond_both, start-inside, line_of-within)
 
 -- ---- the LF of the texts of edits
 abbrev pub text_feeds : List Edit → ℕ
@@ -106,8 +83,7 @@ text_feeds-put_in e (d ∷ ds) =
 
 text_feeds-in_order : (es : List Edit) → text_feeds (in_order es) ≡ text_feeds es
 text_feeds-in_order [] = refl
-text_feeds-in_order (e ∷ es) =
-    text_feeds-put_in e (in_order es) ∙ ap (λ n. feeds e.text + n) (text_feeds-in_order es) ∙ sym (sum_by-cons (λ d. feeds d.text) e es)
+text_feeds-in_order (e ∷ es) = simp (text_feeds-put_in, sum_by-cons, text_feeds-in_order es)
 
 -- ---- the LF of what is written
 
@@ -134,10 +110,7 @@ written-feeds source at (t ∷ ts) apart =
 
 -- what is shown of the rest has no more than the rest
 rest-feeds : (fold closed : Bool) (rest : List ℕ) → feeds (shown_rest fold closed rest) ≤ feeds rest
-rest-feeds false closed rest = omega arith
-rest-feeds true true rest = omega arith
-rest-feeds true false rest =
-    omega (arith, feeds-none (text_at (source_lines rest) 0) (IsLine-at rest 0 (omega (arith, length-source_lines rest))).no_lf)
+rest-feeds x y z = grind (arith, feeds-none, IsLine-at, length-source_lines)
 
 final-feeds : (text : List ℕ) → feeds (without_final_line_feeds text) ≤ feeds text
 final-feeds text =

@@ -1,15 +1,14 @@
 -- The lines of the text that is shown are lines of the patched source, one after the other.
-use Rattle.snippet_splice.proofs.Common.{◌≡◌, ◌≢◌, ℕ, zero, suc, ◌+◌, ◌-◌, ◌<◌, ◌⊎◌, inl, inr, Bool, true, false, cond, eqb}
-use Rattle.snippet_splice.proofs.Common.{List, [], ◌∷◌, ◌++◌, All, length, take, drop, get_or, refl, sym, ap, subst, ◌∙◌, ⊎_elim, arith}
-use Rattle.snippet_splice.proofs.Common.{append_assoc, append-nil, length-append, length-map, length-take-le, take_at, drop_at, map-append, get_or-take}
-use Rattle.snippet_splice.proofs.Common.{get_or-drop, All-nil, All-cons, All-same, All-head, All-tail, All-take, All-drop, All-append, cases_Bool, cond-true}
-use Rattle.snippet_splice.proofs.Common.{cond-false, eqb-true, eqb-false, ne_eqb, slice_range, EndLine, Eof, Lf, Crlf, Line, line_bytes, end_bytes, joined}
-use Rattle.snippet_splice.proofs.Common.{lines_of, with_first_byte, source_lines, start_of, last_byte, is_lf, AreLines, line_of, AreLinesOf-source_lines}
-use Rattle.snippet_splice.proofs.Common.{lines_of-append, lines_of-joined, last_byte-cons, line_of-within, Edit, precedes, in_order, edited_from, patched}
-use Rattle.snippet_splice.proofs.Common.{first_start, shown_start, unless_lone_line_feed, without_final_line_feeds, HasNoCr, shown_line, texts_of, AreFrom}
-use Rattle.snippet_splice.proofs.Common.{All-put_in}
+use Rattle.snippet_splice.proofs.Common.{◌≡◌, ◌≢◌, ℕ, zero, suc, ◌+◌, ◌-◌, ◌<◌, ◌⊎◌, inl, inr, Bool, true, false, cond, eqb, List, [], ◌∷◌, ◌++◌, All, length}
+use Rattle.snippet_splice.proofs.Common.{take, drop, get_or, refl, sym, ap, subst, ◌∙◌, ⊎_elim, arith, append_assoc, append-nil, length-append, length-map}
+use Rattle.snippet_splice.proofs.Common.{length-take-le, take_at, drop_at, map-append, get_or-take, get_or-drop, All-nil, All-cons, All-same, All-head}
+use Rattle.snippet_splice.proofs.Common.{All-tail, All-take, All-drop, All-append, cases_Bool, cond-true, cond-false, eqb-true, eqb-false, slice_range}
+use Rattle.snippet_splice.proofs.Common.{EndLine, Eof, Lf, Crlf, Line, line_bytes, end_bytes, joined, lines_of, with_first_byte, source_lines, start_of}
+use Rattle.snippet_splice.proofs.Common.{last_byte, is_lf, AreLines, line_of, AreLinesOf-source_lines, lines_of-append, lines_of-joined, last_byte-cons}
+use Rattle.snippet_splice.proofs.Common.{line_of-within, Edit, precedes, in_order, edited_from, patched, first_start, shown_start, unless_lone_line_feed}
+use Rattle.snippet_splice.proofs.Common.{without_final_line_feeds, HasNoCr, shown_line, texts_of, AreFrom, All-put_in, rules}
 use Rattle.snippet_splice.proofs.RangeLemmas.{front-lines}
-use Rattle.snippet_splice.proofs.SpliceLemmas.{Stops, IsShownPart, line_with_byte-other, last_byte-append}
+use Rattle.snippet_splice.proofs.SpliceLemmas.{Stops, IsShownPart, last_byte-append}
 
 -- ---- the texts of lines without CR
 
@@ -22,8 +21,7 @@ texts [] = []
 texts (b ∷ bs) = cond (is_lf b) ([] ∷ texts bs) (in_first b (texts bs))
 
 first-texts : (b : ℕ) (ls : List Line) → b ≢ 13 → texts_of (with_first_byte b ls) ≡ in_first b (texts_of ls)
-first-texts b [] other = refl
-first-texts b (l ∷ ls) other = ap (λ t. t ∷ texts_of ls) (line_with_byte-other b l.0 l.1 other)
+first-texts x y z = search rules
 
 texts-lines_of : (xs : List ℕ) → HasNoCr xs → texts_of (lines_of xs) ≡ texts xs
 texts-lines_of [] none = refl
@@ -36,32 +34,16 @@ texts-lines_of (b ∷ bs) none =
     (cases_Bool (eqb b 10))
 
 in_first-append : (b : ℕ) (xs ys : List (List ℕ)) → xs ≢ [] → in_first b (xs ++ ys) ≡ in_first b xs ++ ys
-in_first-append b [] ys some = absurd (some refl)
-in_first-append b (x ∷ xs) ys some = refl
+in_first-append x y z u = search rules
 
 texts-some : (b : ℕ) (bs : List ℕ) → texts (b ∷ bs) ≢ []
-texts-some b bs = λ e. ⊎_elim
-    (λ t. let same : [] ∷ texts bs ≡ [] = sym (cond-true (is_lf b) ([] ∷ texts bs) (in_first b (texts bs)) t) ∙ e in absurd (cc))
-    (λ f. made b (texts bs) (sym (cond-false (is_lf b) ([] ∷ texts bs) (in_first b (texts bs)) f) ∙ e)) (cases_Bool (is_lf b))
-  where
-    made : (b : ℕ) (ts : List (List ℕ)) → in_first b ts ≡ [] → ⊥
-    made b [] e = cc
-    made b (t ∷ ts) e = cc
+texts-some b bs = search rules
 
 -- a text that no LF ends is some whole lines where an LF follows
 texts-stop : (b : ℕ) (w y : List ℕ) → last_byte (b ∷ w) ≢ 10 → texts ((b ∷ w) ++ 10 ∷ y) ≡ texts (b ∷ w) ++ texts y
-texts-stop b [] y unclosed =
-    let other : is_lf b ≡ false = ne_eqb b 10 unclosed in
-    cond-false (is_lf b) ([] ∷ ([] ∷ texts y)) (in_first b ([] ∷ texts y)) other
-    ∙ ap (λ ts. ts ++ texts y) (sym (cond-false (is_lf b) ([] ∷ []) (in_first b []) other))
+texts-stop b [] y unclosed = search rules
 texts-stop b (c ∷ w) y unclosed =
-    let more : texts ((c ∷ w) ++ 10 ∷ y) ≡ texts (c ∷ w) ++ texts y = texts-stop c w y (λ e. unclosed (last_byte-cons b c w ∙ e)) in
-    let joint : List (List ℕ) = texts (c ∷ w) ++ texts y in
-    ap (λ ts. cond (is_lf b) ([] ∷ ts) (in_first b ts)) more ∙ ⊎_elim
-    (λ t. cond-true (is_lf b) ([] ∷ joint) (in_first b joint) t ∙ ap (λ ts.
-    ts ++ texts y) (sym (cond-true (is_lf b) ([] ∷ texts (c ∷ w)) (in_first b (texts (c ∷ w))) t)))
-    (λ f. cond-false (is_lf b) ([] ∷ joint) (in_first b joint) f ∙ in_first-append b (texts (c ∷ w)) (texts y) (texts-some c w)
-    ∙ ap (λ ts. ts ++ texts y) (sym (cond-false (is_lf b) ([] ∷ texts (c ∷ w)) (in_first b (texts (c ∷ w))) f))) (cases_Bool (is_lf b))
+    grind (arith, last_byte-cons, cond-true, cond-false, in_first-append, texts-some, texts-stop c w y (λ e. unclosed (last_byte-cons b c w ∙ e)))
 
 -- ---- a text without the LF that end it
 
@@ -86,13 +68,7 @@ Shortens-cons b bs [] h =
     }))
     (λ f. subst (Shortens (b ∷ bs)) (sym (cond-false (is_lf b) [] (b ∷ []) f))
     (record { tail = h.tail; whole = ap (λ l. b ∷ l) h.whole; stops = h.stops; feeds = h.feeds; unclosed = inr (eqb-false b 10 f) })) (cases_Bool (is_lf b))
-Shortens-cons b bs (c ∷ cs) h = record {
-  tail = h.tail;
-  whole = ap (λ l. b ∷ l) h.whole;
-  stops = h.stops;
-  feeds = h.feeds;
-  unclosed = inr (⊎_elim (λ e. absurd (cc)) (λ other e. other (sym (last_byte-cons b c cs) ∙ e)) h.unclosed);
-}
+Shortens-cons b bs (c ∷ cs) h = search rules
 
 -- a text without its final line feeds is a shorter one
 pub Shortens-final : (xs : List ℕ) → Shortens xs (without_final_line_feeds xs)
@@ -120,14 +96,12 @@ texts-front (b ∷ w) z stops unclosed =
 -- ---- the front of a source before one of its lines
 
 take-none : {X : Type 0} (k : ℕ) → take {A = X} k [] ≡ []
-take-none zero = refl
-take-none (suc k) = refl
+take-none x = search rules
 
 AreLines-take : (ls : List Line) (k : ℕ) → AreLines ls → AreLines (take k ls)
 AreLines-take ls zero are = tt
 AreLines-take [] (suc k) are = tt
-AreLines-take (l ∷ ls) (suc k) are =
-    (are.0, λ eof. ((are.1 eof).0, ap (take k) (are.1 eof).1 ∙ take-none k), AreLines-take ls k are.2)
+AreLines-take (l ∷ ls) (suc k) are = grind (arith, take-none, AreLines-take ls k are.2)
 
 closed-joined : (ls : List Line) (k : ℕ) → AreLines ls → k < length ls → 0 < length (joined (take k ls)) → last_byte (joined (take k ls)) ≡ 10
 closed-joined ls zero are within some = absurd (omega arith)
@@ -200,25 +174,15 @@ All-in_order (e ∷ es) all =
 -- ---- the lines that are shown
 
 AreFrom-append : (before some more : List (List ℕ)) (k : ℕ) → length before ≡ k → AreFrom k some (before ++ (some ++ more))
-AreFrom-append before some more k size = record {
-  within = omega (arith, length-append before (some ++ more), length-append some more, size);
-  are = sym (ap (take (length some)) (drop_at before (some ++ more) k size) ∙ take_at some more (length some) refl);
-}
+AreFrom-append before some more k size = grind (arith, length-append, drop_at, take_at)
 
 -- such lines, one by one
 pub AreFrom-at : (some all : List (List ℕ)) (k i : ℕ) (d : List ℕ) → AreFrom k some all → i < length some
     → (k + i < length all) × (get_or some i d ≡ get_or all (k + i) d)
-AreFrom-at some all k i d h low = (
-  omega (arith, h.within, low),
-  ap (λ ts. get_or ts i d) h.are ∙ get_or-take (length some) (drop k all) i d low ∙ get_or-drop k all i d,
-)
+AreFrom-at some all k i d h low = grind (arith, get_or-take, get_or-drop)
 
 AreFrom-source : (d : List ℕ) (k : ℕ) (some : List (List ℕ)) → AreFrom k some (texts_of (lines_of d)) → AreFrom k some (texts_of (source_lines d))
-AreFrom-source [] k [] h =
-    let e : k ≡ 0 = omega (arith, h.within) in
-    subst (λ n. AreFrom n [] (texts_of (source_lines []))) (sym e) (record { within = omega arith; are = refl })
-AreFrom-source [] k (s ∷ ss) h = absurd (omega (arith, h.within))
-AreFrom-source (b ∷ bs) k some h = h
+AreFrom-source x y z u = search rules
 
 -- the lines of the shown part are those of the patched source, from the first that is shown on
 pub AreFrom-shown : (fold : Bool) (source : List ℕ) (es : List Edit) → HasNoCr source → All (λ e. HasNoCr e.text) es → (h : IsShownPart fold source es)

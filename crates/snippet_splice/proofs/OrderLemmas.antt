@@ -1,6 +1,5 @@
 -- The order of pairs of numbers: by the first and then by the second.
-use Rattle.snippet_splice.proofs.Common.{◌≡◌, ℕ, Bool, true, false, ◌&&◌, ◌||◌, eqb, ltb, arith, nat_tests, IsStrictWeakOrder, is_lt, nat_cmp}
-use Rattle.snippet_splice.proofs.Common.{ordering_then}
+use Rattle.snippet_splice.proofs.Common.{◌≡◌, ℕ, Bool, ◌&&◌, ◌||◌, eqb, ltb, arith, nat_tests, IsStrictWeakOrder, is_lt, nat_cmp, ordering_then, rules}
 
 -- whether a pair of numbers comes before another: by the first, and then by the second
 abbrev pub pair_lt : ℕ → ℕ → ℕ → ℕ → Bool
@@ -12,13 +11,4 @@ pair-tells a b c d = grind (arith, nat_tests)
 
 -- pairs by their first and then their second number are ordered
 pub pair-order : {X : Type 0} (f g : X → ℕ) → IsStrictWeakOrder (λ x y. pair_lt (f x) (g x) (f y) (g y))
-pair-order f g = record {
-  one_way = λ x y h. one_way (f x) (g x) (f y) (g y) h;
-  chain = λ x y z h k. chain (f x) (g x) (f y) (g y) (f z) (g z) h k;
-}
-  where
-    one_way : (a b c d : ℕ) → pair_lt a b c d ≡ true → pair_lt c d a b ≡ false
-    one_way a b c d h = grind (arith, nat_tests)
-
-    chain : (a b c d e f : ℕ) → pair_lt a b c d ≡ false → pair_lt c d e f ≡ false → pair_lt a b e f ≡ false
-    chain a b c d e f h k = grind (arith, nat_tests)
+pair-order f g = search rules

@@ -1,10 +1,9 @@
 -- Laws of edits that overlap.
-use Rattle.snippet_splice.proofs.Common.{◌≡◌, ℕ, zero, suc, ◌+◌, ◌-◌, ◌<◌, ◌≤◌, true, false, cond, ◌&&◌, ◌||◌, eqb, ltb, Bool}
-use Rattle.snippet_splice.proofs.Common.{Option, Some, None, List, [], ◌∷◌, length, map, get_or, All, IfSome, IfNone, sym, ap, subst, ◌∙◌, ⊎_elim}
-use Rattle.snippet_splice.proofs.Common.{arith, refl, position_from, option_map, option_or, get_or-map, length-map, All-from_get_or, All-cons, All-head}
-use Rattle.snippet_splice.proofs.Common.{All-tail, All-map, cases_Bool, cond-true, cond-false, ltb-false, false_from_ne_true, nat_tests, Patch, IsSpan, Edit}
-use Rattle.snippet_splice.proofs.Common.{edit_of, precedes, in_order, put_in, overlap, first_overlap_from, first_overlap, overlap_at, no_edit, AreDisjoint}
-use Rattle.snippet_splice.proofs.Common.{AreOverlapping, IsFirstOverlap, AreApart}
+use Rattle.snippet_splice.proofs.Common.{◌≡◌, ℕ, zero, suc, ◌+◌, ◌-◌, ◌<◌, ◌≤◌, true, false, ltb, Bool, Option, Some, None, List, [], ◌∷◌, length, map}
+use Rattle.snippet_splice.proofs.Common.{get_or, All, IfSome, IfNone, sym, ap, subst, ◌∙◌, ⊎_elim, arith, refl, position_from, option_map, option_or}
+use Rattle.snippet_splice.proofs.Common.{get_or-map, length-map, All-from_get_or, All-cons, All-head, All-tail, All-map, cases_Bool, cond-true, cond-false}
+use Rattle.snippet_splice.proofs.Common.{ltb-false, false_from_ne_true, Patch, IsSpan, Edit, edit_of, precedes, in_order, put_in, overlap, first_overlap_from}
+use Rattle.snippet_splice.proofs.Common.{first_overlap, overlap_at, no_edit, AreDisjoint, AreOverlapping, IsFirstOverlap, AreApart, rules}
 
 -- the edit at a place is that of the patch there
 pub get_or-edit_of : (ps : List Patch) (k : ℕ) (p : Patch) → k < length ps → p ≡ get_or ps k p → get_or (map edit_of ps) k no_edit ≡ edit_of p
@@ -13,8 +12,7 @@ get_or-edit_of ps k p within is = get_or-map edit_of ps k p no_edit within ∙ a
 -- two patches overlap where their edits do
 pub overlap-seen : (ps : List Patch) (m n : ℕ) (p q : Patch) → m < length ps → n < length ps → p ≡ get_or ps m p → q ≡ get_or ps n q
     → overlap_at (map edit_of ps) m n ≡ overlap (edit_of p) (edit_of q)
-overlap-seen ps m n p q low high first second =
-    ap (λ d. overlap d (get_or (map edit_of ps) n no_edit)) (get_or-edit_of ps m p low first) ∙ ap (overlap (edit_of p)) (get_or-edit_of ps n q high second)
+overlap-seen ps m n p q low high first second = grind (arith, get_or-edit_of)
 
 -- the edits of spans that are taken start before they end
 pub ordered-spans : (source : List ℕ) (ps : List Patch) → All (λ p. IsSpan source p.span.start p.span.end) ps → All (λ e. e.start ≤ e.end) (map edit_of ps)
@@ -24,17 +22,12 @@ ordered-spans source ps spans =
 -- ---- edits given in order, one after the other
 
 overlap-after : (d e : Edit) → d.start ≤ d.end → e.start ≤ e.end → d.end ≤ e.start → overlap d e ≡ false
-overlap-after d e a b h = numbers d.start d.end e.start e.end a b h
-  where
-    numbers : (p q r s : ℕ) → p ≤ q → r ≤ s → q ≤ r → cond (ltb r p || (eqb r p && ltb s q)) (ltb p s) (ltb r q) ≡ false
-    numbers p q r s a b h = grind (arith, nat_tests)
+overlap-after d e a b h = search rules
 
 far : (es : List Edit) → ((k : ℕ) → k + 1 < length es → (get_or es k no_edit).end ≤ (get_or es (k + 1) no_edit).start)
     → ((k : ℕ) → k < length es → (get_or es k no_edit).start ≤ (get_or es k no_edit).end) → (m d : ℕ) → m + d + 1 < length es
     → (get_or es m no_edit).end ≤ (get_or es (m + d + 1) no_edit).start
-far es steps ordered m zero within =
-    let e : m + 0 + 1 ≡ m + 1 = omega arith in
-    subst (λ n. (get_or es m no_edit).end ≤ (get_or es n no_edit).start) (sym e) (steps m (omega arith))
+far es steps ordered m zero within = search rules
 far es steps ordered m (suc d) within =
     let e : m + d + 1 + 1 ≡ m + suc d + 1 = omega arith in
     subst (λ n. (get_or es m no_edit).end ≤ (get_or es n no_edit).start) e
@@ -103,9 +96,7 @@ same_pair a b c d first second = cc
 position-found : (test : Edit → Bool) (i : ℕ) (es : List Edit) (k : ℕ) → k < length es → test (get_or es k no_edit) ≡ true
     → ((j : ℕ) → j < k → test (get_or es j no_edit) ≡ false) → position_from test i es ≡ Some (i + k)
 position-found test i [] k within passes before = absurd (omega arith)
-position-found test i (e ∷ es) zero within passes before =
-    let same : i ≡ i + 0 = omega arith in
-    cond-true (test e) (Some i) (position_from test (i + 1) es) passes ∙ ap (λ n. Some n) same
+position-found test i (e ∷ es) zero within passes before = search rules
 position-found test i (e ∷ es) (suc k) within passes before =
     let same : i + 1 + k ≡ i + suc k = omega arith in
     cond-false (test e) (Some i) (position_from test (i + 1) es) (before 0 (omega arith))
@@ -118,11 +109,7 @@ position-none test i (e ∷ es) none =
 
 -- overlapping edits, with one more in front
 overlapping-more : (e : Edit) (es : List Edit) (m n : ℕ) → AreOverlapping es m n → AreOverlapping (e ∷ es) (suc m) (suc n)
-overlapping-more e es m n o = record {
-  before = omega (arith, o.before);
-  within = omega (arith, o.within);
-  overlapping = o.overlapping;
-}
+overlapping-more e es m n o = search rules
 
 first_overlap-tail : (e : Edit) (es : List Edit) (m n : ℕ) → IsFirstOverlap (e ∷ es) (suc m) (suc n) → IsFirstOverlap es m n
 first_overlap-tail e es m n first = record {

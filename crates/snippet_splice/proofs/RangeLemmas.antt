@@ -1,11 +1,11 @@
 -- On which lines of the patched source the texts of edits stand.
-use Rattle.snippet_splice.proofs.Common.{◌≡◌, ◌≢◌, ℕ, zero, suc, ◌+◌, ◌-◌, ◌<◌, Bool, true, false, cond, List, [], ◌∷◌}
-use Rattle.snippet_splice.proofs.Common.{◌++◌, All, length, map, take, drop, count_by, refl, sym, ap, ◌∙◌, ⊎_elim, arith, append_assoc}
-use Rattle.snippet_splice.proofs.Common.{length-append, take_at, take-append-drop, sum_by-append, sum_by-cons, flat_map-append, All-head, All-tail, cond-false}
-use Rattle.snippet_splice.proofs.Common.{ne_eqb, slice_range, EndLine, Eof, Lf, Crlf, Line, line_bytes, end_bytes, joined, source_lines, start_of, is_lf}
-use Rattle.snippet_splice.proofs.Common.{IsLine, AreLines, line_of, AreLinesOf-source_lines, joined-source_lines, line_of-within, Edit, in_order, trimmed_edits}
-use Rattle.snippet_splice.proofs.Common.{edited_from, patched, copied, written_ranges, first_start, shown_start, stands_from, stands, HasNoCr, IsBeforeFinalLf}
-use Rattle.snippet_splice.proofs.Common.{shown_line, lines_of_stand, line_ranges, ranges_from, AreApart}
+use Rattle.snippet_splice.proofs.Common.{◌≡◌, ◌≢◌, ℕ, zero, suc, ◌+◌, ◌-◌, ◌<◌, Bool, true, false, cond, List, [], ◌∷◌, ◌++◌, All, length, map, take, drop}
+use Rattle.snippet_splice.proofs.Common.{count_by, refl, sym, ap, ◌∙◌, ⊎_elim, arith, append_assoc, length-append, take_at, take-append-drop, sum_by-append}
+use Rattle.snippet_splice.proofs.Common.{sum_by-cons, flat_map-append, All-head, All-tail, cond-false, ne_eqb, slice_range, Eof, Line, line_bytes, joined}
+use Rattle.snippet_splice.proofs.Common.{source_lines, start_of, is_lf, IsLine, AreLines, line_of, AreLinesOf-source_lines, joined-source_lines}
+use Rattle.snippet_splice.proofs.Common.{line_of-within, Edit, in_order, trimmed_edits, edited_from, patched, copied, written_ranges, first_start}
+use Rattle.snippet_splice.proofs.Common.{shown_start, stands_from, stands, HasNoCr, IsBeforeFinalLf, shown_line, lines_of_stand, line_ranges, ranges_from}
+use Rattle.snippet_splice.proofs.Common.{AreApart}
 use Rattle.snippet_splice.proofs.EditLemmas.{edited_from-earlier, edited_from-trimmed}
 use Rattle.snippet_splice.proofs.ShownLemmas.{shown-apart}
 use Rattle.snippet_splice.proofs.SpliceLemmas.{AreBeforeFinalLf, copied-same, stands_from-earlier, front-size}
@@ -21,22 +21,12 @@ feeds-append xs ys = sum_by-append (λ b. cond (is_lf b) 1 0) xs ys
 -- a text without line feeds counts none
 pub feeds-none : (xs : List ℕ) → All (λ b. b ≢ 10) xs → feeds xs ≡ 0
 feeds-none [] none = refl
-feeds-none (x ∷ xs) none =
-    let one : ℕ → ℕ = λ b. cond (is_lf b) 1 0 in
-    let here : one x ≡ 0 = cond-false (is_lf x) 1 0 (ne_eqb x 10 (All-head (λ b. b ≢ 10) x xs none)) in
-    let rest : feeds xs ≡ 0 = feeds-none xs (All-tail (λ b. b ≢ 10) x xs none) in
-    sum_by-cons one x xs ∙ omega (arith, here, rest)
+feeds-none (x ∷ xs) none = grind (arith, cond-false, ne_eqb, All-head, All-tail, sum_by-cons, feeds-none xs (All-tail (λ b. b ≢ 10) x xs none))
 
 -- ---- the LF before a line of a source are as many as the lines before it
 
 feeds-line : (l : Line) → IsLine l → l.1 ≢ Eof → feeds (line_bytes l) ≡ 1
-feeds-line l is ended =
-    feeds-append l.0 (end_bytes l.1) ∙ omega (arith, feeds-none l.0 is.no_lf, one l.1 ended)
-  where
-    one : (ending : EndLine) → ending ≢ Eof → feeds (end_bytes ending) ≡ 1
-    one Eof ended = absurd (ended refl)
-    one Lf ended = refl
-    one Crlf ended = refl
+feeds-line l is ended = grind (arith, feeds-append, feeds-none)
 
 feeds-lines : (ls : List Line) (k : ℕ) → AreLines ls → k < length ls → feeds (joined (take k ls)) ≡ k
 feeds-lines ls zero are within = refl

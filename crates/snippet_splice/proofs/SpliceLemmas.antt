@@ -1,42 +1,23 @@
 -- Where no CR is copied and no edit stands after a final LF, the text that is shown is the spliced text.
-use Rattle.snippet_splice.proofs.Common.{◌≡◌, ◌≢◌, ℕ, suc, ◌+◌, ◌-◌, ◌<◌, ◌≤◌, ◌⊎◌, inl, inr, Bool, true, false, not}
-use Rattle.snippet_splice.proofs.Common.{◌&&◌, eqb, ltb, min, List, [], ◌∷◌, ◌++◌, All, length, take, drop, get_or, refl, sym, ap, subst}
-use Rattle.snippet_splice.proofs.Common.{◌∙◌, ⊎_elim, arith, append_assoc, append-nil, length-append, length-take, length-take-le, length-drop, drop_at}
-use Rattle.snippet_splice.proofs.Common.{take_all, take_min, drop_min, get_or_past, take-append-drop, take-append-add, All-take, All-drop, All-head, All-tail}
-use Rattle.snippet_splice.proofs.Common.{cases_Bool, cases_lt, cond-true, cond-false, cond_both, and_right, ne_eqb, eqb-true, slice_range, before_first}
-use Rattle.snippet_splice.proofs.Common.{position_or_len, EndLine, Eof, Lf, Crlf, Line, lines_of, line_with_byte, with_first_byte, source_lines, start_of}
-use Rattle.snippet_splice.proofs.Common.{text_at, last_byte, is_lf, line_of, line_of-within, text_at-end, Edit, in_order, trimmed_edits, edited_from, patched}
-use Rattle.snippet_splice.proofs.Common.{in_text, with_line_feeds, copied, written_from, end_from, first_start, closes_line, shown_start}
-use Rattle.snippet_splice.proofs.Common.{without_final_line_feeds, shown_text, stands_from, stands, HasNoCr, IsBeforeFinalLf, last_end, spliced_end}
-use Rattle.snippet_splice.proofs.Common.{spliced_text, AreApart}
-use Rattle.snippet_splice.proofs.LineEnds.{is_inside_line_end}
+use Rattle.snippet_splice.proofs.Common.{◌≡◌, ◌≢◌, ℕ, ◌+◌, ◌-◌, ◌<◌, ◌≤◌, ◌⊎◌, inl, inr, Bool, true, false, eqb, min, List, [], ◌∷◌, ◌++◌, All, length, take}
+use Rattle.snippet_splice.proofs.Common.{drop, refl, sym, ap, ◌∙◌, ⊎_elim, arith, append_assoc, append-nil, length-append, length-take, length-take-le}
+use Rattle.snippet_splice.proofs.Common.{length-drop, drop_at, take_all, take_min, drop_min, take-append-drop, take-append-add, All-take, All-drop, All-head}
+use Rattle.snippet_splice.proofs.Common.{All-tail, cases_Bool, cond-true, cond-false, cond_both, eqb-true, slice_range, before_first, position_or_len, Lf}
+use Rattle.snippet_splice.proofs.Common.{Line, lines_of, with_first_byte, source_lines, text_at, last_byte, is_lf, line_of-within, text_at-end, Edit}
+use Rattle.snippet_splice.proofs.Common.{in_order, trimmed_edits, edited_from, patched, in_text, with_line_feeds, copied, written_from, end_from, first_start}
+use Rattle.snippet_splice.proofs.Common.{closes_line, shown_start, without_final_line_feeds, shown_text, stands_from, stands, HasNoCr, IsBeforeFinalLf}
+use Rattle.snippet_splice.proofs.Common.{last_end, spliced_end, spliced_text, AreApart, rules}
 use Rattle.snippet_splice.proofs.EditLemmas.{slice_split, edited_from-earlier, edited_from-trimmed}
-use Rattle.snippet_splice.proofs.WriteLemmas.{text_end, with_line_feeds-none, last_text, closes-last}
+use Rattle.snippet_splice.proofs.WriteLemmas.{with_line_feeds-none, last_text, closes-last}
 use Rattle.snippet_splice.proofs.ShownLemmas.{shown-apart}
 
 -- ---- without CR, bytes are copied as they are
 
-no-cr-at : (source : List ℕ) (i : ℕ) → HasNoCr source → get_or source i 0 ≢ 13
-no-cr-at source i none =
-    ⊎_elim (λ within. none i 0 within) (λ past e. absurd (omega (arith, get_or_past source i 0 past))) (cases_lt i (length source))
-
 in_text-same : (source : List ℕ) (b : ℕ) → HasNoCr source → IsBeforeFinalLf source b → in_text source b ≡ min b (length source)
-in_text-same source b none before =
-    let at : ℕ = min b (text_end source) in
-    let outside : is_inside_line_end source at ≡ false = and_right (ltb 0 at && ltb at (length source) && eqb (get_or source at 0) 10)
-    (eqb (get_or source (at - 1) 0) 13) (ne_eqb (get_or source (at - 1) 0) 13 (no-cr-at source (at - 1) none)) in
-    cond-false (is_inside_line_end source at) (at - 1) at outside ∙ ⊎_elim
-    (λ t. let e : text_end source ≡ length source - 1 = cond-true (eqb (last_byte source) 10) (length source - 1) (length source) t in
-    let short : b < length source = before (eqb-true (last_byte source) 10 t) in omega (arith, e))
-    (λ f. ap (min b) (cond-false (eqb (last_byte source) 10) (length source - 1) (length source) f)) (cases_Bool (eqb (last_byte source) 10))
+in_text-same source b none before = search rules
 
 slice-min : (s : List ℕ) (a b : ℕ) → a ≤ b → slice_range s (min a (length s)) (min b (length s)) ≡ slice_range s a b
-slice-min s a b low =
-    let n : ℕ = length s in
-    ap (take (min b n - min a n)) (drop_min a s) ∙ ⊎_elim
-    (λ inside. let e : min b n - min a n ≡ b - a = omega arith in ap (λ k. take k (drop a s)) e)
-    (λ past. take_all (min b n - min a n) (drop a s) (omega (arith, length-drop a s)) ∙ sym (take_all (b - a) (drop a s) (omega (arith, length-drop a s))))
-    (cases_lt b n)
+slice-min s a b low = grind (arith, drop_min, take_all, length-drop)
 
 -- a stretch without carriage returns is copied as it is
 pub copied-same : (source : List ℕ) (a b : ℕ) → HasNoCr source → a ≤ b → IsBeforeFinalLf source b → copied source a b ≡ slice_range source a b
@@ -96,28 +77,13 @@ stands_from-earlier source a b now t ts low high =
 -- ---- the first line of a text
 
 prefix-first : (b : ℕ) (bs : List ℕ) → is_lf b ≡ false → before_first is_lf (b ∷ bs) ≡ b ∷ before_first is_lf bs
-prefix-first b bs no_lf = ap (λ n. take n (b ∷ bs)) (step b bs no_lf)
-  where
-    step : (b : ℕ) (bs : List ℕ) → is_lf b ≡ false → position_or_len is_lf (b ∷ bs) ≡ suc (position_or_len is_lf bs)
-    step b bs no_lf = cond-true (not (is_lf b)) (1 + position_or_len is_lf bs) 0 (ap not no_lf) ∙ omega arith
+prefix-first b bs no_lf = search rules
 
 prefix-none : (b : ℕ) (bs : List ℕ) → is_lf b ≡ true → before_first is_lf (b ∷ bs) ≡ []
-prefix-none b bs lf =
-    ap (λ n. take n (b ∷ bs)) (cond-false (not (is_lf b)) (1 + position_or_len is_lf bs) 0 (ap not lf))
-
--- a byte that is no carriage return stands in front of its line's text
-pub line_with_byte-other : (b : ℕ) (text : List ℕ) (ending : EndLine) → b ≢ 13 → (line_with_byte b text ending).0 ≡ b ∷ text
-line_with_byte-other b [] Eof other = refl
-line_with_byte-other b [] Lf other =
-    ap (λ (l : Line). l.0) (cond-false {A = Line} (eqb b 13) ([], Crlf) (b ∷ [], Lf) (ne_eqb b 13 other))
-line_with_byte-other b [] Crlf other = refl
-line_with_byte-other b (c ∷ text) Eof other = refl
-line_with_byte-other b (c ∷ text) Lf other = refl
-line_with_byte-other b (c ∷ text) Crlf other = refl
+prefix-none b bs lf = search rules
 
 first_text : (b : ℕ) (ls : List Line) → b ≢ 13 → text_at (with_first_byte b ls) 0 ≡ b ∷ text_at ls 0
-first_text b [] other = refl
-first_text b (l ∷ ls) other = line_with_byte-other b l.0 l.1 other
+first_text x y z = search rules
 
 text_at-first-of : (xs : List ℕ) → HasNoCr xs → text_at (lines_of xs) 0 ≡ before_first is_lf xs
 text_at-first-of [] none = refl
@@ -154,9 +120,7 @@ pub record IsShownPart (fold : Bool) (source : List ℕ) (es : List Edit) : Type
   pub spliced : spliced_text fold source es ≡ without_final_line_feeds part
 
 start-within : (fold : Bool) (source : List ℕ) (first : ℕ) → shown_start fold source first ≤ length source
-start-within fold source first =
-    cond_both fold (start_of (source_lines source) (line_of (source_lines source) first)) 0 (λ n. n ≤ length source) (λ _.
-    omega (arith, text_at-end source (line_of (source_lines source) first) (line_of-within source first))) (λ _. omega arith)
+start-within fold source first = grind (arith, cond_both, text_at-end, line_of-within)
 
 pub shown-whole : (fold : Bool) (source : List ℕ) (es : List Edit) → HasNoCr source → AreBeforeFinalLf source (trimmed_edits source es)
     → AreApart 0 (in_order es) → let s = shown_start fold source (first_start (in_order es)) in let ts = trimmed_edits source es in
@@ -170,10 +134,7 @@ shown-whole fold source es none before apart =
 
 -- what stands before the shown part is as long as where that starts
 pub front-size : (fold : Bool) (source : List ℕ) (first : ℕ) → length (slice_range source 0 (shown_start fold source first)) ≡ shown_start fold source first
-front-size fold source first =
-    let s : ℕ = shown_start fold source first in
-    let e : s - 0 ≡ s = omega arith in
-    ap (λ n. length (take n source)) e ∙ length-take-le s source (start-within fold source first)
+front-size fold source first = grind (arith, length-take-le, start-within)
 
 -- ---- how the last text ends
 
@@ -181,9 +142,7 @@ front-size fold source first =
 pub last_byte-append : (xs ys : List ℕ) → last_byte ys ≡ 10 → last_byte (xs ++ ys) ≡ 10
 last_byte-append xs [] e = absurd (cc)
 last_byte-append [] (y ∷ ys) e = e
-last_byte-append (x ∷ xs) (y ∷ ys) e =
-    let n : length ((x ∷ xs) ++ (y ∷ ys)) - 1 ≡ suc (length (xs ++ (y ∷ ys)) - 1) = omega (arith, length-append xs (y ∷ ys)) in
-    ap (λ k. get_or ((x ∷ xs) ++ (y ∷ ys)) k 0) n ∙ last_byte-append xs (y ∷ ys) e
+last_byte-append (x ∷ xs) (y ∷ ys) e = grind (arith, length-append, last_byte-append xs (y ∷ ys) e)
 
 some_bytes : (xs : List ℕ) → last_byte xs ≡ 10 → 0 < length xs
 some_bytes [] e = absurd (cc)
@@ -191,24 +150,16 @@ some_bytes (x ∷ xs) e = omega arith
 
 last-written : (source : List ℕ) (at : ℕ) (ts : List Edit) → last_byte (last_text ts) ≡ 10 → last_byte (written_from source at ts) ≡ 10
 last-written source at [] e = absurd (cc)
-last-written source at (t ∷ []) e =
-    last_byte-append (copied source at t.start) (t.text ++ []) (ap last_byte (append-nil t.text) ∙ e)
-last-written source at (t ∷ u ∷ ts) e =
-    last_byte-append (copied source at t.start) (t.text ++ written_from source t.end (u ∷ ts))
-    (last_byte-append t.text (written_from source t.end (u ∷ ts)) (last-written source t.end (u ∷ ts) e))
+last-written source at (t ∷ []) e = grind (arith, last_byte-append, append-nil)
+last-written source at (t ∷ u ∷ ts) e = grind (arith, last_byte-append, last-written source t.end (u ∷ ts) e)
 
 -- after the first line of a text stands its LF, or nothing
 first_stops : (xs : List ℕ) → Stops (drop (length (before_first is_lf xs)) xs)
 first_stops [] = inl refl
-first_stops (b ∷ bs) =
-    ⊎_elim (λ t. inr (bs, ap (λ (l : List ℕ). drop (length l) (b ∷ bs)) (prefix-none b bs t) ∙ ap (λ c. c ∷ bs) (eqb-true b 10 t)))
-    (λ f. subst Stops (sym (ap (λ (l : List ℕ). drop (length l) (b ∷ bs)) (prefix-first b bs f))) (first_stops bs)) (cases_Bool (is_lf b))
+first_stops (b ∷ bs) = grind (arith, prefix-none, eqb-true, prefix-first, first_stops bs)
 
 first-split : (xs : List ℕ) → xs ≡ before_first is_lf xs ++ drop (length (before_first is_lf xs)) xs
-first-split xs =
-    let n : ℕ = position_or_len is_lf xs in
-    let e : drop (length (take n xs)) xs ≡ drop n xs = ap (λ k. drop k xs) (length-take n xs) ∙ drop_min n xs in
-    sym (ap (λ l. take n xs ++ l) e ∙ take-append-drop n xs)
+first-split xs = grind (arith, length-take, drop_min, take-append-drop)
 
 -- ---- the parts
 

@@ -1,11 +1,10 @@
 -- Tables of stretches, the pieces of a text, and what stands in a line before a byte.
-use Rattle.snippet_splice.proofs.Common.{◌≡◌, ◌≢◌, ◌∙◌, ◌⊎◌, inl, inr, ℕ, zero, suc, ◌+◌, ◌-◌, ◌<◌, ◌==◌, cond, eqb}
-use Rattle.snippet_splice.proofs.Common.{List, [], ◌∷◌, ◌++◌, Vec, count_by, drop, length, map, take, ◌≤◌, set, get_or, lit<, refl, sym, ap}
-use Rattle.snippet_splice.proofs.Common.{arith, if◌then◌else◌, subst, onto_first, slice_split, IsUtf8, Global, eq-eqb, eqb-true, cond-true, cond-false}
-use Rattle.snippet_splice.proofs.Common.{false_from_ne_true, cases_Bool, cases_eq, nat_tests, append-nil, get_or_default, get_or-drop, get_or-map}
-use Rattle.snippet_splice.proofs.Common.{get_or-set_other, get_or-set_same, length-append, length-drop, length-map, map-set, places, same_lists, slice_split_at}
-use Rattle.snippet_splice.proofs.Common.{slice_split_none, sum_by-cons, chars-append, is_lf, last_byte, last_byte-not, length-chars_le, SubstitutionHighlight}
-use Rattle.snippet_splice.proofs.Common.{after_last_lf, capped, taken_on, without_cr, line_stretches}
+use Rattle.snippet_splice.proofs.Common.{◌≡◌, ◌≢◌, ◌∙◌, ◌⊎◌, inl, inr, ℕ, zero, suc, ◌+◌, ◌-◌, ◌<◌, ◌==◌, cond, eqb, List, [], ◌∷◌, ◌++◌, Vec, count_by, drop}
+use Rattle.snippet_splice.proofs.Common.{length, take, ◌≤◌, set, get_or, lit<, refl, sym, ap, arith, if◌then◌else◌, subst, onto_first, slice_split, IsUtf8}
+use Rattle.snippet_splice.proofs.Common.{Global, eq-eqb, eqb-true, cond-true, cond-false, false_from_ne_true, cases_Bool, cases_eq, nat_tests, append-nil}
+use Rattle.snippet_splice.proofs.Common.{get_or_default, get_or-drop, get_or-map, get_or-set_other, get_or-set_same, length-append, length-drop, length-map}
+use Rattle.snippet_splice.proofs.Common.{map-set, places, same_lists, slice_split_at, slice_split_none, sum_by-cons, chars-append, is_lf, last_byte-not}
+use Rattle.snippet_splice.proofs.Common.{length-chars_le, SubstitutionHighlight, after_last_lf, capped, taken_on, without_cr, line_stretches, rules}
 use Rattle.std.proofs.Common.{chars}
 use Rattle.snippet_splice.proofs.RangeLemmas.{feeds-append}
 use Rattle.snippet_splice.proofs.WriteLemmas.{utf8-after}
@@ -19,40 +18,28 @@ Row = Vec SubstitutionHighlight Global
 pub line_set : (lines : List Row) (i : ℕ) (was now : Row) (x : SubstitutionHighlight) (k : ℕ) → i < length lines → was ≡ get_or lines i was
     → now.items ≡ was.items ++ x ∷ [] → line_stretches (set lines i now) k ≡ line_stretches lines k ++ (if i == k then x ∷ [] else [])
 line_set lines i was now x k within is more =
-    let f : Row → List SubstitutionHighlight = λ row. row.items in
-    let inside : i < length (map f lines) = omega (arith, within, length-map lines f) in
-    let all : line_stretches (set lines i now) k ≡ get_or (set (map f lines) i (f now)) k [] = ap (λ ls. get_or ls k []) (map-set f lines i now) in
-    let before : get_or (map f lines) i [] ≡ f was = get_or-map f lines i was [] within ∙ ap f (sym is) in
-    elim (cases_eq i k) [
-      | inl same ↦
-          let here : get_or (set (map f lines) i (f now)) k [] ≡ f now = ap (λ n. get_or (set (map f lines) i (f now)) n []) (sym same)
-          ∙ get_or-set_same (map f lines) i (f now) [] inside in
-          all ∙ here ∙ more ∙ ap (λ ys. ys ++ x ∷ []) (sym before ∙ ap (λ n. get_or (map f lines) n []) same)
-          ∙ ap (λ ys. line_stretches lines k ++ ys) (sym (cond-true (eqb i k) (x ∷ []) [] (eq-eqb i k same)))
-      | inr other ↦
-          let there : get_or (set (map f lines) i (f now)) k [] ≡ line_stretches lines k = get_or-set_other (map f lines) i k (f now) [] (λ e. other (sym e)) in
-          all ∙ there ∙ sym (append-nil (line_stretches lines k)) ∙ ap (λ ys.
-          line_stretches lines k ++ ys) (sym (cond-false (eqb i k) (x ∷ []) [] (false_from_ne_true _ (λ t. other (eqb-true i k t)))))
-    ]
+    grind (
+      arith,
+      length-map,
+      map-set,
+      get_or-map,
+      get_or-set_same,
+      cond-true,
+      eq-eqb,
+      get_or-set_other,
+      append-nil,
+      cond-false,
+      false_from_ne_true,
+      eqb-true,
+    )
 
 -- a line more at the end has its own stretches, and each other has those that it had
 pub line_added : (lines : List Row) (row : Row) (k : ℕ)
     → line_stretches (lines ++ row ∷ []) k ≡ line_stretches lines k ++ (if length lines == k then row.items else [])
 line_added [] row zero = refl
-line_added [] row (suc k) = sym (cond-false (eqb 0 (suc k)) row.items [] (false_from_ne_true _ (λ t.
-    let e : 0 ≡ suc k = eqb-true 0 (suc k) t in absurd (omega (arith, e)))))
-line_added (l ∷ lines) row zero =
-    sym (append-nil l.items) ∙ ap (λ ys. l.items ++ ys) (sym (cond-false (eqb (suc (length lines)) 0) row.items [] (false_from_ne_true _ (λ t.
-    let e : suc (length lines) ≡ 0 = eqb-true (suc (length lines)) 0 t in absurd (omega (arith, e))))))
-line_added (l ∷ lines) row (suc k) =
-    line_added lines row k ∙ ap (λ t. line_stretches lines k ++ cond t row.items []) (both (length lines) k)
-  where
-    both : (a b : ℕ) → eqb a b ≡ eqb (suc a) (suc b)
-    both a b = elim (cases_eq a b) [
-      | inl same ↦ eq-eqb a b same ∙ sym (eq-eqb (suc a) (suc b) (ap suc same))
-      | inr other ↦ false_from_ne_true _ (λ t. other (eqb-true a b t)) ∙ sym (false_from_ne_true _ (λ t.
-          let e : suc a ≡ suc b = eqb-true (suc a) (suc b) t in other (omega (arith, e))))
-    ]
+line_added [] row (suc k) = search rules
+line_added (l ∷ lines) row zero = search rules
+line_added (l ∷ lines) row (suc k) = grind (arith, eq-eqb, false_from_ne_true, eqb-true, line_added lines row k)
 
 -- ---- pieces
 
@@ -88,17 +75,14 @@ feeds_cut text piece after is none =
 -- ---- what stands after the last LF
 
 zero_or : (n : ℕ) → (n ≡ 0) ⊎ (0 < n)
-zero_or zero = inl refl
-zero_or (suc n) = inr (omega arith)
+zero_or x = search rules
 
 after_none : (bs : List ℕ) → count_by is_lf bs ≡ 0 → after_last_lf bs ≡ bs
 after_none [] none = refl
 after_none (b ∷ bs) none = cond-true (eqb (count_by is_lf (b ∷ bs)) 0) (b ∷ bs) (after_last_lf bs) (eq-eqb _ 0 none)
 
 after_some : (b : ℕ) (bs : List ℕ) → 0 < count_by is_lf (b ∷ bs) → after_last_lf (b ∷ bs) ≡ after_last_lf bs
-after_some b bs some =
-    cond-false (eqb (count_by is_lf (b ∷ bs)) 0) (b ∷ bs) (after_last_lf bs)
-    (false_from_ne_true _ (λ t. let none : count_by is_lf (b ∷ bs) ≡ 0 = eqb-true _ 0 t in omega (arith, none, some)))
+after_some b bs some = search rules
 
 after_append : (front text : List ℕ) → count_by is_lf text ≡ 0 → after_last_lf (front ++ text) ≡ after_last_lf front ++ text
 after_append [] text none = after_none text none
@@ -235,20 +219,6 @@ taken_cut k line before start end piece after =
     let one : List SubstitutionHighlight = if line == k then record { start = start; end = capped (before + length (chars (without_cr piece))) } ∷ [] else [] in
     ap (λ ps. taken_on k line before start end (piece ∷ ps)) later.are ∙ ap (λ ps. one ++ taken_on k (capped (line + 1)) 0 0 end ps) (sym later.are)
 
--- a text without the CR that ends it
-pub without_cr-push : (text front : List ℕ) → text ≡ front ++ 13 ∷ [] → without_cr text ≡ front
-without_cr-push text front is = ap without_cr is ∙ pushed front
-  where
-    pushed : (front : List ℕ) → without_cr (front ++ 13 ∷ []) ≡ front
-    pushed front =
-        let whole : List ℕ = front ++ 13 ∷ [] in
-        let long : length whole ≡ length front + 1 = length-append front (13 ∷ []) in
-        let last : last_byte whole ≡ 13 = grind (arith, places) in
-        cond-true (eqb (last_byte whole) 13) (take (length whole - 1) whole) whole (eq-eqb _ 13 last)
-        ∙ same_lists _ _ (grind (arith, places)) (λ k d h. grind (arith, places))
-
 -- a text that doesn't end in a carriage return stays
 pub without_cr-stays : (text : List ℕ) → ((front : List ℕ) → text ≢ front ++ 13 ∷ []) → without_cr text ≡ text
-without_cr-stays text open_end =
-    cond-false (eqb (last_byte text) 13) (take (length text - 1) text) text
-    (false_from_ne_true _ (λ t. last_byte-not text 13 (lit< tt) open_end (eqb-true _ 13 t)))
+without_cr-stays text open_end = grind (arith, cond-false, false_from_ne_true, last_byte-not, lit<, eqb-true)

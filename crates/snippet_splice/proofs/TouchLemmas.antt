@@ -15,6 +15,7 @@ use Rattle.snippet_splice.proofs.RangeLemmas.{feeds, feeds-append, feeds-none, f
 use Rattle.snippet_splice.proofs.SpliceLemmas.{AreBeforeFinalLf, Stops, IsShownPart, last_end-stands, front-size, stands_from-earlier}
 use Rattle.snippet_splice.proofs.LineLemmas.{Shortens, Shortens-final, IsLinesFront, shown-front}
 use Rattle.snippet_splice.proofs.WriteLemmas.{last_text}
+use Rattle.snippet_splice.proofs.Common.{rules}
 
 feeds-take : (n : ℕ) (xs : List ℕ) → feeds (take n xs) ≤ feeds xs
 feeds-take n xs = sum_by-take-le (λ b. cond (is_lf b) 1 0) xs n
@@ -23,24 +24,12 @@ feeds-take n xs = sum_by-take-le (λ b. cond (is_lf b) 1 0) xs n
 
 line-empty : (d : List ℕ) (j : ℕ) → j < length (source_lines d) → (start_of (source_lines d) j < length d → get_or d (start_of (source_lines d) j) 0 ≡ 10)
     → text_at (source_lines d) j ≡ []
-line-empty d j within at =
-    let ls : List Line = source_lines d in
-    let t : List ℕ = text_at ls j in
-    let b : ℕ = start_of ls j in
-    let stands : t ≡ take (length t) (drop b d) = text_at-stands d j within in
-    ⊎_elim
-    (λ some. let inside : b < length d = omega (arith, text_at-end d j within) in
-    let first : get_or t 0 0 ≡ get_or d b 0 = ap (λ l. get_or l 0 0) stands ∙ get_or-take (length t) (drop b d) 0 0 some ∙ get_or-drop b d 0 0
-    ∙ (let e : b + 0 ≡ b = omega arith in ap (λ n. get_or d n 0) e) in
-    absurd ((IsLine-at d j within).no_lf 0 0 some (first ∙ at inside)))
-    (λ none. nil_from_length t (omega (arith, none))) (cases_lt 0 (length t))
+line-empty d j within at = grind (arith, text_at-stands, text_at-end, get_or-take, get_or-drop, IsLine-at, nil_from_length)
 
 -- ---- the LF before a place of a line are as many as the lines before it
 
 last_byte-drop : (b : ℕ) (d : List ℕ) → b < length d → last_byte (drop b d) ≡ last_byte d
-last_byte-drop b d inside =
-    let e : b + (length (drop b d) - 1) ≡ length d - 1 = omega (arith, length-drop b d) in
-    get_or-drop b d (length (drop b d) - 1) 0 ∙ ap (λ n. get_or d n 0) e
+last_byte-drop b d inside = grind (arith, length-drop, get_or-drop)
 
 no-feeds : (l : List ℕ) → IsLineWithEnd l → (0 < length l → last_byte l ≢ 10) → All (λ c. c ≢ 10) l
 no-feeds [] one last = All-nil (λ c. c ≢ 10)
@@ -81,8 +70,7 @@ in-line-feeds d j p h =
 
 last_end-le : (source : List ℕ) (at now : ℕ) (ts : List Edit) → now ≤ last_end now (stands_from source at now ts)
 last_end-le source at now [] = omega arith
-last_end-le source at now (t ∷ ts) =
-    omega (arith, last_end-le source t.end (now + length (slice_range source at t.start) + length t.text) ts)
+last_end-le source at now (t ∷ ts) = grind (arith, last_end-le source t.end (now + length (slice_range source at t.start) + length t.text) ts)
 
 last_end-lt : (source : List ℕ) (at now : ℕ) (ts : List Edit) → 0 < length (last_text ts) → now < last_end now (stands_from source at now ts)
 last_end-lt source at now [] some = absurd (omega arith)
@@ -114,10 +102,7 @@ EndsBefore high s = s.from ≡ s.to → s.to < high
 EndsBefore-stands_from : (source : List ℕ) (at now : ℕ) (ts : List Edit) → 0 < length (last_text ts)
     → All (EndsBefore (last_end now (stands_from source at now ts))) (stands_from source at now ts)
 EndsBefore-stands_from source at now [] some = absurd (omega arith)
-EndsBefore-stands_from source at now (t ∷ []) some =
-    let from : ℕ = now + length (slice_range source at t.start) in
-    All-cons (EndsBefore (from + length t.text)) (record { from = from; to = from + length t.text }) [] (λ e.
-    absurd (omega (arith, some, e))) (All-nil (EndsBefore (from + length t.text)))
+EndsBefore-stands_from source at now (t ∷ []) some = search rules
 EndsBefore-stands_from source at now (t ∷ u ∷ ts) some =
     let from : ℕ = now + length (slice_range source at t.start) in
     let to : ℕ = from + length t.text in

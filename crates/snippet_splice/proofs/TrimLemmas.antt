@@ -1,11 +1,11 @@
 -- Laws of what a replacement keeps.
-use Rattle.snippet_splice.proofs.Common.{◌≡◌, ◌≢◌, ℕ, zero, suc, ◌+◌, ◌-◌, ◌<◌, ◌≤◌, Bool, true, false, cond, ◌||◌, ltb}
-use Rattle.snippet_splice.proofs.Common.{leb, Option, Some, None, List, [], ◌∷◌, ◌++◌, length, take, drop, get_or, refl, sym, ap, subst, ◌∙◌}
-use Rattle.snippet_splice.proofs.Common.{⊎_elim, arith, append_assoc, le_refl, append-nil, length-append, length-take-le, length-drop, take_at, drop_at}
-use Rattle.snippet_splice.proofs.Common.{take_all, drop_all, take-append-drop, drop-drop, drop-append-le, get_or_past, cases_Bool, cases_eq, cases_lt, ltb-true}
-use Rattle.snippet_splice.proofs.Common.{lt-ltb, or_cases, or_left, or_right, cond-true, cond-false, and_parts, and_from, false_from_ne_true, le-leb, leb-true}
-use Rattle.snippet_splice.proofs.Common.{both_ways, bytes_eq-Decides, IsCharBoundary-end, IsCharBoundary-start, Decides, slice_range, option_map, IsUtf8}
-use Rattle.snippet_splice.proofs.Common.{IsCharBoundary, is_character_border, is_sandwiched, greatest_passing, kept_before, sandwich, IsSandwiched, IsSandwich}
+use Rattle.snippet_splice.proofs.Common.{◌≡◌, ◌≢◌, ℕ, zero, suc, ◌+◌, ◌-◌, ◌<◌, ◌≤◌, Bool, true, false, cond, Option, Some, None, List, [], ◌∷◌, ◌++◌, length}
+use Rattle.snippet_splice.proofs.Common.{take, drop, refl, sym, ap, subst, ◌∙◌, ⊎_elim, arith, append_assoc, le_refl, append-nil, length-append}
+use Rattle.snippet_splice.proofs.Common.{length-take-le, length-drop, take_at, drop_at, take_all, drop_all, take-append-drop, drop-drop, drop-append-le}
+use Rattle.snippet_splice.proofs.Common.{get_or_past, cases_Bool, cases_eq, ltb-true, lt-ltb, or_cases, or_left, or_right, cond-true, cond-false, and_parts}
+use Rattle.snippet_splice.proofs.Common.{and_from, false_from_ne_true, le-leb, leb-true, both_ways, bytes_eq-Decides, IsCharBoundary-end}
+use Rattle.snippet_splice.proofs.Common.{IsCharBoundary-start, Decides, slice_range, option_map, IsUtf8, IsCharBoundary, is_character_border, is_sandwiched}
+use Rattle.snippet_splice.proofs.Common.{greatest_passing, kept_before, sandwich, IsSandwiched, IsSandwich, rules}
 
 -- ---- what a sandwich says of the replacement
 
@@ -13,28 +13,16 @@ regroup : (xs ys zs : List ℕ) → xs ++ ys ++ zs ≡ xs ++ (ys ++ zs)
 regroup xs ys zs = append_assoc xs ys zs
 
 IsSandwiched-prefix : (o r : List ℕ) (m : List ℕ) (b : ℕ) → IsSandwiched o r (length o) m b → r ≡ o ++ m
-IsSandwiched-prefix o r m b h =
-    h.whole ∙ rw (take_all (length o) o (le_refl (length o)), drop_all (length o) o (le_refl (length o)), append-nil) refl
+IsSandwiched-prefix o r m b h = grind (arith, take_all, le_refl, drop_all, append-nil)
 
 ends-with : (o r : List ℕ) (m : List ℕ) (b : ℕ) → IsSandwiched o r 0 m b → r ≡ m ++ o
 ends-with o r m b h = h.whole
 
 lengths : (o r : List ℕ) (a : ℕ) (m : List ℕ) (b : ℕ) → IsSandwiched o r a m b → length r ≡ length m + length o
-lengths o r a m b h =
-    omega (
-      arith,
-      ap length h.whole,
-      length-append (take a o ++ m) (drop a o),
-      length-append
-          (take a o) m,
-      length-take-le a o h.border.0,
-      length-drop a o,
-      h.border.0,
-    )
+lengths o r a m b h = grind (arith, length-append, length-take-le, length-drop)
 
 same_front : (o r : List ℕ) (a : ℕ) (m : List ℕ) (b : ℕ) → IsSandwiched o r a m b → take a r ≡ take a o
-same_front o r a m b h =
-    ap (take a) (h.whole ∙ regroup (take a o) m (drop a o)) ∙ take_at (take a o) (m ++ drop a o) a (length-take-le a o h.border.0)
+same_front o r a m b h = grind (arith, regroup, take_at, length-take-le)
 
 middle_is : (o r : List ℕ) (a : ℕ) (m : List ℕ) (b : ℕ) → IsSandwiched o r a m b → m ≡ slice_range r a (length r - (length o - a))
 middle_is o r a m b h =
@@ -53,15 +41,7 @@ same_end o r a m b h =
 
 -- a replacement that begins with the original keeps all of it in front
 pub IsSandwich-begins : (o r rest : List ℕ) → r ≡ o ++ rest → IsSandwich o r (length o) rest 0
-IsSandwich-begins o r rest e =
-    let whole : o ++ rest ≡ take (length o) o ++ rest ++ drop (length o) o = rw
-    (take_all (length o) o (le_refl (length o)), drop_all (length o) o (le_refl (length o)), append-nil) refl in
-    record {
-      is = record { border = IsCharBoundary-end o; parts = omega arith; whole = e ∙ whole };
-      all_before = λ m _. refl;
-      all_after = λ below m _. absurd (omega arith);
-      longest = λ some a m b h. h.border.0;
-    }
+IsSandwich-begins o r rest e = grind (arith, take_all, le_refl, drop_all, append-nil, IsCharBoundary-end)
 
 -- a replacement that ends with the original, and doesn't begin with it, keeps all of it at the back
 pub IsSandwich-ends : (o r front : List ℕ) → IsUtf8 o → r ≡ front ++ o → ((rest : List ℕ) → r ≢ o ++ rest) → IsSandwich o r 0 front (length o)
@@ -126,24 +106,12 @@ sandwiched-longer o r few other a [] b s =
     let same : take a o ++ [] ++ drop a o ≡ o ++ [] = ap (λ l. l ++ drop a o) (append-nil (take a o))
     ∙ take-append-drop a o ∙ sym (append-nil o) in
     other [] (s.whole ∙ same)
-sandwiched-longer o r few other a (x ∷ m) b s =
-    let front : length (take a o) ≡ a = length-take-le a o (omega (arith, s.parts)) in
-    omega (arith, few, s.parts, ap length s.whole, length-append (take a o ++ x ∷ m) (drop a o), length-append (take a o) (x ∷ m), front, length-drop a o)
+sandwiched-longer o r few other a (x ∷ m) b s = grind (arith, length-take-le, length-append, length-drop)
 
 -- ---- the test
 
 border-test : (o : List ℕ) (a : ℕ) → Decides (is_character_border o a) (IsCharBoundary o a)
-border-test o a = (
-  λ t. let p = and_parts (leb a (length o)) (ltb (get_or o a 0) 128 || leb 192 (get_or o a 0)) t in (
-    leb-true a (length o) p.0,
-    λ inside high. ⊎_elim (λ low. absurd (omega (arith, ltb-true (get_or o a 0) 128 low))) (λ lead.
-        leb-true 192 (get_or o a 0) lead) (or_cases (ltb (get_or o a 0) 128) (leb 192 (get_or o a 0)) p.1),
-  ),
-  λ h. and_from (leb a (length o)) (ltb (get_or o a 0) 128 || leb 192 (get_or o a 0)) (le-leb a (length o) h.0)
-      (⊎_elim (λ low. or_left (ltb (get_or o a 0) 128) (leb 192 (get_or o a 0)) (lt-ltb (get_or o a 0) 128 low))
-      (λ high. ⊎_elim (λ inside. or_right (ltb (get_or o a 0) 128) (leb 192 (get_or o a 0)) (le-leb 192 (get_or o a 0) (h.1 inside high)))
-      (λ past. absurd (omega (arith, get_or_past o a 0 past))) (cases_lt a (length o))) (cases_lt (get_or o a 0) 128)),
-)
+border-test o a = grind (arith, and_parts, leb-true, ltb-true, or_cases, and_from, le-leb, or_left, lt-ltb, or_right, get_or_past)
 
 test-true : (o r : List ℕ) (a : ℕ) → is_sandwiched o r a ≡ true → IsSandwiched o r a (slice_range r a (length r - (length o - a))) (length o - a)
 test-true o r a t =
@@ -173,9 +141,7 @@ test-from o r a m b h =
 -- ---- the greatest number that passes
 
 greatest-is : (p : ℕ → Bool) (n a : ℕ) → a ≤ n → p a ≡ true → ((k : ℕ) → a < k → k ≤ n → p k ≡ false) → greatest_passing p n ≡ Some a
-greatest-is p zero a within yes_it above =
-    let e : a ≡ 0 = omega arith in
-    cond-true (p 0) (Some 0) None (subst (λ k. p k ≡ true) e yes_it) ∙ ap Some (sym e)
+greatest-is p zero a within yes_it above = search rules
 greatest-is p (suc n) a within yes_it above =
     ⊎_elim (λ e. cond-true (p (suc n)) (Some (suc n)) (greatest_passing p n) (subst (λ k. p k ≡ true) e yes_it) ∙ ap Some (sym e))
     (λ other. cond-false (p (suc n)) (Some (suc n)) (greatest_passing p n) (above (suc n) (omega arith) (omega arith))
@@ -187,9 +153,7 @@ greatest-none p zero none = cond-false (p 0) (Some 0) None (none 0)
 greatest-none p (suc n) none = cond-false (p (suc n)) (Some (suc n)) (greatest_passing p n) (none (suc n)) ∙ greatest-none p n none
 
 greatest-passes : (p : ℕ → Bool) (n a : ℕ) → greatest_passing p n ≡ Some a → p a ≡ true
-greatest-passes p zero a e =
-    ⊎_elim (λ t. let same : Some 0 ≡ Some a = sym (cond-true (p 0) (Some 0) None t) ∙ e in let at : 0 ≡ a = cc in subst (λ k. p k ≡ true) at t)
-    (λ f. let same : None ≡ Some a = sym (cond-false (p 0) (Some 0) None f) ∙ e in absurd (cc)) (cases_Bool (p 0))
+greatest-passes p zero a e = search rules
 greatest-passes p (suc n) a e =
     ⊎_elim (λ t. let same : Some (suc n) ≡ Some a = sym (cond-true (p (suc n)) (Some (suc n)) (greatest_passing p n) t) ∙ e in let at : suc n
     ≡ a = cc in subst (λ k. p k ≡ true) at t)
@@ -231,9 +195,7 @@ sandwich-is o r a m b h =
 
 kept_before-none : (o r : List ℕ) → ((k : ℕ) → is_sandwiched o r k ≡ false) → kept_before o r ≡ None
 unfolding kept_before
-kept_before-none o r none =
-    cond-false (is_sandwiched o r (length o)) _ _ (none (length o)) ∙ cond-false (is_sandwiched o r 0) _ _ (none 0)
-    ∙ greatest-none (is_sandwiched o r) (length o) none
+kept_before-none o r none = grind (arith, cond-false, greatest-none)
 
 -- where there is no way none is computed
 pub sandwich-none : (o r : List ℕ) → ((a : ℕ) (m : List ℕ) (b : ℕ) → IsSandwiched o r a m b → ⊥) → sandwich o r ≡ None

@@ -1,12 +1,11 @@
 -- Laws of what is written for edits, and of the end of the text that is shown.
-use Rattle.snippet_splice.proofs.Common.{◌≡◌, ◌≢◌, ℕ, suc, ◌+◌, ◌-◌, ◌<◌, ◌≤◌, Bool, false, cond, ◌&&◌, eqb, min, List, []}
-use Rattle.snippet_splice.proofs.Common.{◌∷◌, ◌++◌, length, map, take, drop, get_or, count_by, refl, sym, ap, subst, ◌∙◌, ⊎_elim, arith}
-use Rattle.snippet_splice.proofs.Common.{append_assoc, zero-add, ◌==◌, if◌then◌else◌, length-append, take_at, take-take, drop_at, get_or_at}
-use Rattle.snippet_splice.proofs.Common.{length_push, IsUtf8-take, IsUtf8-drop, IsCharBoundary-before_ascii, IsCharBoundary-after_ascii, IsUtf8, sum_by-append}
-use Rattle.snippet_splice.proofs.Common.{sum_by-cons, cases_Bool, cases_eq, cond-true, cond-false, and_parts, and_left, eqb-true, ne_eqb, cond_both, is_lf}
-use Rattle.snippet_splice.proofs.Common.{last_byte, IsSpanBorder, LineRange, TrimmedPatch, Edit, trimmed_edit_of, AreApart, in_text, with_line_feeds, copied}
-use Rattle.snippet_splice.proofs.Common.{written_from, written_ranges, end_from, unless_lone_line_feed, without_final_line_feeds, closes_line}
-use Rattle.snippet_splice.proofs.LineEnds.{is_inside_line_end}
+use Rattle.snippet_splice.proofs.Common.{◌≡◌, ◌≢◌, ℕ, suc, ◌+◌, ◌-◌, ◌<◌, ◌≤◌, Bool, false, cond, ◌&&◌, eqb, List, [], ◌∷◌, ◌++◌, length, map, take, drop}
+use Rattle.snippet_splice.proofs.Common.{get_or, count_by, refl, sym, ap, subst, ◌∙◌, ⊎_elim, arith, append_assoc, zero-add, ◌==◌, if◌then◌else◌}
+use Rattle.snippet_splice.proofs.Common.{length-append, take_at, take-take, drop_at, get_or_at, length_push, IsUtf8-take, IsUtf8-drop}
+use Rattle.snippet_splice.proofs.Common.{IsCharBoundary-before_ascii, IsCharBoundary-after_ascii, IsUtf8, sum_by-append, sum_by-cons, cases_Bool, cond-true}
+use Rattle.snippet_splice.proofs.Common.{cond-false, and_parts, and_left, eqb-true, ne_eqb, is_lf, last_byte, IsSpanBorder, LineRange, TrimmedPatch, Edit}
+use Rattle.snippet_splice.proofs.Common.{trimmed_edit_of, AreApart, in_text, with_line_feeds, copied, written_from, written_ranges, end_from}
+use Rattle.snippet_splice.proofs.Common.{unless_lone_line_feed, without_final_line_feeds, closes_line, rules}
 
 -- ---- an LF in place of each CR LF
 
@@ -31,15 +30,7 @@ with_line_feeds-none (x ∷ xs) none =
 -- a step of the loop that adds a text: the front up to a CR was added, and the CR where no LF follows
 pub with_line_feeds-step : (old rest front after more : List ℕ) → rest ≡ front ++ 13 ∷ after → ((i : ℕ) → i < length front → get_or front i 0 ≢ 13)
     → more ≡ cond (eqb (get_or after 0 0) 10) [] (13 ∷ []) → ((old ++ front) ++ more) ++ with_line_feeds after ≡ old ++ with_line_feeds rest
-with_line_feeds-step old rest front after more e none added =
-    let t : Bool = eqb (get_or after 0 0) 10 in
-    let tail : more ++ with_line_feeds after ≡ cond t (with_line_feeds after) (13 ∷ with_line_feeds after) = ⊎_elim
-    (λ yes_it. ap (λ l. l ++ with_line_feeds after) (added ∙ cond-true t [] (13 ∷ []) yes_it)
-    ∙ sym (cond-true t (with_line_feeds after) (13 ∷ with_line_feeds after) yes_it))
-    (λ no_it. ap (λ l. l ++ with_line_feeds after) (added ∙ cond-false t [] (13 ∷ []) no_it)
-    ∙ sym (cond-false t (with_line_feeds after) (13 ∷ with_line_feeds after) no_it)) (cases_Bool t) in
-    append_assoc (old ++ front) more (with_line_feeds after) ∙ append_assoc old front (more ++ with_line_feeds after) ∙ ap (λ l. old ++ (front ++ l)) tail
-    ∙ ap (λ l. old ++ l) (sym (ap with_line_feeds e ∙ with_line_feeds-split front after none))
+with_line_feeds-step old rest front after more e none added = grind (arith, cond-true, cond-false, append_assoc, with_line_feeds-split)
 
 -- what stands before and after an ASCII character is text
 pub utf8-after : (rest front after : List ℕ) (b : ℕ) → IsUtf8 rest → b < 128 → rest ≡ front ++ b ∷ after → IsUtf8 after
@@ -80,16 +71,7 @@ text_end source = if last_byte source == 10 then length source - 1 else length s
 
 -- a later place is at least as far in the text
 pub in_text-mono : (source : List ℕ) (a b : ℕ) → a ≤ b → in_text source a ≤ in_text source b
-in_text-mono source a b low =
-    let e : ℕ = text_end source in
-    ⊎_elim (λ same. let eq : in_text source a ≡ in_text source b = ap (λ n. cond (is_inside_line_end source n) (n - 1) n) same in omega (arith, eq))
-    (λ other. omega (arith, high (min a e), low_end (min b e))) (cases_eq (min a e) (min b e))
-  where
-    high : (n : ℕ) → cond (is_inside_line_end source n) (n - 1) n ≤ n
-    high n = cond_both (is_inside_line_end source n) (n - 1) n (λ k. k ≤ n) (λ _. omega arith) (λ _. omega arith)
-
-    low_end : (n : ℕ) → n ≤ cond (is_inside_line_end source n) (n - 1) n + 1
-    low_end n = cond_both (is_inside_line_end source n) (n - 1) n (λ k. n ≤ k + 1) (λ _. omega arith) (λ _. omega arith)
+in_text-mono source a b low = search rules
 
 -- ---- what is written
 
@@ -108,25 +90,7 @@ pub Writes-more : (source : List ℕ) (from : ℕ) (es : List Edit) (out : List 
     → between ≡ count_by is_lf (copied source end e.start) → out3 ≡ out2 ++ e.text → IsSpanBorder source e.end
     → Writes source from es out3 (ranges ++ record { first = feeds + between; last = feeds + between + count_by is_lf e.text } ∷ [])
     (feeds + between + count_by is_lf e.text) e.end left
-Writes-more source from es out ranges feeds end e left out2 out3 between h one n two border =
-    let c : List ℕ = copied source end e.start in
-    let rest : List ℕ = written_from source e.end left in
-    let all : out3 ≡ (out ++ c) ++ e.text = two ∙ ap (λ l. l ++ e.text) one in
-    let last : ℕ = feeds + between + count_by is_lf e.text in
-    let r : LineRange = record { first = feeds + between; last = last } in
-    let lines : written_ranges source feeds end (e ∷ left) ≡ r ∷ written_ranges source last e.end left = ap (λ k.
-    record { first = feeds + k; last = feeds + k + count_by is_lf e.text } ∷ written_ranges source (feeds + k + count_by is_lf e.text) e.end left)
-    (sym n) in
-    record {
-      bytes = ap (λ l. l ++ rest) all ∙ append_assoc (out ++ c) e.text rest ∙ append_assoc out c (e.text ++ rest) ∙ h.bytes;
-      lines = append_assoc ranges (r ∷ []) (written_ranges source last e.end left) ∙ ap (λ l. ranges ++ l) (sym lines) ∙ h.lines;
-      counted = sym (ap (count_by is_lf) all ∙ sum_by-append (λ b. cond (is_lf b) 1 0) (out ++ c) e.text
-          ∙ ap (λ k. k + count_by is_lf e.text) (sum_by-append (λ b. cond (is_lf b) 1 0) out c ∙ ap (λ k. count_by is_lf out + k) (sym n)
-          ∙ ap (λ k. k + between) (sym h.counted)));
-      apart = h.apart.2;
-      last = h.last;
-      border = border;
-    }
+Writes-more source from es out ranges feeds end e left out2 out3 between h one n two border = grind (arith, count_by, append_assoc, sum_by-append)
 
 -- ---- the end of a text
 
@@ -161,15 +125,12 @@ pub without_final-stays : (xs : List ℕ) → ((front : List ℕ) → xs ≢ fro
 without_final-stays [] unclosed = refl
 without_final-stays (b ∷ []) unclosed =
     cond-false (is_lf b) [] (b ∷ []) (ne_eqb b 10 (λ e. unclosed [] (ap (λ c. c ∷ []) e)))
-without_final-stays (b ∷ c ∷ cs) unclosed =
-    ap (unless_lone_line_feed b) (without_final-stays (c ∷ cs) (λ front e. unclosed (b ∷ front) (ap (λ l. b ∷ l) e)))
+without_final-stays (b ∷ c ∷ cs) unclosed = grind (arith, without_final-stays (c ∷ cs) (λ front e. unclosed (b ∷ front) (ap (λ l. b ∷ l) e)))
 
 -- nothing is taken from a text twice
 without_lone-twice : (b : ℕ) (xs : List ℕ) → without_final_line_feeds xs ≡ xs
     → without_final_line_feeds (unless_lone_line_feed b xs) ≡ unless_lone_line_feed b xs
-without_lone-twice b [] stays =
-    cond_both (is_lf b) [] (b ∷ []) (λ l. without_final_line_feeds l ≡ l) (λ _. refl) (λ other. cond-false (is_lf b) [] (b ∷ []) other)
-without_lone-twice b (c ∷ cs) stays = ap (unless_lone_line_feed b) stays
+without_lone-twice x y z = search rules
 
 -- final line feeds are gone once they are taken off
 pub without_final-twice : (xs : List ℕ) → without_final_line_feeds (without_final_line_feeds xs) ≡ without_final_line_feeds xs

@@ -1,8 +1,8 @@
-use Rattle.snippet_splice.proofs.Common.{◌≡◌, ◌≢◌, ◌++◌, ◌+◌, ◌<◌, ◌≤◌, ℕ, List, [], All, map, drop, min, length, refl, sym, ap}
-use Rattle.snippet_splice.proofs.Common.{subst, ◌∙◌, inl, rules, slice_get, IsCharBoundary, string_bytes, lines_of, source_lines, Edit, edit_of}
-use Rattle.snippet_splice.proofs.Common.{trimmed_edits, in_order, patched, IsSpanBorder, TrimmedPatch, end_from, written_ranges, IsPlainSplice, first_start}
-use Rattle.snippet_splice.proofs.Common.{shown_start, shown_rest, shown_text, closes_line, without_final_line_feeds, capped, extents_from, extent_of}
-use Rattle.snippet_splice.proofs.Common.{feeds_made, ranges_from, texts_of, AreFrom, shown_line, original_bounds_of, trimmed_edit_of, AreApart}
+use Rattle.snippet_splice.proofs.Common.{◌≡◌, ◌≢◌, ◌++◌, ◌+◌, ◌<◌, ◌≤◌, ℕ, List, [], All, map, drop, min, length, sym, ap, subst, ◌∙◌, rules, slice_get}
+use Rattle.snippet_splice.proofs.Common.{string_bytes, lines_of, source_lines, Edit, edit_of, trimmed_edits, in_order, patched, IsSpanBorder, TrimmedPatch}
+use Rattle.snippet_splice.proofs.Common.{end_from, written_ranges, IsPlainSplice, first_start, shown_start, shown_rest, shown_text, closes_line}
+use Rattle.snippet_splice.proofs.Common.{without_final_line_feeds, capped, extents_from, extent_of, feeds_made, ranges_from, texts_of, AreFrom, shown_line}
+use Rattle.snippet_splice.proofs.Common.{original_bounds_of, trimmed_edit_of, AreApart, arith}
 use Rattle.snippet_splice.proofs.OverlapLemmas.{apart-in_order, ordered-spans}
 use Rattle.snippet_splice.proofs.PlaceLemmas.{replaced_are, stretches_are}
 use Rattle.snippet_splice.proofs.ShownLineLemmas.{num_replaced, num_shown}
@@ -16,22 +16,14 @@ use Rattle.snippet_splice.proofs.splice.spliced_lines.Goals.{After-deref-2}
 use Rattle.snippet_splice.proofs.splice.spliced_lines.Goals as goal
 
 pub returns-in_default-clause-none : goal.returns-in_default-clause-none
-returns-in_default-clause-none c = (
-  λ _. none_given c.args.source.now c.args.patches.now c.in_ok-patches.patches.items c.in_ok-patches.ensures.edits
-      (sym (c.in_default.ensures.value ∙ ap (λ l. slice_get l 0) c.deref.ensures.value)),
-  λ _. refl,
-)
+returns-in_default-clause-none c = grind (arith, none_given)
 
 -- where the text that is shown begins
 first_is : (c : After-deref-2) → c.in-Some.first.now.original_span.start ≡ first_start (in_order (map edit_of c.args.patches.now))
-first_is c =
-    first_start-trimmed c.in_ok-patches.patches.items (in_order (map edit_of c.args.patches.now)) c.in-Some.first.now c.in_ok-patches.ensures.originals
-    (sym (c.in-Some.ensures.value ∙ ap (λ l. slice_get l 0) c.deref.ensures.value))
+first_is c = grind (arith, first_start-trimmed)
 
 border : (c : After-deref-2) → IsSpanBorder c.args.source.now c.shown_start-start.result
-border c =
-    inl (subst (IsCharBoundary c.args.source.now) (sym c.shown_start-start.ensures.value)
-    (shown_start-border c.args.fold c.args.source.now c.in-Some.first.now.original_span.start c.utf8.source))
+border c = grind (arith, shown_start-border)
 
 -- the edits stand apart from there
 apart_from : (c : After-deref-2) (ts : List TrimmedPatch) → ts ≡ c.in_ok-patches.patches.items
