@@ -9,7 +9,6 @@ pub use Rattle.snippet_lines.proofs.PlaceLemmas.{line_of-within, text_at-end, st
 pub use Rattle.snippet_lines.specs.CutLines.{AreLines, IsLineWithEnd, IsLine}
 pub use Rattle.snippet_lines.specs.IsSpan.{IsSpanBorder, IsSpan}
 pub use Rattle.snippet_lines.specs.Lines.{is_lf, source_lines, last_byte, lines_of, Line, line_bytes, text_at, with_first_byte, end_bytes, joined}
-pub use Rattle.snippet_lines.specs.Lines.{line_with_byte}
 unfoldable pub use Rattle.snippet_lines.specs.Lines.{start_of, newline_count}
 pub use Rattle.snippet_lines.specs.OrderedBy.{put_in, ordered_by}
 unfoldable pub use Rattle.snippet_lines.specs.Place.{line_of}
@@ -48,12 +47,13 @@ pub use Rattle.snippet_style.specs.Bounds.{IsUsize}
 pub use Rattle.std.proofs.Common.{◌≡◌, ℕ, length, sym, ap, List, ◌∙◌, ◌++◌, arith, map, ◌+◌, [], ◌∷◌, ◌<◌, drop, ◌≤◌}
 pub use Rattle.std.proofs.Common.{get_or, subst, refl, take, false, Bool, ◌-◌, ◌≢◌, count_by, true, append_assoc, Some, None, cond, ⊎_elim, eqb}
 pub use Rattle.std.proofs.Common.{if◌then◌else◌, All, suc, ◌==◌, ◌&&◌, inl, inr, ltb, min, zero, lit<, max, ◌⊎◌, nat_lt, Option, ◌||◌}
-pub use Rattle.std.proofs.Common.{leb, Vec, rules, slice_index, Contains, not, le_refl, IfSome, IfNone, set, zero-add}
+pub use Rattle.std.proofs.Common.{leb, Vec, rules, slice_index, Contains, le_refl, IfSome, IfNone, set, zero-add}
 pub use Rattle.std.proofs.Math.Seq.{take-add, take-append-add}
 pub use Rattle.std.proofs.lemmas.Bool.{cond-false, cond-true, eqb-true, cases_Bool, cases_lt, cond_both, cases_eq, false_from_ne_true, and_parts, ne_eqb}
-pub use Rattle.std.proofs.lemmas.Bool.{eq-eqb, leb-true, ltb-true, both_ways, and_right, lt-ltb, or_cases, or_left, or_right, and_from, le-leb, ltb-false}
+pub use Rattle.std.proofs.lemmas.Bool.{eq-eqb, leb-true, ltb-true, both_ways, lt-ltb, or_cases, or_left, or_right, and_from, le-leb, ltb-false}
 pub use Rattle.std.proofs.lemmas.Bool.{eqb-false, and_left}
 pub use Rattle.std.proofs.lemmas.Bool.Decides.{nat_tests}
+pub use Rattle.std.proofs.lemmas.Grind.{common_steps}
 pub use Rattle.std.proofs.lemmas.List.{append-nil, length-append, length-drop, take-append-drop, take_at, length-take-le, take-take, take_all, length-map}
 pub use Rattle.std.proofs.lemmas.List.{drop_at, length-take, get_or-drop, get_or-map, drop_min, drop_more, map-append, drop-drop, get_or-take, get_or_past}
 pub use Rattle.std.proofs.lemmas.List.{drop_all, drop-take, take-append-le, get_or-append_right, get_or_append_left, nil_from_length, take_min, drop-append-le}

@@ -20,8 +20,7 @@ slice_split s a b c low high =
 
 -- the rest of a list is the part up to a place and the rest from there on
 pub drop_split : (s : List ℕ) (a b : ℕ) → a ≤ b → drop a s ≡ slice_range s a b ++ drop b s
-drop_split s a b low =
-    sym (take-append-drop (b - a) (drop a s)) ∙ ap (λ l. slice_range s a b ++ l) (drop-drop (b - a) a s ∙ ap (λ k. drop k s) (omega arith))
+drop_split s a b low = grind (arith, take-append-drop (b - a) (drop a s), drop-drop (b - a) a s)
 
 -- ---- an edit that leaves alone what another writes anew as it was
 

@@ -4,8 +4,8 @@ use Rattle.snippet_splice.proofs.Common.{arith, and_parts, cond_both, eqb-true, 
 use Rattle.snippet_splice.proofs.Common.{sum_by, lines_of, source_lines, start_of, last_byte, newline_count, put_in, IsLine-at, length-lines_of}
 use Rattle.snippet_splice.proofs.Common.{length-source_lines, start_of-zero, line_of-within, start_of-inside, copied, end_from, in_text, written_from, Edit}
 use Rattle.snippet_splice.proofs.Common.{in_order, precedes, trimmed_edit, trimmed_edits, closes_line, first_start, shown_rest, shown_start, shown_text}
-use Rattle.snippet_splice.proofs.Common.{without_final_line_feeds, shown_line, AreApart, rules}
-use Rattle.snippet_splice.proofs.EditLemmas.{IsShrunk, trimmed_edit-shrunk}
+use Rattle.snippet_splice.proofs.Common.{without_final_line_feeds, shown_line, AreApart, rules, common_steps}
+use Rattle.snippet_splice.proofs.EditLemmas.{trimmed_edit-shrunk}
 use Rattle.snippet_splice.proofs.LineLemmas.{Shortens, Shortens-final}
 use Rattle.snippet_splice.proofs.RangeLemmas.{feeds, feeds-append, feeds-none, feeds-shown}
 use Rattle.snippet_splice.proofs.ShownLemmas.{shown-apart}
@@ -23,9 +23,7 @@ feeds-source source = grind (arith, length-source_lines)
 -- ---- the LF before a byte
 
 feeds-between : (text : List ℕ) (a b : ℕ) → a ≤ b → feeds (take b text) ≡ feeds (take a text) + feeds (slice_range text a b)
-feeds-between text a b low =
-    let e : a + (b - a) ≡ b = omega arith in
-    ap feeds (ap (λ n. take n text) (sym e) ∙ take-add a (b - a) text) ∙ feeds-append (take a text) (slice_range text a b)
+feeds-between text a b low = grind (arith, take-add a (b - a) text, feeds-append (take a text) (slice_range text a b))
 
 feeds-after : (text : List ℕ) (b : ℕ) → feeds (take b text) + feeds (drop b text) ≡ feeds text
 feeds-after text b = sym (feeds-append (take b text) (drop b text)) ∙ ap feeds (take-append-drop b text)
@@ -58,28 +56,12 @@ text_feeds es = sum_by (λ e. feeds e.text) es
 text_feeds-trimmed : (source : List ℕ) (at : ℕ) (es : List Edit) → AreApart at es → text_feeds (map (trimmed_edit source) es) ≤ text_feeds es
 text_feeds-trimmed source at [] apart = omega arith
 text_feeds-trimmed source at (e ∷ es) apart =
-    let t : Edit = trimmed_edit source e in
-    let h : IsShrunk source e t = trimmed_edit-shrunk source e apart.1 in
-    let before : List ℕ = slice_range source e.start t.start in
-    let after : List ℕ = slice_range source t.end e.end in
-    let size : feeds e.text ≡ feeds before + (feeds t.text + feeds after) = ap feeds h.text ∙ feeds-append before (t.text ++ after)
-    ∙ ap (λ n. feeds before + n) (feeds-append t.text after) in
-    omega (
-      arith,
-      size,
-      text_feeds-trimmed source e.end es apart.2,
-      sum_by-cons (λ d. feeds d.text) e es,
-      sum_by-cons (λ d.
-          feeds d.text) t (map (trimmed_edit source) es),
-    )
+    grind (arith, common_steps, trimmed_edit-shrunk, feeds-append, sum_by-cons, text_feeds-trimmed source e.end es apart.2)
 
 -- in order they have as many
 text_feeds-put_in : (e : Edit) (ds : List Edit) → text_feeds (put_in precedes e ds) ≡ feeds e.text + text_feeds ds
 text_feeds-put_in e [] = sum_by-cons (λ d. feeds d.text) e []
-text_feeds-put_in e (d ∷ ds) =
-    cond_both (precedes d e) (d ∷ put_in precedes e ds) (e ∷ d ∷ ds) (λ xs. text_feeds xs ≡ feeds e.text + text_feeds (d ∷ ds))
-    (λ _. omega (arith, sum_by-cons (λ x. feeds x.text) d (put_in precedes e ds), sum_by-cons (λ x. feeds x.text) d ds, text_feeds-put_in e ds))
-    (λ _. sum_by-cons (λ x. feeds x.text) e (d ∷ ds))
+text_feeds-put_in e (d ∷ ds) = grind (arith, common_steps, cond_both, sum_by-cons, text_feeds-put_in e ds)
 
 text_feeds-in_order : (es : List Edit) → text_feeds (in_order es) ≡ text_feeds es
 text_feeds-in_order [] = refl

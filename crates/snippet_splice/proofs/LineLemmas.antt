@@ -4,9 +4,9 @@ use Rattle.snippet_splice.proofs.Common.{take, drop, get_or, refl, sym, ap, subs
 use Rattle.snippet_splice.proofs.Common.{length-take-le, take_at, drop_at, map-append, get_or-take, get_or-drop, All-nil, All-cons, All-same, All-head}
 use Rattle.snippet_splice.proofs.Common.{All-tail, All-take, All-drop, All-append, cases_Bool, cond-true, cond-false, eqb-true, eqb-false, slice_range}
 use Rattle.snippet_splice.proofs.Common.{EndLine, Eof, Lf, Crlf, Line, line_bytes, end_bytes, joined, lines_of, with_first_byte, source_lines, start_of}
-use Rattle.snippet_splice.proofs.Common.{last_byte, is_lf, AreLines, line_of, AreLinesOf-source_lines, lines_of-append, lines_of-joined, last_byte-cons}
+use Rattle.snippet_splice.proofs.Common.{last_byte, is_lf, AreLines, AreLinesOf-source_lines, lines_of-append, lines_of-joined, last_byte-cons}
 use Rattle.snippet_splice.proofs.Common.{line_of-within, Edit, precedes, in_order, edited_from, patched, first_start, shown_start, unless_lone_line_feed}
-use Rattle.snippet_splice.proofs.Common.{without_final_line_feeds, HasNoCr, shown_line, texts_of, AreFrom, All-put_in, rules}
+use Rattle.snippet_splice.proofs.Common.{without_final_line_feeds, HasNoCr, shown_line, texts_of, AreFrom, All-put_in, rules, common_steps}
 use Rattle.snippet_splice.proofs.RangeLemmas.{front-lines}
 use Rattle.snippet_splice.proofs.SpliceLemmas.{Stops, IsShownPart, last_byte-append}
 
@@ -33,17 +33,10 @@ texts-lines_of (b ∷ bs) none =
     ∙ first-texts b (lines_of bs) (none 0 0 (omega arith)) ∙ ap (in_first b) more ∙ sym (cond-false (is_lf b) ([] ∷ texts bs) (in_first b (texts bs)) f))
     (cases_Bool (eqb b 10))
 
-in_first-append : (b : ℕ) (xs ys : List (List ℕ)) → xs ≢ [] → in_first b (xs ++ ys) ≡ in_first b xs ++ ys
-in_first-append x y z u = search rules
-
-texts-some : (b : ℕ) (bs : List ℕ) → texts (b ∷ bs) ≢ []
-texts-some b bs = search rules
-
 -- a text that no LF ends is some whole lines where an LF follows
 texts-stop : (b : ℕ) (w y : List ℕ) → last_byte (b ∷ w) ≢ 10 → texts ((b ∷ w) ++ 10 ∷ y) ≡ texts (b ∷ w) ++ texts y
 texts-stop b [] y unclosed = search rules
-texts-stop b (c ∷ w) y unclosed =
-    grind (arith, last_byte-cons, cond-true, cond-false, in_first-append, texts-some, texts-stop c w y (λ e. unclosed (last_byte-cons b c w ∙ e)))
+texts-stop b (c ∷ w) y unclosed = grind (arith, last_byte-cons b c w, texts-stop c w y (λ e. unclosed (last_byte-cons b c w ∙ e)))
 
 -- ---- a text without the LF that end it
 
@@ -77,15 +70,7 @@ Shortens-final (b ∷ bs) = Shortens-cons b bs (without_final_line_feeds bs) (Sh
 
 -- what stands after the text that is shown: nothing, or an LF
 after-shown : (part ws rest : List ℕ) → Shortens part ws → Stops rest ⊎ (last_byte part ≡ 10) → (z : List ℕ) × (part ++ rest ≡ ws ++ z) × Stops z
-after-shown part ws rest h stops =
-    let joint : part ++ rest ≡ ws ++ (h.tail ++ rest) = ap (λ l. l ++ rest) h.whole ∙ append_assoc ws h.tail rest in
-    ⊎_elim
-    (λ none. ⊎_elim
-    (λ stop. (rest, joint ∙ ap (λ l. ws ++ (l ++ rest)) none, stop))
-    (λ closed. let same : part ≡ ws = h.whole ∙ ap (λ l. ws ++ l) none ∙ append-nil ws in
-    absurd (⊎_elim (λ nil. let e : last_byte [] ≡ 10 = ap last_byte (sym (same ∙ nil)) ∙ closed in cc) (λ other.
-    other (ap last_byte (sym same) ∙ closed)) h.unclosed)) stops)
-    (λ (y, e). (h.tail ++ rest, joint, inr (y ++ rest, ap (λ l. l ++ rest) e))) h.stops
+after-shown part ws rest h stops = grind (arith, append_assoc ws h.tail rest, append-nil ws)
 
 texts-front : (ws z : List ℕ) → Stops z → (ws ≡ []) ⊎ (last_byte ws ≢ 10) → (ts : List (List ℕ)) × (texts (ws ++ z) ≡ texts ws ++ ts)
 texts-front [] z stops unclosed = (texts z, refl)
@@ -142,20 +127,15 @@ lines-front source k within =
 pub shown-front : (fold : Bool) (source : List ℕ) (es : List Edit)
     → IsLinesFront (slice_range source 0 (shown_start fold source (first_start (in_order es)))) (shown_line fold source es)
 shown-front false source es = record { closed = λ some. absurd (omega arith); count = refl }
-shown-front true source es =
-    let k : ℕ = line_of (source_lines source) (first_start (in_order es)) in
-    let e : start_of (source_lines source) k - 0 ≡ start_of (source_lines source) k = omega arith in
-    subst (λ n. IsLinesFront (take n source) k) (sym e) (lines-front source k (line_of-within source (first_start (in_order es))))
+shown-front true source es = grind (arith, common_steps, lines-front, line_of-within)
 
 -- ---- no CR in the patched source
 
 HasNoCr-left : (xs ys : List ℕ) → HasNoCr (xs ++ ys) → HasNoCr xs
-HasNoCr-left xs ys none =
-    subst HasNoCr (take_at xs ys (length xs) refl) (All-take (λ c. c ≢ 13) (length xs) (xs ++ ys) none)
+HasNoCr-left xs ys none = grind (arith, take_at xs ys (length xs) refl, All-take (λ c. c ≢ 13) (length xs) (xs ++ ys) none)
 
 HasNoCr-right : (xs ys : List ℕ) → HasNoCr (xs ++ ys) → HasNoCr ys
-HasNoCr-right xs ys none =
-    subst HasNoCr (drop_at xs ys (length xs) refl) (All-drop (λ c. c ≢ 13) (length xs) (xs ++ ys) none)
+HasNoCr-right xs ys none = grind (arith, drop_at xs ys (length xs) refl, All-drop (λ c. c ≢ 13) (length xs) (xs ++ ys) none)
 
 edited_from-no_cr : (source : List ℕ) (at : ℕ) (es : List Edit) → HasNoCr source → All (λ e. HasNoCr e.text) es → HasNoCr (edited_from source at es)
 edited_from-no_cr source at [] none texts = All-drop (λ c. c ≢ 13) at source none

@@ -16,8 +16,7 @@ overlap-seen ps m n p q low high first second = grind (arith, get_or-edit_of)
 
 -- the edits of spans that are taken start before they end
 pub ordered-spans : (source : List ℕ) (ps : List Patch) → All (λ p. IsSpan source p.span.start p.span.end) ps → All (λ e. e.start ≤ e.end) (map edit_of ps)
-ordered-spans source ps spans =
-    All-map (λ e. e.start ≤ e.end) edit_of ps (λ k d within. (spans k d within).ordered)
+ordered-spans source ps spans = omega (arith, All-map (λ e. e.start ≤ e.end) edit_of ps (λ k d within. (spans k d within).ordered))
 
 -- ---- edits given in order, one after the other
 

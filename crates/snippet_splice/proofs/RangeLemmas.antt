@@ -1,11 +1,10 @@
 -- On which lines of the patched source the texts of edits stand.
-use Rattle.snippet_splice.proofs.Common.{◌≡◌, ◌≢◌, ℕ, zero, suc, ◌+◌, ◌-◌, ◌<◌, Bool, true, false, cond, List, [], ◌∷◌, ◌++◌, All, length, map, take, drop}
-use Rattle.snippet_splice.proofs.Common.{count_by, refl, sym, ap, ◌∙◌, ⊎_elim, arith, append_assoc, length-append, take_at, take-append-drop, sum_by-append}
-use Rattle.snippet_splice.proofs.Common.{sum_by-cons, flat_map-append, All-head, All-tail, cond-false, ne_eqb, slice_range, Eof, Line, line_bytes, joined}
-use Rattle.snippet_splice.proofs.Common.{source_lines, start_of, is_lf, IsLine, AreLines, line_of, AreLinesOf-source_lines, joined-source_lines}
-use Rattle.snippet_splice.proofs.Common.{line_of-within, Edit, in_order, trimmed_edits, edited_from, patched, copied, written_ranges, first_start}
-use Rattle.snippet_splice.proofs.Common.{shown_start, stands_from, stands, HasNoCr, IsBeforeFinalLf, shown_line, lines_of_stand, line_ranges, ranges_from}
-use Rattle.snippet_splice.proofs.Common.{AreApart}
+use Rattle.snippet_splice.proofs.Common.{◌≡◌, ◌≢◌, ℕ, zero, suc, ◌+◌, ◌-◌, ◌<◌, Bool, cond, List, [], ◌∷◌, ◌++◌, All, length, map, take, drop, count_by, refl}
+use Rattle.snippet_splice.proofs.Common.{sym, ap, ◌∙◌, ⊎_elim, arith, append_assoc, length-append, take_at, take-append-drop, sum_by-append, sum_by-cons}
+use Rattle.snippet_splice.proofs.Common.{flat_map-append, All-head, All-tail, cond-false, ne_eqb, slice_range, Eof, Line, line_bytes, joined, source_lines}
+use Rattle.snippet_splice.proofs.Common.{start_of, is_lf, IsLine, AreLines, AreLinesOf-source_lines, joined-source_lines, line_of-within, Edit, in_order}
+use Rattle.snippet_splice.proofs.Common.{trimmed_edits, edited_from, patched, copied, written_ranges, first_start, shown_start, stands_from, stands, HasNoCr}
+use Rattle.snippet_splice.proofs.Common.{IsBeforeFinalLf, shown_line, lines_of_stand, line_ranges, ranges_from, AreApart, common_steps}
 use Rattle.snippet_splice.proofs.EditLemmas.{edited_from-earlier, edited_from-trimmed}
 use Rattle.snippet_splice.proofs.ShownLemmas.{shown-apart}
 use Rattle.snippet_splice.proofs.SpliceLemmas.{AreBeforeFinalLf, copied-same, stands_from-earlier, front-size}
@@ -55,11 +54,7 @@ feeds-front source k within =
 -- the LF before what is shown are as many as the lines before it
 pub feeds-shown : (fold : Bool) (source : List ℕ) (es : List Edit)
     → feeds (slice_range source 0 (shown_start fold source (first_start (in_order es)))) ≡ shown_line fold source es
-feeds-shown false source es = refl
-feeds-shown true source es =
-    let k : ℕ = line_of (source_lines source) (first_start (in_order es)) in
-    let e : start_of (source_lines source) k - 0 ≡ start_of (source_lines source) k = omega arith in
-    ap (λ n. feeds (take n source)) e ∙ feeds-front source k (line_of-within source (first_start (in_order es)))
+feeds-shown x y z = grind (arith, common_steps, feeds-front, line_of-within)
 
 -- ---- the lines of the texts
 

@@ -6,8 +6,8 @@ use Rattle.snippet_splice.proofs.Common.{All-tail, cases_Bool, cond-true, cond-f
 use Rattle.snippet_splice.proofs.Common.{Line, lines_of, with_first_byte, source_lines, text_at, last_byte, is_lf, line_of-within, text_at-end, Edit}
 use Rattle.snippet_splice.proofs.Common.{in_order, trimmed_edits, edited_from, patched, in_text, with_line_feeds, copied, written_from, end_from, first_start}
 use Rattle.snippet_splice.proofs.Common.{closes_line, shown_start, without_final_line_feeds, shown_text, stands_from, stands, HasNoCr, IsBeforeFinalLf}
-use Rattle.snippet_splice.proofs.Common.{last_end, spliced_end, spliced_text, AreApart, rules}
-use Rattle.snippet_splice.proofs.EditLemmas.{slice_split, edited_from-earlier, edited_from-trimmed}
+use Rattle.snippet_splice.proofs.Common.{last_end, spliced_end, spliced_text, AreApart, rules, common_steps}
+use Rattle.snippet_splice.proofs.EditLemmas.{edited_from-earlier, edited_from-trimmed}
 use Rattle.snippet_splice.proofs.WriteLemmas.{with_line_feeds-none, last_text, closes-last}
 use Rattle.snippet_splice.proofs.ShownLemmas.{shown-apart}
 
@@ -68,11 +68,7 @@ last_end-written source at now (t ∷ ts) none before apart =
 -- texts stand where they do when the source before them is given first
 pub stands_from-earlier : (source : List ℕ) (a b now : ℕ) (t : Edit) (ts : List Edit) → a ≤ b → b ≤ t.start
     → stands_from source a now (t ∷ ts) ≡ stands_from source b (now + length (slice_range source a b)) (t ∷ ts)
-stands_from-earlier source a b now t ts low high =
-    let n : length (slice_range source a t.start) ≡ length (slice_range source a b) + length (slice_range source b t.start) = ap length
-    (slice_split source a b t.start low high) ∙ length-append (slice_range source a b) (slice_range source b t.start) in
-    let e : now + length (slice_range source a t.start) ≡ now + length (slice_range source a b) + length (slice_range source b t.start) = omega (arith, n) in
-    ap (λ k. record { from = k; to = k + length t.text } ∷ stands_from source t.end (k + length t.text) ts) e
+stands_from-earlier source a b now t ts low high = grind (arith, common_steps, length-append)
 
 -- ---- the first line of a text
 
@@ -145,8 +141,7 @@ last_byte-append [] (y ∷ ys) e = e
 last_byte-append (x ∷ xs) (y ∷ ys) e = grind (arith, length-append, last_byte-append xs (y ∷ ys) e)
 
 some_bytes : (xs : List ℕ) → last_byte xs ≡ 10 → 0 < length xs
-some_bytes [] e = absurd (cc)
-some_bytes (x ∷ xs) e = omega arith
+some_bytes x y = grind (arith, common_steps)
 
 last-written : (source : List ℕ) (at : ℕ) (ts : List Edit) → last_byte (last_text ts) ≡ 10 → last_byte (written_from source at ts) ≡ 10
 last-written source at [] e = absurd (cc)
@@ -171,9 +166,7 @@ last_end-stands source s t ts none before apart size =
     ∙ last_end-written source s (0 + length (slice_range source 0 s)) (t ∷ ts) none before apart ∙ omega (arith, size)
 
 cut-part : (f w r : List ℕ) (s n : ℕ) → length f ≡ s → slice_range (f ++ (w ++ r)) s (s + length w + n) ≡ w ++ take n r
-cut-part f w r s n size =
-    let e : s + length w + n - s ≡ length w + n = omega arith in
-    ap (take (s + length w + n - s)) (drop_at f (w ++ r) s size) ∙ ap (λ k. take k (w ++ r)) e ∙ take-append-add w r n
+cut-part f w r s n size = grind (arith, drop_at f (w ++ r) s size, take-append-add w r n)
 
 drop-part : (f w r : List ℕ) (s : ℕ) → length f ≡ s → drop (s + length w) (f ++ (w ++ r)) ≡ r
 drop-part f w r s size =

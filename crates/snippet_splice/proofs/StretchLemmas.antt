@@ -1,10 +1,11 @@
 -- Tables of stretches, the pieces of a text, and what stands in a line before a byte.
-use Rattle.snippet_splice.proofs.Common.{◌≡◌, ◌≢◌, ◌∙◌, ◌⊎◌, inl, inr, ℕ, zero, suc, ◌+◌, ◌-◌, ◌<◌, ◌==◌, cond, eqb, List, [], ◌∷◌, ◌++◌, Vec, count_by, drop}
+use Rattle.snippet_splice.proofs.Common.{◌≡◌, ◌≢◌, ◌∙◌, ◌⊎◌, inl, inr, ℕ, zero, suc, ◌+◌, ◌-◌, ◌<◌, ◌==◌, eqb, List, [], ◌∷◌, ◌++◌, Vec, count_by, drop}
 use Rattle.snippet_splice.proofs.Common.{length, take, ◌≤◌, set, get_or, lit<, refl, sym, ap, arith, if◌then◌else◌, subst, onto_first, slice_split, IsUtf8}
 use Rattle.snippet_splice.proofs.Common.{Global, eq-eqb, eqb-true, cond-true, cond-false, false_from_ne_true, cases_Bool, cases_eq, nat_tests, append-nil}
 use Rattle.snippet_splice.proofs.Common.{get_or_default, get_or-drop, get_or-map, get_or-set_other, get_or-set_same, length-append, length-drop, length-map}
 use Rattle.snippet_splice.proofs.Common.{map-set, places, same_lists, slice_split_at, slice_split_none, sum_by-cons, chars-append, is_lf, last_byte-not}
 use Rattle.snippet_splice.proofs.Common.{length-chars_le, SubstitutionHighlight, after_last_lf, capped, taken_on, without_cr, line_stretches, rules}
+use Rattle.snippet_splice.proofs.Common.{common_steps}
 use Rattle.std.proofs.Common.{chars}
 use Rattle.snippet_splice.proofs.RangeLemmas.{feeds-append}
 use Rattle.snippet_splice.proofs.WriteLemmas.{utf8-after}
@@ -68,9 +69,7 @@ feeds_whole (b ∷ bs) none =
 
 -- and one that is cut has one more than what stands after the cut
 pub feeds_cut : (text piece after : List ℕ) → text ≡ piece ++ 10 ∷ after → HoldsNoLf piece → count_by is_lf text ≡ 1 + count_by is_lf after
-feeds_cut text piece after is none =
-    let one : count_by is_lf (10 ∷ after) ≡ 1 + count_by is_lf after = sum_by-cons (λ b. cond (is_lf b) 1 0) 10 after in
-    omega (arith, ap (count_by is_lf) is, feeds-append piece (10 ∷ after), feeds_whole piece none, one)
+feeds_cut text piece after is none = grind (arith, common_steps, count_by, sum_by-cons, feeds-append, feeds_whole)
 
 -- ---- what stands after the last LF
 
@@ -86,28 +85,18 @@ after_some b bs some = search rules
 
 after_append : (front text : List ℕ) → count_by is_lf text ≡ 0 → after_last_lf (front ++ text) ≡ after_last_lf front ++ text
 after_append [] text none = after_none text none
-after_append (b ∷ front) text none =
-    let total : count_by is_lf (b ∷ front ++ text) ≡ count_by is_lf (b ∷ front) = feeds-append (b ∷ front) text ∙ omega (arith, none) in
-    elim (zero_or (count_by is_lf (b ∷ front))) [
-      | inl zeros ↦ after_none (b ∷ front ++ text) (total ∙ zeros) ∙ ap (λ ys. ys ++ text) (sym (after_none (b ∷ front) zeros))
-      | inr some ↦ after_some b (front ++ text) (omega (arith, total, some)) ∙ after_append front text none
-          ∙ ap (λ ys. ys ++ text) (sym (after_some b front some))
-    ]
+after_append (b ∷ front) text none = grind (arith, common_steps, count_by, feeds-append, zero_or, after_none, after_some, after_append front text none)
 
 after_other : (front text : List ℕ) → 0 < count_by is_lf text → after_last_lf (front ++ text) ≡ after_last_lf text
 after_other [] text some = refl
-after_other (b ∷ front) text some =
-    after_some b (front ++ text) (omega (arith, feeds-append (b ∷ front) text, some)) ∙ after_other front text some
+after_other (b ∷ front) text some = grind (arith, common_steps, after_some, feeds-append, after_other front text some)
 
 one_lf : (after : List ℕ) → 0 < count_by is_lf (10 ∷ after)
-one_lf after =
-    let one : count_by is_lf (10 ∷ after) ≡ 1 + count_by is_lf after = sum_by-cons (λ b. cond (is_lf b) 1 0) 10 after in
-    omega (arith, one)
+one_lf after = grind (arith, common_steps, count_by, sum_by-cons)
 
 -- it is that of what stands after one of them
 pub after_piece : (text piece after : List ℕ) → text ≡ piece ++ 10 ∷ after → after_last_lf text ≡ after_last_lf after
-after_piece text piece after is =
-    ap after_last_lf is ∙ after_other piece (10 ∷ after) (one_lf after) ∙ after_some 10 after (one_lf after)
+after_piece text piece after is = grind (arith, common_steps, after_other, one_lf, after_some)
 
 -- a text without line feeds is what stands after its last one
 pub after_whole : (text : List ℕ) → HoldsNoLf text → after_last_lf text ≡ text
@@ -214,10 +203,7 @@ pub taken_cut : (k line before start end : ℕ) (piece after : List ℕ)
     → taken_on k line before start end (piece ∷ slice_split is_lf after)
     ≡ (if line == k then record { start = start; end = capped (before + length (chars (without_cr piece))) } ∷ [] else [])
     ++ taken_on k (capped (line + 1)) 0 0 end (slice_split is_lf after)
-taken_cut k line before start end piece after =
-    let later = pieces_some after in
-    let one : List SubstitutionHighlight = if line == k then record { start = start; end = capped (before + length (chars (without_cr piece))) } ∷ [] else [] in
-    ap (λ ps. taken_on k line before start end (piece ∷ ps)) later.are ∙ ap (λ ps. one ++ taken_on k (capped (line + 1)) 0 0 end ps) (sym later.are)
+taken_cut k line before start end piece after = grind (arith, pieces_some after)
 
 -- a text that doesn't end in a carriage return stays
 pub without_cr-stays : (text : List ℕ) → ((front : List ℕ) → text ≢ front ++ 13 ∷ []) → without_cr text ≡ text

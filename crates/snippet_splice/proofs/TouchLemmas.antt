@@ -16,6 +16,7 @@ use Rattle.snippet_splice.proofs.SpliceLemmas.{AreBeforeFinalLf, Stops, IsShownP
 use Rattle.snippet_splice.proofs.LineLemmas.{Shortens, Shortens-final, IsLinesFront, shown-front}
 use Rattle.snippet_splice.proofs.WriteLemmas.{last_text}
 use Rattle.snippet_splice.proofs.Common.{rules}
+use Rattle.snippet_splice.proofs.Common.{common_steps}
 
 feeds-take : (n : ℕ) (xs : List ℕ) → feeds (take n xs) ≤ feeds xs
 feeds-take n xs = sum_by-take-le (λ b. cond (is_lf b) 1 0) xs n
@@ -121,21 +122,7 @@ count-open ws unclosed some =
 
 -- a front of a text that an LF ends has fewer LF
 fewer-feeds : (f : List ℕ) (x : ℕ) → last_byte f ≡ 10 → x < length f → feeds (take x f) < feeds f
-fewer-feeds f x closed short =
-    let rest : List ℕ = drop x f in
-    let some : 0 < length rest = omega (arith, length-drop x f) in
-    let split : rest ≡ take (length rest - 1) rest ++ 10 ∷ [] = split_last rest some
-    ∙ ap (λ c. take (length rest - 1) rest ++ c ∷ []) (last_byte-drop x f short ∙ closed) in
-    let one : feeds (10 ∷ []) ≡ 1 = refl in
-    omega (
-      arith,
-      ap feeds (sym (take-append-drop x f)),
-      feeds-append (take x f) rest,
-      ap feeds split,
-      feeds-append (take (length rest - 1) rest)
-          (10 ∷ []),
-      one,
-    )
+fewer-feeds f x closed short = grind (arith, common_steps, length-drop, split_last, last_byte-drop, take-append-drop, feeds-append)
 
 -- a cut of a text, of which the middle is shown without the LF that end it
 pub touched-in : (d f part rest ws : List ℕ) (k j : ℕ) (s : Stand) → d ≡ f ++ (part ++ rest) → Shortens part ws → (0 < length f → last_byte f ≡ 10)

@@ -6,6 +6,7 @@ use Rattle.snippet_splice.proofs.Common.{get_or_past, cases_Bool, cases_eq, ltb-
 use Rattle.snippet_splice.proofs.Common.{and_from, false_from_ne_true, le-leb, leb-true, both_ways, bytes_eq-Decides, IsCharBoundary-end}
 use Rattle.snippet_splice.proofs.Common.{IsCharBoundary-start, Decides, slice_range, option_map, IsUtf8, IsCharBoundary, is_character_border, is_sandwiched}
 use Rattle.snippet_splice.proofs.Common.{greatest_passing, kept_before, sandwich, IsSandwiched, IsSandwich, rules}
+use Rattle.snippet_splice.proofs.Common.{common_steps}
 
 -- ---- what a sandwich says of the replacement
 
@@ -25,17 +26,10 @@ same_front : (o r : List ℕ) (a : ℕ) (m : List ℕ) (b : ℕ) → IsSandwiche
 same_front o r a m b h = grind (arith, regroup, take_at, length-take-le)
 
 middle_is : (o r : List ℕ) (a : ℕ) (m : List ℕ) (b : ℕ) → IsSandwiched o r a m b → m ≡ slice_range r a (length r - (length o - a))
-middle_is o r a m b h =
-    let e : drop a r ≡ m ++ drop a o = ap (drop a) (h.whole ∙ regroup (take a o) m (drop a o))
-    ∙ drop_at (take a o) (m ++ drop a o) a (length-take-le a o h.border.0) in
-    let n : length r - (length o - a) - a ≡ length m = omega (arith, lengths o r a m b h, h.border.0) in
-    sym (ap (λ l. take (length r - (length o - a) - a) l) e ∙ ap (λ k. take k (m ++ drop a o)) n ∙ take_at m (drop a o) (length m) refl)
+middle_is o r a m b h = grind (arith, common_steps, regroup, drop_at, length-take-le, lengths, take_at)
 
 same_end : (o r : List ℕ) (a : ℕ) (m : List ℕ) (b : ℕ) → IsSandwiched o r a m b → drop (length r - (length o - a)) r ≡ drop a o
-same_end o r a m b h =
-    let n : length (take a o ++ m) ≡ length r - (length o - a) = omega
-    (arith, lengths o r a m b h, h.border.0, length-append (take a o) m, length-take-le a o h.border.0) in
-    ap (drop (length r - (length o - a))) h.whole ∙ drop_at (take a o ++ m) (drop a o) (length r - (length o - a)) n
+same_end o r a m b h = grind (arith, common_steps, lengths, length-append, length-take-le, drop_at)
 
 -- ---- the three ways
 
@@ -45,13 +39,7 @@ IsSandwich-begins o r rest e = grind (arith, take_all, le_refl, drop_all, append
 
 -- a replacement that ends with the original, and doesn't begin with it, keeps all of it at the back
 pub IsSandwich-ends : (o r front : List ℕ) → IsUtf8 o → r ≡ front ++ o → ((rest : List ℕ) → r ≢ o ++ rest) → IsSandwich o r 0 front (length o)
-IsSandwich-ends o r front utf8 e begins =
-    record {
-      is = record { border = IsCharBoundary-start o utf8; parts = omega arith; whole = e };
-      all_before = λ m h. absurd (begins m (IsSandwiched-prefix o r m 0 h));
-      all_after = λ below m _. refl;
-      longest = λ some a m b h. absurd (omega arith);
-    }
+IsSandwich-ends o r front utf8 e begins = grind (arith, common_steps, IsCharBoundary-start, IsSandwiched-prefix)
 
 -- the longest common prefix of whole characters
 pub record IsCommonPrefix (o r : List ℕ) (n : ℕ) : Type 0 where
@@ -61,20 +49,12 @@ pub record IsCommonPrefix (o r : List ℕ) (n : ℕ) : Type 0 where
   pub longest : (k : ℕ) → IsCharBoundary o k → k ≤ length r → take k o ≡ take k r → k ≤ n
 
 at_most_common : (o r : List ℕ) (n a : ℕ) (m : List ℕ) (b : ℕ) → IsCommonPrefix o r n → IsSandwiched o r a m b → a ≤ n
-at_most_common o r n a m b common h =
-    common.longest a h.border (omega (arith, lengths o r a m b h, h.border.0)) (sym (same_front o r a m b h))
+at_most_common o r n a m b common h = grind (arith, common_steps, lengths, same_front)
 
 IsSandwich-inside : (o r : List ℕ) (n : ℕ) (m : List ℕ) → IsCommonPrefix o r n → ((rest : List ℕ) → r ≢ o ++ rest) → ((front : List ℕ) → r ≢ front ++ o)
     → drop n r ≡ m ++ drop n o → IsSandwich o r n m (length (drop n o))
 IsSandwich-inside o r n m common begins ends e =
-    let whole : r ≡ take n o ++ m ++ drop n o = sym (take-append-drop n r) ∙ ap (λ l. l ++ drop n r) (sym common.same) ∙ ap (λ l. take n o ++ l) e
-    ∙ sym (regroup (take n o) m (drop n o)) in
-    record {
-      is = record { border = common.border; parts = omega (arith, length-drop n o, common.border.0); whole = whole };
-      all_before = λ m h. absurd (begins m (IsSandwiched-prefix o r m 0 h));
-      all_after = λ below m h. absurd (ends m (ends-with o r m (length o) h));
-      longest = λ some a m b h. at_most_common o r n a m b common h;
-    }
+    grind (arith, common_steps, take-append-drop, regroup, length-drop, IsSandwiched-prefix, ends-with, at_most_common)
 
 sandwiched-inside : (o r : List ℕ) (n : ℕ) → IsCommonPrefix o r n → ((front : List ℕ) → drop n r ≢ front ++ drop n o) → (a : ℕ) (m : List ℕ) (b : ℕ)
     → IsSandwiched o r a m b → ⊥
@@ -102,10 +82,7 @@ sandwiched-parts o r n rest tail common of_o of_r none =
 -- a replacement that isn't longer than the original, and doesn't begin with it, isn't the original with a text put in
 pub sandwiched-longer : (o r : List ℕ) → length r ≤ length o → ((rest : List ℕ) → r ≢ o ++ rest)
     → (a : ℕ) (m : List ℕ) (b : ℕ) → IsSandwiched o r a m b → ⊥
-sandwiched-longer o r few other a [] b s =
-    let same : take a o ++ [] ++ drop a o ≡ o ++ [] = ap (λ l. l ++ drop a o) (append-nil (take a o))
-    ∙ take-append-drop a o ∙ sym (append-nil o) in
-    other [] (s.whole ∙ same)
+sandwiched-longer o r few other a [] b s = grind (arith, append-nil (take a o), append-nil o, take-append-drop a o)
 sandwiched-longer o r few other a (x ∷ m) b s = grind (arith, length-take-le, length-append, length-drop)
 
 -- ---- the test
@@ -133,10 +110,7 @@ test-true o r a t =
     }
 
 test-from : (o r : List ℕ) (a : ℕ) (m : List ℕ) (b : ℕ) → IsSandwiched o r a m b → is_sandwiched o r a ≡ true
-test-from o r a m b h =
-    and_from _ _ (and_from _ _ (and_from _ _ ((border-test o a).1 h.border) (le-leb (length o) (length r) (omega (arith, lengths o r a m b h))))
-    ((bytes_eq-Decides (take a r) (take a o)).1 (same_front o r a m b h)))
-    ((bytes_eq-Decides (drop (length r - (length o - a)) r) (drop a o)).1 (same_end o r a m b h))
+test-from o r a m b h = grind (arith, common_steps, and_from, border-test, le-leb, lengths, bytes_eq-Decides, same_front, same_end)
 
 -- ---- the greatest number that passes
 
@@ -187,11 +161,7 @@ kept_before-is o r a m b h =
 -- the way that is taken is the one that the definition computes
 pub sandwich-is : (o r : List ℕ) (a : ℕ) (m : List ℕ) (b : ℕ) → IsSandwich o r a m b → sandwich o r ≡ Some (a, m, b)
 unfolding sandwich
-sandwich-is o r a m b h =
-    let made : ℕ → ℕ × List ℕ × ℕ = λ n. (n, slice_range r n (length r - (length o - n)), length o - n) in
-    let middle : slice_range r a (length r - (length o - a)) ≡ m = sym (middle_is o r a m b h.is) in
-    let after : length o - a ≡ b = omega (arith, h.is.parts) in
-    ap (option_map made) (kept_before-is o r a m b h) ∙ ap (λ l. Some (a, l, length o - a)) middle ∙ ap (λ n. Some (a, m, n)) after
+sandwich-is o r a m b h = grind (arith, middle_is o r a m b h.is, kept_before-is o r a m b h)
 
 kept_before-none : (o r : List ℕ) → ((k : ℕ) → is_sandwiched o r k ≡ false) → kept_before o r ≡ None
 unfolding kept_before
@@ -200,8 +170,7 @@ kept_before-none o r none = grind (arith, cond-false, greatest-none)
 -- where there is no way none is computed
 pub sandwich-none : (o r : List ℕ) → ((a : ℕ) (m : List ℕ) (b : ℕ) → IsSandwiched o r a m b → ⊥) → sandwich o r ≡ None
 unfolding sandwich
-sandwich-none o r none =
-    ap (option_map _) (kept_before-none o r (λ k. false_from_ne_true (is_sandwiched o r k) (λ t. none k _ _ (test-true o r k t))))
+sandwich-none o r none = cc (kept_before-none o r (λ k. false_from_ne_true (is_sandwiched o r k) (λ t. none k _ _ (test-true o r k t))))
 
 kept_before-passes : (o r : List ℕ) (a : ℕ) → kept_before o r ≡ Some a → is_sandwiched o r a ≡ true
 unfolding kept_before

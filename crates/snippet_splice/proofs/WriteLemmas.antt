@@ -1,11 +1,11 @@
 -- Laws of what is written for edits, and of the end of the text that is shown.
-use Rattle.snippet_splice.proofs.Common.{◌≡◌, ◌≢◌, ℕ, suc, ◌+◌, ◌-◌, ◌<◌, ◌≤◌, Bool, false, cond, ◌&&◌, eqb, List, [], ◌∷◌, ◌++◌, length, map, take, drop}
-use Rattle.snippet_splice.proofs.Common.{get_or, count_by, refl, sym, ap, subst, ◌∙◌, ⊎_elim, arith, append_assoc, zero-add, ◌==◌, if◌then◌else◌}
-use Rattle.snippet_splice.proofs.Common.{length-append, take_at, take-take, drop_at, get_or_at, length_push, IsUtf8-take, IsUtf8-drop}
-use Rattle.snippet_splice.proofs.Common.{IsCharBoundary-before_ascii, IsCharBoundary-after_ascii, IsUtf8, sum_by-append, sum_by-cons, cases_Bool, cond-true}
-use Rattle.snippet_splice.proofs.Common.{cond-false, and_parts, and_left, eqb-true, ne_eqb, is_lf, last_byte, IsSpanBorder, LineRange, TrimmedPatch, Edit}
-use Rattle.snippet_splice.proofs.Common.{trimmed_edit_of, AreApart, in_text, with_line_feeds, copied, written_from, written_ranges, end_from}
-use Rattle.snippet_splice.proofs.Common.{unless_lone_line_feed, without_final_line_feeds, closes_line, rules}
+use Rattle.snippet_splice.proofs.Common.{◌≡◌, ◌≢◌, ℕ, suc, ◌+◌, ◌-◌, ◌<◌, ◌≤◌, false, cond, ◌&&◌, eqb, List, [], ◌∷◌, ◌++◌, length, map, take, drop, get_or}
+use Rattle.snippet_splice.proofs.Common.{count_by, refl, sym, ap, subst, ◌∙◌, arith, append_assoc, zero-add, ◌==◌, if◌then◌else◌, length-append, take_at}
+use Rattle.snippet_splice.proofs.Common.{take-take, drop_at, get_or_at, length_push, IsUtf8-take, IsUtf8-drop, IsCharBoundary-before_ascii}
+use Rattle.snippet_splice.proofs.Common.{IsCharBoundary-after_ascii, IsUtf8, sum_by-append, sum_by-cons, cond-true, cond-false, and_parts, and_left, eqb-true}
+use Rattle.snippet_splice.proofs.Common.{ne_eqb, is_lf, last_byte, IsSpanBorder, LineRange, TrimmedPatch, Edit, trimmed_edit_of, AreApart, in_text}
+use Rattle.snippet_splice.proofs.Common.{with_line_feeds, copied, written_from, written_ranges, end_from, unless_lone_line_feed, without_final_line_feeds}
+use Rattle.snippet_splice.proofs.Common.{closes_line, rules, common_steps}
 
 -- ---- an LF in place of each CR LF
 
@@ -53,15 +53,7 @@ utf8-front rest front after b utf8 ascii e =
 pub count-with_line_feeds : (xs : List ℕ) → count_by is_lf (with_line_feeds xs) ≡ count_by is_lf xs
 count-with_line_feeds [] = refl
 count-with_line_feeds (x ∷ xs) =
-    let t : Bool = eqb x 13 && eqb (get_or xs 0 0) 10 in
-    let one : ℕ → ℕ = λ b. cond (is_lf b) 1 0 in
-    ⊎_elim
-    (λ yes_it. let cr : x ≡ 13 = eqb-true x 13 (and_parts (eqb x 13) (eqb (get_or xs 0 0) 10) yes_it).0 in
-    let none : one x ≡ 0 = ap one cr in
-    ap (count_by is_lf) (cond-true t (with_line_feeds xs) (x ∷ with_line_feeds xs) yes_it) ∙ count-with_line_feeds xs
-    ∙ sym (sum_by-cons one x xs ∙ ap (λ n. n + count_by is_lf xs) none ∙ zero-add (count_by is_lf xs)))
-    (λ no_it. ap (count_by is_lf) (cond-false t (with_line_feeds xs) (x ∷ with_line_feeds xs) no_it) ∙ sum_by-cons one x (with_line_feeds xs)
-    ∙ ap (λ n. one x + n) (count-with_line_feeds xs) ∙ sym (sum_by-cons one x xs)) (cases_Bool t)
+    grind (arith, common_steps, eqb-true, and_parts, count_by, cond-true, sum_by-cons, zero-add, cond-false, count-with_line_feeds xs)
 
 -- ---- places of a text
 
