@@ -1,29 +1,26 @@
 -- Spans that are all marked on one line alone: it is the only line that is kept, and all entries stand on it.
-use Rattle.snippet_parts.proofs.Common.{◌≡◌, ℕ, ◌+◌, ◌-◌, ◌<◌, Bool, true, false, ◌&&◌, ◌||◌, cond, not, eqb, leb, List, []}
-use Rattle.snippet_parts.proofs.Common.{◌∷◌, ◌++◌, length, map, get_or, inl, inr, refl, sym, ap, ◌∙◌, arith, All, filter, list_any}
-use Rattle.snippet_parts.proofs.Common.{range_with_len, and-false, and_parts, cases_eq, cases_lt, eq-eqb, eqb-true, false≢true, le-leb, lt-leb, ne_eqb}
-use Rattle.snippet_parts.proofs.Common.{append-nil, All-nil, All-cons, All-head, All-tail, All-filter, All-map, filter-append, filter_agree, list_any_none}
-use Rattle.snippet_parts.proofs.Common.{Source, source_lines, text_at, ordered_by, Loc, line_of-within, Annotation, LineAnnotation, LocatedSpan, KeptLine}
-use Rattle.snippet_parts.proofs.Common.{annotated_lines, deepest, kept_line, long_parts, long_place, long_spans, made_parts, parts_on, single_part}
-use Rattle.snippet_parts.proofs.Common.{greatest_depth, has_bar, keeps, kept_lines, IsLocated, annotations_of, is_alone_on, is_long_span, is_short_span}
-use Rattle.snippet_parts.proofs.Common.{short_part, span_entry, is_marking, touches, first_line, last_line}
+use Rattle.snippet_parts.proofs.Common.{◌≡◌, ℕ, ◌+◌, ◌-◌, ◌<◌, Bool, true, false, ◌&&◌, ◌||◌, cond, not, eqb, leb, List, [], ◌∷◌, ◌++◌, length, map, get_or}
+use Rattle.snippet_parts.proofs.Common.{refl, sym, ap, ◌∙◌, arith, All, filter, list_any, range_with_len, and-false, and_parts, eq-eqb, eqb-true, false≢true}
+use Rattle.snippet_parts.proofs.Common.{le-leb, lt-leb, ne_eqb, append-nil, All-nil, All-cons, All-head, All-tail, All-filter, All-map, filter-append}
+use Rattle.snippet_parts.proofs.Common.{filter_agree, list_any_none, Source, source_lines, text_at, line_of-within, Annotation, LineAnnotation, LocatedSpan}
+use Rattle.snippet_parts.proofs.Common.{KeptLine, annotated_lines, deepest, kept_line, long_parts, long_place, long_spans, made_parts, parts_on, single_part}
+use Rattle.snippet_parts.proofs.Common.{greatest_depth, keeps, kept_lines, IsLocated, annotations_of, is_alone_on, is_long_span, is_short_span, short_part}
+use Rattle.snippet_parts.proofs.Common.{is_marking, touches, first_line, last_line}
 use Rattle.snippet_parts.proofs.KeptLemmas.{lines-split, range-none, range-split}
 use Rattle.snippet_parts.proofs.LocatedLemmas.{long-are, short-parts}
 use Rattle.snippet_parts.proofs.MarkLemmas.{start-line}
 use Rattle.snippet_parts.proofs.PartLemmas.{filter-none, list_any-map}
-use Rattle.snippet_parts.proofs.PartWords.{is_short, stands_before}
+use Rattle.snippet_parts.proofs.PartWords.{is_short}
 use Rattle.snippet_parts.proofs.ShownLemmas.{same-kept}
 
 -- ---- tests of lists
 
 -- where none fails a test, each passes it
 passed : (b c : Bool) → (not b || c) ≡ false → b ≡ true
-passed true c is = refl
-passed false c is = absurd (false≢true (sym is))
+passed x y z = grind (arith, false≢true)
 
 others : (b c : Bool) → (not b || c) ≡ false → c ≡ false
-others true c is = is
-others false c is = absurd (false≢true (sym is))
+others x y z = grind (arith, false≢true)
 
 none-fails : {X : Type 0} (p : X → Bool) (xs : List X) → list_any (λ x. not (p x)) xs ≡ false → All (λ x. p x ≡ true) xs
 none-fails p [] none = All-nil (λ x. p x ≡ true)
@@ -34,15 +31,11 @@ none-fails p (x ∷ xs) none =
 -- those that pass a test are all of some that do
 filter-passed : {X : Type 0} (p : X → Bool) (xs : List X) → All (λ x. p x ≡ true) xs → filter p xs ≡ xs
 filter-passed p [] all = refl
-filter-passed p (x ∷ xs) all =
-    ap (λ b. cond b (x ∷ filter p xs) (filter p xs)) (All-head (λ y. p y ≡ true) x xs all)
-    ∙ ap (λ ys. x ∷ ys) (filter-passed p xs (All-tail (λ y. p y ≡ true) x xs all))
+filter-passed p (x ∷ xs) all = grind (arith, All-head, All-tail, filter-passed p xs (All-tail (λ y. p y ≡ true) x xs all))
 
 -- whether one of some passes a test is what each answers
 any-same : {X : Type 0} (p : X → Bool) (b : Bool) (xs : List X) → 0 < length xs → All (λ x. p x ≡ b) xs → list_any p xs ≡ b
-any-same p true [] some all =
-    let none : 0 < 0 = some in
-    absurd (omega (arith, none))
+any-same p true [] some all = grind (arith)
 any-same p true (x ∷ xs) some all = ap (λ c. c || list_any p xs) (All-head (λ y. p y ≡ true) x xs all)
 any-same p false xs some all = list_any_none p xs all
 
@@ -50,8 +43,7 @@ any-same p false xs some all = list_any_none p xs all
 
 -- a span that stands on line k alone is marked, and its lines are that one
 alone-marked : (l : LocatedSpan) (k : ℕ) → is_alone_on k l ≡ true → is_marking l.annotation.now.kind ≡ true
-alone-marked l k alone =
-    (and_parts (is_marking l.annotation.now.kind) (eqb l.last l.first) (and_parts (is_short_span l) (eqb l.first k) alone).0).0
+alone-marked l k alone = grind (arith, and_parts)
 
 alone-same : (l : LocatedSpan) (k : ℕ) → is_alone_on k l ≡ true → eqb l.last l.first ≡ true
 alone-same l k alone = (and_parts (is_marking l.annotation.now.kind) (eqb l.last l.first) (and_parts (is_short_span l) (eqb l.first k) alone).0).1
@@ -67,44 +59,23 @@ last-is s l k at alone = sym at.last ∙ eqb-true l.last l.first (alone-same l k
 
 -- it keeps that line and no other
 here : (a b e m n : Bool) → a ≡ true → b ≡ true → e ≡ true → (a && b && (e || e || m || n)) ≡ e
-here true true true m n p q r = refl
-here false b e m n p q r = cc
-here a false e m n p q r = cc
-here a b false m n p q r = cc
+here x y z u v w a b = grind (arith)
 
 above : (a b e m n : Bool) → a ≡ false → e ≡ false → (a && b && (e || e || m || n)) ≡ e
-above false b false m n p q = refl
-above true b e m n p q = cc
-above a b true m n p q = cc
+above x y z u v w a = grind (arith)
 
 below : (a b e m n : Bool) → b ≡ false → e ≡ false → (a && b && (e || e || m || n)) ≡ e
-below true false false m n p q = refl
-below false false false m n p q = refl
-below a true e m n p q = cc
-below a b true m n p q = cc
+below x y z u v w a = grind (arith)
 
 keeps-at : (j k : ℕ) (m n : Bool) → (leb k j && leb j k && (eqb j k || eqb j k || m || n)) ≡ eqb j k
-keeps-at j k m n = elim (cases_eq j k) [
-  | inl same ↦ here (leb k j) (leb j k) (eqb j k) m n (le-leb k j (omega (arith, same))) (le-leb j k (omega (arith, same))) (eq-eqb j k same)
-  | inr apart ↦ elim (cases_lt j k) [
-    | inl before ↦ above (leb k j) (leb j k) (eqb j k) m n (lt-leb k j before) (ne_eqb j k apart)
-    | inr from ↦ below (leb k j) (leb j k) (eqb j k) m n (lt-leb j k (omega (arith, from, apart))) (ne_eqb j k apart)
-  ]
-]
+keeps-at j k m n = grind (arith, le-leb, eq-eqb, above, lt-leb, ne_eqb)
 
 keeps-one : (source : List ℕ) (a : Annotation) (k j : ℕ) → first_line source a ≡ k → last_line source a ≡ k → keeps source j a ≡ eqb j k
-keeps-one source a k j first last =
-    ap (λ f. leb f j && leb j (last_line source a)
-    && (eqb j f || eqb j (last_line source a) || not (is_marking a.kind) || has_bar source f (last_line source a) j)) first
-    ∙ ap (λ l. leb k j && leb j l && (eqb j k || eqb j l || not (is_marking a.kind) || has_bar source k l j)) last
-    ∙ keeps-at j k (not (is_marking a.kind)) (has_bar source k k j)
+keeps-one source a k j first last = grind (arith, keeps-at)
 
 -- its entry stands on it
 starts-on : (s : Source) (l : LocatedSpan) (k : ℕ) → IsLocated s l → is_alone_on k l ≡ true → eqb (short_part l).start.line (s.first + k) ≡ true
-starts-on s l k at alone =
-    let a : Annotation = l.annotation.now in
-    let line : l.start.line ≡ s.first + first_line s.text a = ap (λ (ends : Loc × Loc). ends.0.line) at.locations ∙ start-line s a.span.start a.span.end in
-    eq-eqb l.start.line (s.first + k) (line ∙ ap (λ n. s.first + n) (first-is s l k at alone))
+starts-on s l k at alone = grind (arith, start-line, eq-eqb, first-is)
 
 -- it isn't one of several lines
 not-long : (l : LocatedSpan) (k : ℕ) → is_alone_on k l ≡ true → is_long_span l ≡ false
@@ -116,12 +87,8 @@ abbrev AllAlone : ℕ → List LocatedSpan → Type 0
 AllAlone k ls = All (λ l. is_alone_on k l ≡ true) ls
 
 is-line : (s : Source) (ls : List LocatedSpan) (k : ℕ) → All (IsLocated s) ls → 0 < length ls → AllAlone k ls → k < length (source_lines s.text)
-is-line s [] k at some alone =
-    let none : 0 < 0 = some in
-    absurd (omega (arith, none))
-is-line s (l ∷ ls) k at some alone =
-    let is = first-is s l k (All-head (IsLocated s) l ls at) (All-head (λ x. is_alone_on k x ≡ true) l ls alone) in
-    omega (arith, is, line_of-within s.text l.annotation.now.span.start)
+is-line s [] k at some alone = grind (arith)
+is-line s (l ∷ ls) k at some alone = grind (arith, first-is, All-head, line_of-within)
 
 -- one number of a range is itself
 only-one : (n k : ℕ) → k < n → filter (λ j. eqb j k) (range_with_len 0 n) ≡ k ∷ []
@@ -153,16 +120,11 @@ kept-one s ls k at some alone =
 -- no span keeps it unmarked
 none-unmarked : (s : Source) (ls : List LocatedSpan) (k : ℕ) → AllAlone k ls
     → list_any (λ a. not (is_marking a.kind) && touches s.text a k) (annotations_of ls) ≡ false
-none-unmarked s ls k alone =
-    list_any-map (λ (a : Annotation). not (is_marking a.kind) && touches s.text a k) (λ (l : LocatedSpan). l.annotation.now) ls
-    ∙ list_any_none (λ (l : LocatedSpan). not (is_marking l.annotation.now.kind) && touches s.text l.annotation.now k) ls (λ i d inside.
-    ap (λ b. not b && touches s.text (get_or ls i d).annotation.now k) (alone-marked (get_or ls i d) k (alone i d inside)))
+none-unmarked s ls k alone = grind (arith, list_any-map, list_any_none, alone-marked)
 
 -- there are no spans of several lines
 no-longs : (s : Source) (ls : List LocatedSpan) (k : ℕ) → All (IsLocated s) ls → AllAlone k ls → long_spans s (annotations_of ls) ≡ []
-no-longs s ls k at alone =
-    sym (long-are s ls at) ∙ ap (λ (xs : List LocatedSpan). ordered_by stands_before (map span_entry xs))
-    (filter-none is_long_span ls (λ i d inside. not-long (get_or ls i d) k (alone i d inside)))
+no-longs s ls k at alone = grind (arith, long-are, filter-none, not-long)
 
 -- all entries stand on it
 parts-one : (s : Source) (ls : List LocatedSpan) (k : ℕ) → All (IsLocated s) ls → AllAlone k ls

@@ -1,8 +1,8 @@
 -- What stands in a list, and that the least and the greatest number of a list follow from it alone.
-use Rattle.snippet_parts.proofs.Common.{◌≡◌, ◌∙◌, ◌⊎◌, ℕ, zero, suc, ◌+◌, ◌<◌, ◌≤◌, Bool, true, ◌||◌, List, [], ◌∷◌}
-use Rattle.snippet_parts.proofs.Common.{◌++◌, Option, Some, None, map, fold, max, min, unwrap_or, refl, sym, ap, subst, inl, inr, arith, filter, flat_map}
-use Rattle.snippet_parts.proofs.Common.{list_all, list_any, cons_option, filter_map, range_with_len, cases_Bool, cases_lt, cond-true, cond-false, or_left}
-use Rattle.snippet_parts.proofs.Common.{or_right, and_parts, All-head, All-tail, put_in, ordered_by, least, greatest}
+use Rattle.snippet_parts.proofs.Common.{◌≡◌, ◌∙◌, ◌⊎◌, ℕ, zero, suc, ◌+◌, ◌<◌, ◌≤◌, Bool, true, ◌||◌, List, [], ◌∷◌, ◌++◌, Option, Some, map, fold, max}
+use Rattle.snippet_parts.proofs.Common.{unwrap_or, refl, sym, ap, subst, inl, inr, arith, filter, flat_map, list_all, list_any, cons_option, filter_map}
+use Rattle.snippet_parts.proofs.Common.{range_with_len, cases_Bool, cases_lt, cond-true, cond-false, or_left, or_right, and_parts, All-head, All-tail, put_in}
+use Rattle.snippet_parts.proofs.Common.{ordered_by, least, greatest}
 use Rattle.std.proofs.Common.{All}
 use Rattle.snippet_parts.proofs.LeastLemmas.{least_below}
 
@@ -34,8 +34,7 @@ among_right (z ∷ zs) ys x here = inr (among_right zs ys x here)
 pub append_cases : {X : Type 0} (xs ys : List X) (x : X) → Among (xs ++ ys) x → Among xs x ⊎ Among ys x
 append_cases [] ys x here = inr here
 append_cases (z ∷ zs) ys x (inl same) = inl (inl same)
-append_cases (z ∷ zs) ys x (inr later) =
-    elim (append_cases zs ys x later) [ inl left ↦ inl (inr left) | inr right ↦ inr right ]
+append_cases (z ∷ zs) ys x (inr later) = grind (arith, append_cases zs ys x later)
 
 -- what is made from an element is among what is made from all
 pub among_map : {X Y : Type 0} (f : X → Y) (xs : List X) (x : X) → Among xs x → Among (map f xs) (f x)
@@ -52,33 +51,18 @@ map_cases f (z ∷ zs) y (inr later) = let more = map_cases f zs y later in (mor
 -- an element that passes is among those that pass
 pub among_filter : {X : Type 0} (p : X → Bool) (xs : List X) (x : X) → Among xs x → p x ≡ true → Among (filter p xs) x
 among_filter p [] x here passes = here
-among_filter p (z ∷ zs) x (inl same) passes =
-    subst (λ ys. Among ys x) (sym (cond-true (p z) (z ∷ filter p zs) (filter p zs) (ap p same ∙ passes))) (inl same)
-among_filter p (z ∷ zs) x (inr later) passes =
-    elim (cases_Bool (p z)) [
-      | inl taken ↦ subst (λ ys. Among ys x) (sym (cond-true (p z) (z ∷ filter p zs) (filter p zs) taken)) (inr (among_filter p zs x later passes))
-      | inr left ↦ subst (λ ys. Among ys x) (sym (cond-false (p z) (z ∷ filter p zs) (filter p zs) left)) (among_filter p zs x later passes)
-    ]
+among_filter p (z ∷ zs) x (inl same) passes = grind (arith, cond-true)
+among_filter p (z ∷ zs) x (inr later) passes = grind (arith, cond-true, cond-false, among_filter p zs x later passes)
 
 -- what is among those that pass is an element, and passes
 pub filter_cases : {X : Type 0} (p : X → Bool) (xs : List X) (x : X) → Among (filter p xs) x → Among xs x × (p x ≡ true)
 filter_cases p [] x here = absurd here
-filter_cases p (z ∷ zs) x here =
-    elim (cases_Bool (p z)) [
-      | inl taken ↦ split taken (filter_cases p zs x) (subst (λ ys. Among ys x) (cond-true (p z) (z ∷ filter p zs) (filter p zs) taken) here)
-      | inr left ↦ (let more = filter_cases p zs x (subst (λ ys. Among ys x) (cond-false (p z) (z ∷ filter p zs) (filter p zs) left) here) in
-          (inr more.0, more.1))
-    ]
-  where
-    split : p z ≡ true → (Among (filter p zs) x → Among zs x × (p x ≡ true)) → Among (z ∷ filter p zs) x → Among (z ∷ zs) x × (p x ≡ true)
-    split taken rest (inl same) = (inl same, ap p (sym same) ∙ taken)
-    split taken rest (inr later) = let more = rest later in (inr more.0, more.1)
+filter_cases p (z ∷ zs) x here = grind (arith, cond-true, cond-false, filter_cases p zs x)
 
 -- what is among what one element gives is among what all give
 pub among_flat_map : {X Y : Type 0} (f : X → List Y) (xs : List X) (x : X) (y : Y) → Among xs x → Among (f x) y → Among (flat_map f xs) y
 among_flat_map f [] x y here inside = absurd here
-among_flat_map f (z ∷ zs) x y (inl same) inside =
-    among_left (f z) (flat_map f zs) y (subst (λ w. Among (f w) y) (sym same) inside)
+among_flat_map f (z ∷ zs) x y (inl same) inside = grind (arith, among_left)
 among_flat_map f (z ∷ zs) x y (inr later) inside = among_right (f z) (flat_map f zs) y (among_flat_map f zs x y later inside)
 
 -- what is among what all elements give is among what one gives
@@ -93,32 +77,11 @@ flat_map_cases f (z ∷ zs) y here =
 -- a list in order has the same elements
 among_put : {X : Type 0} (before : X → X → Bool) (y : X) (xs : List X) (x : X) → Among (y ∷ xs) x → Among (put_in before y xs) x
 among_put before y [] x here = here
-among_put before y (z ∷ zs) x here =
-    elim (cases_Bool (before z y)) [
-      | inl after ↦ subst (λ ys. Among ys x) (sym (cond-true (before z y) (z ∷ put_in before y zs) (y ∷ z ∷ zs) after)) (passed (among_put before y zs x) here)
-      | inr here' ↦ subst (λ ys. Among ys x) (sym (cond-false (before z y) (z ∷ put_in before y zs) (y ∷ z ∷ zs) here')) here
-    ]
-  where
-    passed : (Among (y ∷ zs) x → Among (put_in before y zs) x) → Among (y ∷ z ∷ zs) x → Among (z ∷ put_in before y zs) x
-    passed rest (inl same) = inr (rest (inl same))
-    passed rest (inr (inl same)) = inl same
-    passed rest (inr (inr later)) = inr (rest (inr later))
+among_put before y (z ∷ zs) x here = grind (arith, cond-true, cond-false, among_put before y zs x)
 
 put_cases : {X : Type 0} (before : X → X → Bool) (y : X) (xs : List X) (x : X) → Among (put_in before y xs) x → Among (y ∷ xs) x
 put_cases before y [] x here = here
-put_cases before y (z ∷ zs) x here =
-    elim (cases_Bool (before z y)) [
-      | inl after ↦ passed (put_cases before y zs x) (subst (λ ys. Among ys x) (cond-true (before z y) (z ∷ put_in before y zs) (y ∷ z ∷ zs) after) here)
-      | inr here' ↦ subst (λ ys. Among ys x) (cond-false (before z y) (z ∷ put_in before y zs) (y ∷ z ∷ zs) here') here
-    ]
-  where
-    moved : Among (y ∷ zs) x → Among (y ∷ z ∷ zs) x
-    moved (inl same) = inl same
-    moved (inr later) = inr (inr later)
-
-    passed : (Among (put_in before y zs) x → Among (y ∷ zs) x) → Among (z ∷ put_in before y zs) x → Among (y ∷ z ∷ zs) x
-    passed rest (inl same) = inr (inl same)
-    passed rest (inr later) = moved (rest later)
+put_cases before y (z ∷ zs) x here = grind (arith, cond-true, cond-false, put_cases before y zs x)
 
 -- an element is among those in order
 pub among_in_order : {X : Type 0} (before : X → X → Bool) (xs : List X) (x : X) → Among xs x → Among (ordered_by before xs) x
@@ -163,29 +126,20 @@ all_pass p (z ∷ zs) x all (inl same) = ap p (sym same) ∙ (and_parts (p z) (l
 all_pass p (z ∷ zs) x all (inr later) = all_pass p zs x (and_parts (p z) (list_all p zs) all).1 later
 
 among_after : {X : Type 0} (o : Option X) (xs : List X) (x : X) → Among xs x → Among (cons_option o xs) x
-among_after None xs x here = here
-among_after (Some w) xs x here = inr here
+among_after x y z u = grind (arith)
 
 -- what a partial function gives of an element
 pub among_filter_map : {X Y : Type 0} (h : X → Option Y) (xs : List X) (x : X) (y : Y) → Among xs x → h x ≡ Some y → Among (filter_map h xs) y
 among_filter_map h [] x y here is = absurd here
-among_filter_map h (z ∷ zs) x y (inl same) is =
-    subst (λ o. Among (cons_option o (filter_map h zs)) y) (sym (ap h same ∙ is)) (inl refl)
-among_filter_map h (z ∷ zs) x y (inr later) is =
-    among_after (h z) (filter_map h zs) y (among_filter_map h zs x y later is)
+among_filter_map h (z ∷ zs) x y (inl same) is = grind (arith)
+among_filter_map h (z ∷ zs) x y (inr later) is = grind (arith, among_after, among_filter_map h zs x y later is)
 
 -- ---- the least and the greatest number of a list
 
 -- the least of some numbers is one of them
 pub least-among : (n : ℕ) (ns : List ℕ) → Among (n ∷ ns) (unwrap_or (least (n ∷ ns)) 0)
 least-among n [] = inl refl
-least-among n (m ∷ ns) =
-    let rest : ℕ = unwrap_or (least (m ∷ ns)) 0 in
-    let is : unwrap_or (least (n ∷ m ∷ ns)) 0 ≡ min n rest = refl in
-    elim (cases_lt n rest) [
-      | inl less ↦ inl (omega (arith, is))
-      | inr more ↦ inr (subst (Among (m ∷ ns)) (omega (arith, is)) (least-among m ns))
-    ]
+least-among n (m ∷ ns) = grind (arith, unwrap_or, least-among m ns)
 
 -- the least number is no greater than any
 pub least_le : (ns : List ℕ) (n : ℕ) → Among ns n → unwrap_or (least ns) 0 ≤ n
@@ -218,22 +172,11 @@ top_above m (n ∷ ns) c (inr later) = top_above (max m n) ns c later
 
 top_among : (m : ℕ) (ns : List ℕ) → (top m ns ≡ m) ⊎ Among ns (top m ns)
 top_among m [] = inl refl
-top_among m (n ∷ ns) =
-    elim (top_among (max m n) ns) [
-      | inl first ↦ elim (cases_lt m n) [
-        | inl more ↦ inr (inl (omega (arith, first)))
-        | inr less ↦ inl (omega (arith, first))
-      ]
-      | inr later ↦ inr (inr later)
-    ]
+top_among m (n ∷ ns) = grind (arith, top_among (max m n) ns)
 
 -- no greater number stands in a list that has each element of another
 greatest_le : (ns ms : List ℕ) → ((c : ℕ) → Among ns c → Among ms c) → greatest ns ≤ greatest ms
-greatest_le ns ms there =
-    elim (top_among 0 ns) [
-      | inl none ↦ omega (arith, none)
-      | inr here ↦ top_above 0 ms (greatest ns) (there (greatest ns) here)
-    ]
+greatest_le ns ms there = grind (arith, top_among, top_above)
 
 -- lists of the same numbers have the same greatest
 pub greatest_same : (ns ms : List ℕ) → ((c : ℕ) → Among ns c → Among ms c) → ((c : ℕ) → Among ms c → Among ns c) → greatest ns ≡ greatest ms
@@ -241,5 +184,4 @@ greatest_same ns ms there back = omega (arith, greatest_le ns ms there, greatest
 
 -- nor is the greatest of numbers that all are at most so great
 pub greatest_most : (ns : List ℕ) (most : ℕ) → ((n : ℕ) → Among ns n → n ≤ most) → greatest ns ≤ most
-greatest_most ns most each =
-    elim (top_among 0 ns) [ inl none ↦ omega (arith, none) | inr here ↦ each (greatest ns) here ]
+greatest_most ns most each = grind (arith, top_among)

@@ -1,15 +1,11 @@
 -- Which lines have bars.
-use Rattle.snippet_parts.proofs.Common.{◌≡◌, ℕ, zero, suc, ◌+◌, ◌-◌, ◌<◌, ◌≤◌, Bool, true, false, ◌||◌, leb, inl, inr, sym, ap}
-use Rattle.snippet_parts.proofs.Common.{◌∙◌, arith, list_any, range_with_len, cases_Bool, cases_lt, or_left, or_right, le-leb, lt-leb}
+use Rattle.snippet_parts.proofs.Common.{◌≡◌, ℕ, zero, suc, ◌+◌, ◌-◌, ◌<◌, ◌≤◌, Bool, true, false, ◌||◌, leb, inl, inr, sym, ◌∙◌, arith, list_any}
+use Rattle.snippet_parts.proofs.Common.{range_with_len, cases_Bool, cases_lt, or_left, or_right, le-leb, lt-leb}
 
 -- one of the lines from `from` up to, but not including, `to` passes a test
 pub any-hit : (p : ℕ → Bool) (from n at : ℕ) → from ≤ at → at < from + n → p at ≡ true → list_any p (range_with_len from n) ≡ true
 any-hit p from zero at low high hit = absurd (omega arith)
-any-hit p from (suc n) at low high hit =
-    elim (cases_lt from at) [
-      | inl more ↦ or_right (p from) (list_any p (range_with_len (from + 1) n)) (any-hit p (from + 1) n at (omega arith) (omega arith) hit)
-      | inr less ↦ let same : from ≡ at = omega arith in or_left (p from) (list_any p (range_with_len (from + 1) n)) (ap p same ∙ hit)
-    ]
+any-hit p from (suc n) at low high hit = grind (arith, or_right, or_left, any-hit p (from + 1) n)
 
 -- none of fewer lines passes it
 pub any-fewer : (p : ℕ → Bool) (i k m : ℕ) → i ≤ k → list_any p (range_with_len i (m - i)) ≡ false → list_any p (range_with_len k (m - k)) ≡ false
@@ -51,9 +47,4 @@ bars_none p i first m k is past none = lt-leb k first past ∙ sym (any-fewer p 
 
 pub bars_more : (p : ℕ → Bool) (i at m : ℕ) → i ≡ at + 1 → at < m → list_any p (range_with_len i (m - i)) ≡ false → p at ≡ false
     → list_any p (range_with_len at (m - at)) ≡ false
-bars_more p i at m is within none trivial =
-    ap (λ n. list_any p (range_with_len at n)) len ∙ ap (λ b. b || list_any p (range_with_len (at + 1) (m - i))) trivial
-    ∙ ap (λ n. list_any p (range_with_len n (m - i))) (sym is) ∙ none
-  where
-    len : m - at ≡ suc (m - i)
-    len = omega arith
+bars_more p i at m is within none trivial = grind (arith)

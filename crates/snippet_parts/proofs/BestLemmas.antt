@@ -68,11 +68,7 @@ best-new source marks k p a new at width kind least wins = record {
 -- the first span that is marked there
 pub best-first : (source : List ℕ) (marks : List Annotation) (k p : ℕ) (a : Annotation) (new : Mark) → IsMarkedAt source k p a → new.width ≡ span_width source a
     → new.kind ≡ a.kind → All (λ a. IsMarkedAt source k p a → ⊥) marks → IsBest source (marks ++ a ∷ []) k p new
-best-first source marks k p a new at width kind none =
-    let not : (other : Annotation) → Contains marks other → IsMarkedAt source k p other → ⊥ = λ other found.
-    All-contains (λ a. IsMarkedAt source k p a → ⊥) marks other none found in
-    best-new source marks k p a new at width kind (λ other found there. absurd (not other found there)) (λ _ other found there _.
-    absurd (not other found there))
+best-first source marks k p a new at width kind none = grind (arith, All-contains, best-new)
 
 -- a span that is narrower than the best before it, or primary and as wide
 pub best-narrower : (source : List ℕ) (marks : List Annotation) (k p : ℕ) (a : Annotation) (new best : Mark) → IsMarkedAt source k p a
@@ -86,8 +82,7 @@ best-narrower source marks k p a new best at width kind narrow narrower before =
 -- one more turn
 pub best-turn : (source : List ℕ) (marks : List Annotation) (i k p : ℕ) (a : Annotation) (best : Option Mark) → i < length marks → a ≡ get_or marks i a
     → BestOf source (take i marks ++ a ∷ []) k p best → BestOf source (take (i + 1) marks) k p best
-best-turn source marks i k p a best within is now =
-    subst (λ marks. BestOf source marks k p best) (sym (take_more marks i a within ∙ ap (λ a. take i marks ++ a ∷ []) (sym is))) now
+best-turn source marks i k p a best within is now = grind (arith, take_more)
 
 -- what is answered of all spans: the kind of the best one
 pub answer-mark : (s : Source) (marks : List Annotation) (i line p : ℕ) (best : Option Mark) (result : Option AnnotationKind) → length marks ≤ i
@@ -108,5 +103,4 @@ answer-none s marks i line p (Some best) result all is bests = rw is tt
 -- what holds of a best mark holds of its kind
 pub answer-number : (best : Option Mark) (result : Option AnnotationKind) (P : Type 0) → result ≡ option_map (λ (m : Mark). m.kind) best → IfSome best (λ _. P)
     → IfSome result (λ _. P)
-answer-number None result P is some = rw is tt
-answer-number (Some best) result P is some = rw is some
+answer-number x y z u v = grind (arith)

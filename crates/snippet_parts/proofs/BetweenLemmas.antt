@@ -1,9 +1,9 @@
 -- The lines that are shown: those that are kept, and each single line between two of them.
-use Rattle.snippet_parts.proofs.Common.{◌≡◌, ℕ, zero, suc, ◌+◌, ◌-◌, ◌<◌, ◌≤◌, Bool, true, false, ◌&&◌, ◌||◌, cond, not, eqb}
-use Rattle.snippet_parts.proofs.Common.{leb, ltb, Option, Some, None, List, [], ◌∷◌, ◌++◌, map, length, inl, inr, refl, sym, ap, subst, ◌∙◌}
-use Rattle.snippet_parts.proofs.Common.{arith, All, filter, list_any, range_with_len, option_map, option_to_list, cases_Bool, cases_eq, cond-true, cond-false}
-use Rattle.snippet_parts.proofs.Common.{and_from, or_parts, eq-eqb, ne_eqb, le-leb, lt-ltb, Annotation, KeptLine, annotated_lines, kept_line, parts_on}
-use Rattle.snippet_parts.proofs.Common.{lines_between, keeps, shown_lines, with_between, Source, source_lines, text_at, line_at, is_marking, touches, IsSpan}
+use Rattle.snippet_parts.proofs.Common.{◌≡◌, ℕ, zero, suc, ◌+◌, ◌-◌, ◌<◌, ◌≤◌, Bool, false, ◌&&◌, cond, not, eqb, Option, Some, None, List, [], ◌∷◌, ◌++◌}
+use Rattle.snippet_parts.proofs.Common.{map, length, inl, inr, refl, sym, ap, subst, ◌∙◌, arith, All, filter, list_any, range_with_len, cases_Bool, cases_eq}
+use Rattle.snippet_parts.proofs.Common.{cond-true, cond-false, and_from, or_parts, eq-eqb, ne_eqb, le-leb, lt-ltb, Annotation, KeptLine, annotated_lines}
+use Rattle.snippet_parts.proofs.Common.{kept_line, parts_on, lines_between, shown_lines, with_between, Source, source_lines, text_at, line_at, is_marking}
+use Rattle.snippet_parts.proofs.Common.{touches, IsSpan}
 use Rattle.snippet_parts.proofs.KeptPartLemmas.{none-unkept, unseen-unkept}
 use Rattle.snippet_parts.proofs.ShownLemmas.{same-kept}
 
@@ -20,41 +20,21 @@ rest_between j (k ∷ ks) = cond (eqb k (j + 2)) ((j + 1) ∷ k ∷ rest_between
 -- numbers with those between begin with the first
 pub between-rest : (j : ℕ) (ks : List ℕ) → with_between (j ∷ ks) ≡ j ∷ rest_between j ks
 between-rest j [] = refl
-between-rest j (k ∷ ks) = ap (λ ls. cond (eqb k (j + 2)) (j ∷ (j + 1) ∷ ls) (j ∷ ls)) (between-rest k ks) ∙ both (eqb k (j + 2))
-  where
-    both : (b : Bool)
-        → cond b (j ∷ (j + 1) ∷ k ∷ rest_between k ks) (j ∷ k ∷ rest_between k ks) ≡ j ∷ cond b ((j + 1) ∷ k ∷ rest_between k ks) (k ∷ rest_between k ks)
-    both true = refl
-    both false = refl
+between-rest j (k ∷ ks) = grind (arith, between-rest k ks)
 
 -- a line that no span keeps is seen without entries
 abbrev pub IsPlain : Source → List Annotation → ℕ → Type 0
 IsPlain s marks k = (parts_on s marks k ≡ []) × (list_any (λ a. not (is_marking a.kind) && touches s.text a k) marks ≡ false)
 
 text-there : (s : Source) (number k : ℕ) → number ≡ s.first + k → k < length (source_lines s.text) → line_at s number ≡ Some (text_at (source_lines s.text) k)
-text-there s number k is within =
-    let there : (leb s.first number && ltb (number - s.first) (length (source_lines s.text))) ≡ true =
-    and_from (leb s.first number) (ltb (number - s.first) (length (source_lines s.text))) (le-leb s.first number (omega arith))
-    (lt-ltb (number - s.first) (length (source_lines s.text)) (omega arith)) in
-    let at : number - s.first ≡ k = omega arith in
-    cond-true (leb s.first number && ltb (number - s.first) (length (source_lines s.text)))
-    (Some (text_at (source_lines s.text) (number - s.first))) None there ∙ ap (λ i. Some (text_at (source_lines s.text) i)) at
+text-there s number k is within = grind (arith, and_from, le-leb, lt-ltb, cond-true)
 
 single-line : (s : Source) (marks : List Annotation) (j k : ℕ) → k ≡ j + 2 → k < length (source_lines s.text) → IsPlain s marks (j + 1)
     → lines_between s (Some (s.first + j)) (s.first + k) ≡ kept_line s marks (j + 1) ∷ []
-single-line s marks j k next within plain =
-    let at : s.first + j + 1 ≡ s.first + (j + 1) = omega arith in
-    let line = λ (text : List ℕ). (let l : KeptLine = record { number = s.first + j + 1; text = text; parts = []; keep = false } in l) in
-    ap option_to_list (cond-true (eqb (s.first + k) (s.first + j + 2)) (option_map line (line_at s (s.first + j + 1))) None
-    (eq-eqb (s.first + k) (s.first + j + 2) (omega arith)) ∙ ap (option_map line) (text-there s (s.first + j + 1) (j + 1) at (omega arith)))
-    ∙ ap (λ l. l ∷ []) (same-kept (s.first + j + 1) (s.first + (j + 1)) (text_at (source_lines s.text) (j + 1)) (text_at (source_lines s.text) (j + 1)) []
-    (parts_on s marks (j + 1)) false (list_any (λ a. not (is_marking a.kind) && touches s.text a (j + 1)) marks) at refl (sym plain.0) (sym plain.1))
+single-line s marks j k next within plain = grind (arith, cond-true, eq-eqb, text-there, same-kept)
 
 no_line : (s : Source) (j k : ℕ) → (k ≡ j + 2 → ⊥) → lines_between s (Some (s.first + j)) (s.first + k) ≡ []
-no_line s j k apart =
-    ap option_to_list (cond-false (eqb (s.first + k)
-    (s.first + j + 2)) (option_map (λ text. (let l : KeptLine = record { number = s.first + j + 1; text = text; parts = []; keep = false } in l))
-    (line_at s (s.first + j + 1))) None (ne_eqb (s.first + k) (s.first + j + 2) (λ same. apart (omega arith))))
+no_line s j k apart = grind (arith, cond-false, ne_eqb)
 
 rest_is : (s : Source) (marks : List Annotation) (p : ℕ → Bool) (plain : (k : ℕ) → p k ≡ false → IsPlain s marks k) (j a n : ℕ) → j < a
     → ((i : ℕ) → j < i → i < a → p i ≡ false) → a + n ≤ length (source_lines s.text)
@@ -110,10 +90,7 @@ all-is s marks p plain a (suc n) within =
 -- the lines that are kept with each single line between two are those that are shown
 pub filled-shown : (fold : Bool) (s : Source) (marks : List Annotation) → All (λ a. IsSpan s.text a.span.start a.span.end) marks
     → filled s None (annotated_lines fold s marks) ≡ map (kept_line s marks) (shown_lines fold s.text marks)
-filled-shown fold s marks spans =
-    all-is s marks (λ k. not fold || list_any (keeps s.text k) marks)
-    (λ k gone. let none : list_any (keeps s.text k) marks ≡ false = (or_parts (not fold) (list_any (keeps s.text k) marks) gone).1 in
-    (none-unkept s marks k spans none, unseen-unkept s marks k none)) 0 (length (source_lines s.text)) (omega arith)
+filled-shown fold s marks spans = grind (arith, all-is, or_parts, none-unkept, unseen-unkept)
 
 -- ---- worked
 

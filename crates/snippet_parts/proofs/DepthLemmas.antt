@@ -1,9 +1,9 @@
 -- The depths of spans of several lines: how great they are, where they differ, and the longest chain.
-use Rattle.snippet_parts.proofs.Common.{◌≡◌, ℕ, zero, suc, ◌+◌, ◌-◌, ◌<◌, ◌≤◌, Bool, true, false, ◌||◌, cond, leb, max, fold}
-use Rattle.snippet_parts.proofs.Common.{take, drop, add-one, ◌++◌, List, [], ◌∷◌, map, length, get_or, set, inl, inr, refl, sym, ap, subst, ◌∙◌}
-use Rattle.snippet_parts.proofs.Common.{arith, All, Contains, list_any, cases_Bool, cases_lt, and_from, and_parts, cond-true, cond-false, both_ways, take_at}
-use Rattle.snippet_parts.proofs.Common.{length-map, get_or-map, greatest, LongExtent, same_place, share_line, places_of, raw_depth, raw_depth_among}
-use Rattle.snippet_parts.proofs.Common.{greatest_raw_depth, greatest_depth, depth_among, SharesWithFirst, IsChainOf, IsLongestChain, raw_depths, map-map}
+use Rattle.snippet_parts.proofs.Common.{◌≡◌, ℕ, zero, suc, ◌+◌, ◌-◌, ◌<◌, ◌≤◌, Bool, true, false, ◌||◌, cond, max, fold, take, drop, add-one, ◌++◌, List, []}
+use Rattle.snippet_parts.proofs.Common.{◌∷◌, map, length, get_or, set, inl, inr, refl, sym, ap, subst, ◌∙◌, arith, All, Contains, list_any, cases_Bool}
+use Rattle.snippet_parts.proofs.Common.{cases_lt, and_from, and_parts, cond-true, cond-false, both_ways, take_at, length-map, get_or-map, greatest}
+use Rattle.snippet_parts.proofs.Common.{LongExtent, same_place, share_line, places_of, raw_depth, raw_depth_among, greatest_raw_depth, greatest_depth}
+use Rattle.snippet_parts.proofs.Common.{depth_among, SharesWithFirst, IsChainOf, IsLongestChain, raw_depths, map-map}
 use Rattle.snippet_parts.proofs.RawDepthLemmas.{among_after, among-most, among-new, any-at, fold-max, greatest-bound, greatest-is, length-raw_depths}
 use Rattle.snippet_parts.proofs.RawDepthLemmas.{places-bound, raw_depths-are, same-true}
 use Rattle.snippet_parts.proofs.DepthSearchLemmas.{near_max-after, no_place, raw_depth-near, raw_depth-some}
@@ -12,8 +12,7 @@ use Rattle.snippet_parts.proofs.DepthSearchLemmas.{near_max-after, no_place, raw
 
 -- depths that are counted from the greatest raw one are those of the places
 pub depths-are : (ps : List LongExtent) → map (λ raw. greatest_depth ps - raw + 1) (raw_depths ps) ≡ map (depth_among ps) ps
-depths-are ps = ap (map (λ raw. greatest_depth ps - raw + 1)) (raw_depths-are ps)
-    ∙ map-map (λ raw. greatest_depth ps - raw + 1) (raw_depth_among (places_of ps)) ps
+depths-are ps = grind (arith, raw_depths-are, map-map)
 
 -- the greatest depth is at most the count of places
 pub greatest-depth-bound : (ps : List LongExtent) → greatest_depth ps ≤ length ps
@@ -49,8 +48,7 @@ depths-within ps k d below =
     (omega arith, omega arith)
 
 share-swap : (p q : LongExtent) → share_line p q ≡ true → share_line q p ≡ true
-share-swap p q share =
-    let parts = and_parts (leb p.first q.last) (leb q.first p.last) share in and_from (leb q.first p.last) (leb p.first q.last) parts.1 parts.0
+share-swap p q share = grind (arith, and_parts, and_from)
 
 -- spans that share a line and differ in place have different raw depths
 raw-apart : (ps : List LongExtent) (p q : LongExtent) → list_any (same_place p) ps ≡ true → list_any (same_place q) ps ≡ true → share_line p q ≡ true
@@ -101,10 +99,7 @@ depths-distinct ps p q among-p among-q share same =
 chain-short : (p : LongExtent) (ps chain : List LongExtent) → IsChainOf ps chain → SharesWithFirst p chain → length chain + 1 ≤ raw_depth p ps
 chain-short p [] chain is linked = omega (arith, ap length is)
 chain-short p (q ∷ ps) chain (inl is) linked = omega (arith, chain-short p ps chain is linked)
-chain-short p (q ∷ ps) chain (inr (rest, begins, first, is)) linked =
-    let share : share_line p q ≡ true = subst (SharesWithFirst p) begins linked in
-    let e : cond (share_line p q) (raw_depth q ps + 1) 1 ≡ raw_depth q ps + 1 = cond-true (share_line p q) (raw_depth q ps + 1) 1 share in
-    omega (arith, ap length begins, chain-short q ps rest is first)
+chain-short p (q ∷ ps) chain (inr (rest, begins, first, is)) linked = grind (arith, cond-true, chain-short q ps rest is first)
 
 any-chain-short : (ps chain : List LongExtent) → IsChainOf ps chain → length chain ≤ greatest_raw_depth ps
 any-chain-short [] chain is = omega (arith, ap length is)
@@ -184,9 +179,7 @@ turn-more f old now i is within =
 
 -- a list that was mapped through a borrow of it
 pub mapped : (f : ℕ → ℕ) (xs lent now : List ℕ) (n : ℕ) → lent ≡ xs → now ≡ map f lent → n ≡ length xs → take n (now ++ drop (length now) xs) ≡ map f xs
-mapped f xs lent now n is value len =
-    let e : length now ≡ n = ap length value ∙ length-map lent f ∙ ap length is ∙ sym len in
-    take_at now (drop (length now) xs) n e ∙ value ∙ ap (map f) is
+mapped f xs lent now n is value len = grind (arith, length-map, take_at)
 
 -- no raw depth is greater than the greatest depth
 pub raw-most : (ps : List LongExtent) → All (λ raw. raw ≤ greatest_depth ps) (raw_depths ps)

@@ -52,37 +52,7 @@ raw_depth-some p (q ∷ qs) = let h : 1 ≤ raw_depth p qs = raw_depth-some p qs
 pub raw_depth-near : (p : LongExtent) (ps : List LongExtent) → raw_depth p (places_of ps) ≡ near_max p ps + 1
 unfolding near_max
 raw_depth-near p [] = omega arith
-raw_depth-near p (q ∷ ps) =
-    let h : raw_depth p (places_of ps) ≡ near_max p ps + 1 = raw_depth-near p ps in
-    elim (cases_Bool (list_any (same_place q) ps)) [
-      | inl holds ↦
-          ap (raw_depth p) (places-again q ps holds) ∙ h ∙ elim (cases_Bool (share_line p q)) [
-            | inl share ↦
-                let le : raw_depth_among (places_of ps) q ≤ near_max p ps = near_max-after p q ps share holds in
-                let e : cond (share_line p q) (raw_depth_among (places_of (q ∷ ps)) q) 0
-                ≡ raw_depth_among (places_of ps) q = cond-true (share_line p q) (raw_depth_among (places_of (q ∷ ps)) q) 0 share
-                ∙ among_after q q ps holds in
-                omega arith
-            | inr apart ↦
-                let e : cond (share_line p q) (raw_depth_among (places_of (q ∷ ps)) q) 0
-                ≡ 0 = cond-false (share_line p q) (raw_depth_among (places_of (q ∷ ps)) q) 0 apart in
-                omega arith
-          ]
-      | inr fails ↦
-          ap (raw_depth p) (places-new q ps fails) ∙ elim (cases_Bool (share_line p q)) [
-            | inl share ↦
-                let e : cond (share_line p q) (raw_depth_among (places_of (q ∷ ps)) q) 0
-                ≡ raw_depth q (places_of ps) = cond-true (share_line p q) (raw_depth_among (places_of (q ∷ ps)) q) 0 share ∙ among-new q ps fails in
-                let f : cond (share_line p q) (raw_depth q (places_of ps) + 1) 1
-                ≡ raw_depth q (places_of ps) + 1 = cond-true (share_line p q) (raw_depth q (places_of ps) + 1) 1 share in
-                omega arith
-            | inr apart ↦
-                let e : cond (share_line p q) (raw_depth_among (places_of (q ∷ ps)) q) 0
-                ≡ 0 = cond-false (share_line p q) (raw_depth_among (places_of (q ∷ ps)) q) 0 apart in
-                let f : cond (share_line p q) (raw_depth q (places_of ps) + 1) 1 ≡ 1 = cond-false (share_line p q) (raw_depth q (places_of ps) + 1) 1 apart in
-                omega arith
-          ]
-    ]
+raw_depth-near p (q ∷ ps) = grind (arith, places-again, near_max-after, cond-true, among_after, cond-false, places-new, among-new, raw_depth-near p ps)
 
 -- where no place is near, none is in the way
 near_max-none : (p : LongExtent) (ps : List LongExtent) → list_any (share_line p) ps ≡ false → near_max p ps ≡ 0
@@ -160,12 +130,7 @@ search-new p (suc k) deepest (q ∷ ps) near new =
 -- the search finds the raw depth
 pub search-is : (p : LongExtent) (k : ℕ) (ps : List LongExtent) → p.first ≤ p.last → IsNearUpTo p k ps
     → search_from 0 p (take k ps) (raw_depths ps) ≡ raw_depth_among (places_of (p ∷ ps)) p
-search-is p k ps own near =
-    elim (cases_Bool (list_any (same_place p) ps)) [
-      | inl again ↦ search-same p k 0 ps (and_from (leb p.first p.last) (leb p.first p.last) (le-leb p.first p.last own)
-          (le-leb p.first p.last own)) near again ∙ sym (among_after p p ps again)
-      | inr new ↦ search-new p k 0 ps near new ∙ omega (arith, raw_depth-near p ps) ∙ sym (among-new p ps new)
-    ]
+search-is p k ps own near = grind (arith, search-same, and_from, le-leb, among_after, search-new, raw_depth-near, among-new)
 
 -- places in the order of their first lines, none before that of p, are near up to those that start after p's last
 pub near_up_to : (p : LongExtent) (k : ℕ) (ps : List LongExtent) → k ≤ length ps → ((j : ℕ) (d : LongExtent) → j < k → (get_or ps j d).first ≤ p.last)
@@ -198,20 +163,12 @@ pub search-more : (deepest : ℕ) (p : LongExtent) (qs : List LongExtent) (ns : 
     → n ≡ get_or ns i n → same_place p (get_or qs i d) ≡ false
     → search_from deepest p (drop i qs) (drop i ns) ≡ search_from (max n deepest) p (drop (i + 1) qs) (drop (i + 1) ns)
 unfolding search_from
-search-more deepest p qs ns i d n in-qs in-ns is other =
-    ap (λ x. search_from deepest p x (drop i ns)) (drop_more qs i d in-qs)
-    ∙ ap (λ x. search_from deepest p (get_or qs i d ∷ drop (i + 1) qs) x) (drop_more ns i n in-ns)
-    ∙ cond-false (same_place p (get_or qs i d)) (get_or ns i n) (search_from (max (get_or ns i n) deepest) p (drop (i + 1) qs) (drop (i + 1) ns))
-    other ∙ ap (λ m. search_from (max m deepest) p (drop (i + 1) qs) (drop (i + 1) ns)) (sym is)
+search-more deepest p qs ns i d n in-qs in-ns is other = grind (arith, drop_more, cond-false)
 
 pub search-found : (deepest : ℕ) (p : LongExtent) (qs : List LongExtent) (ns : List ℕ) (i : ℕ) (d : LongExtent) (n : ℕ) → i < length qs → i < length ns
     → n ≡ get_or ns i n → same_place p (get_or qs i d) ≡ true → search_from deepest p (drop i qs) (drop i ns) ≡ n
 unfolding search_from
-search-found deepest p qs ns i d n in-qs in-ns is same =
-    ap (λ x. search_from deepest p x (drop i ns)) (drop_more qs i d in-qs)
-    ∙ ap (λ x. search_from deepest p (get_or qs i d ∷ drop (i + 1) qs) x) (drop_more ns i n in-ns)
-    ∙ cond-true (same_place p (get_or qs i d)) (get_or ns i n) (search_from (max (get_or ns i n) deepest) p (drop (i + 1) qs) (drop (i + 1) ns))
-    same ∙ sym is
+search-found deepest p qs ns i d n in-qs in-ns is same = grind (arith, drop_more, cond-true)
 
 pub search-done : (deepest : ℕ) (p : LongExtent) (ns : List ℕ) → search_from deepest p [] ns ≡ deepest + 1
 unfolding search_from
@@ -240,20 +197,14 @@ pub passed_at : (p : LongExtent) (later : List LongExtent) (raws : List ℕ) (ne
     → same_place p (get_or later i no_place) ≡ false
     → search_from (max (get_or raws i 0) deepest) p (drop (i + 1) (take near later)) (drop (i + 1) raws) ≡ search_from 0 p (take near later) raws
 passed_at p later raws near i deepest is within below before other =
-    let e : length raws ≡ length later = ap length is ∙ length-raw_depths later in
-    sym (search-more deepest p (take near later) raws i no_place (get_or raws i 0) (omega (arith, length-take-le near later within)) (omega arith)
-    (get_or_default raws i 0 (get_or raws i 0) (omega arith)) (ap (same_place p) (get_or-take near later i no_place below) ∙ other))
-    ∙ before
+    grind (arith, length-raw_depths, search-more, length-take-le, get_or_default, get_or-take)
 
 -- a place that doesn't stand again is one deeper than the deepest passed
 pub found_none : (p : LongExtent) (later : List LongExtent) (raws : List ℕ) (near i deepest : ℕ) → raws ≡ raw_depths later → near ≤ length later
     → near ≤ i → p.first ≤ p.last → IsNearUpTo p near later
     → search_from deepest p (drop i (take near later)) (drop i raws) ≡ search_from 0 p (take near later) raws
     → deepest + 1 ≡ raw_depth_among (places_of (p ∷ later)) p
-found_none p later raws near i deepest is within all own up_to before =
-    sym (ap (λ qs. search_from deepest p qs (drop i raws)) (drop_all i (take near later) (omega (arith, length-take-le near later within)))
-    ∙ search-done deepest p (drop i raws))
-    ∙ before ∙ ap (search_from 0 p (take near later)) is ∙ search-is p near later own up_to
+found_none p later raws near i deepest is within all own up_to before = grind (arith, drop_all, length-take-le, search-done, search-is)
 
 -- ---- all raw depths, from the last on
 
@@ -271,9 +222,4 @@ after_in ps i m ordered within is k d below =
 pub filled : (ps : List LongExtent) (raws : List ℕ) (j m r : ℕ) → j < length ps → length raws ≡ length ps → m ≡ j + 1
     → drop m raws ≡ raw_depths (drop m ps) → r ≡ raw_depth_among (places_of (get_or ps j no_place ∷ take (length ps - m) (drop m ps)))
     (get_or ps j no_place) → drop j (set raws j r) ≡ raw_depths (drop j ps)
-filled ps raws j m r within same is before value =
-    drop-set raws j r (omega arith)
-    ∙ ap (λ n. r ∷ drop n raws) (sym is)
-    ∙ ap (λ ns. r ∷ ns) before
-    ∙ ap (λ n. n ∷ raw_depths (drop m ps)) (value ∙ ap (λ qs. raw_depth_among (places_of (get_or ps j no_place ∷ qs)) (get_or ps j no_place)) (take_rest ps m))
-    ∙ sym (ap raw_depths (drop_more ps j no_place within ∙ ap (λ n. get_or ps j no_place ∷ drop n ps) (sym is)))
+filled ps raws j m r within same is before value = grind (arith, drop-set, take_rest, drop_more)

@@ -1,15 +1,14 @@
 -- What is known of the entries of the lines that are kept or shown, for those who draw them.
-use Rattle.snippet_parts.proofs.Common.{◌≡◌, ℕ, ◌+◌, ◌-◌, ◌*◌, ◌^◌, ◌<◌, ◌≤◌, Bool, true, false, ◌&&◌, cond, not}
-use Rattle.snippet_parts.proofs.Common.{add-zero, eqb, leb, ltb, max, Option, Some, None, List, [], ◌∷◌, ◌++◌, map, length, get_or, inl, inr, refl}
-use Rattle.snippet_parts.proofs.Common.{sym, ap, subst, ◌∙◌, arith, All, Contains, count_by, filter, list_all, list_any, IfSome, option_map}
-use Rattle.snippet_parts.proofs.Common.{cow_str_bytes, IsUtf8, zero-add, cases_Bool, cond-true, cond-false, or_cases, and_parts, and_from, and_right, le-leb}
-use Rattle.snippet_parts.proofs.Common.{eqb-true, le-ltb, ne_eqb, not-true, both_ways, append-nil, All-nil, All-cons, All-head, All-tail, All-same, All-weaker}
-use Rattle.snippet_parts.proofs.Common.{All-filter, All-contains, filter-append, filter_agree, list_all_at, sum_by-cons, sum_by-append, Annotation}
-use Rattle.snippet_parts.proofs.Common.{AnnotationKind, AnnotationFits, LineAnnotation, LongExtent, AnnotatedLineInfo, Loc, KeptLine, kept_line, is_long}
-use Rattle.snippet_parts.proofs.Common.{long_entry, long_place, long_spans, long_parts, depth_of, deepest, single_part, made_parts, parts_on, bar_lines}
-use Rattle.snippet_parts.proofs.Common.{same_place, depth_among, greatest_depth, AllEntries, HasCharacterRoom, HasColumnRoom, HasShortLabel, HasDepthWithin}
-use Rattle.snippet_parts.proofs.Common.{seen_kept, is_untouched, Source, HasTextLabel, is_marking, is_single_line, touches, is_marked_on, is_wide, start_column}
-use Rattle.snippet_parts.proofs.Common.{span_width, first_line, last_line, is_single_part, is_wide_entry, locations_of, place_of, IsSpan, length-text_at-source}
+use Rattle.snippet_parts.proofs.Common.{◌≡◌, ℕ, ◌+◌, ◌-◌, ◌*◌, ◌^◌, ◌<◌, ◌≤◌, Bool, true, false, ◌&&◌, cond, not, add-zero, eqb, leb, ltb, Option, Some, None}
+use Rattle.snippet_parts.proofs.Common.{List, [], ◌∷◌, ◌++◌, map, length, get_or, inl, inr, refl, sym, ap, subst, ◌∙◌, arith, All, Contains, count_by, filter}
+use Rattle.snippet_parts.proofs.Common.{list_all, list_any, IfSome, option_map, cow_str_bytes, IsUtf8, zero-add, cases_Bool, cond-true, cond-false, or_cases}
+use Rattle.snippet_parts.proofs.Common.{and_parts, and_from, and_right, le-leb, eqb-true, le-ltb, ne_eqb, not-true, both_ways, append-nil, All-nil, All-cons}
+use Rattle.snippet_parts.proofs.Common.{All-head, All-tail, All-same, All-weaker, All-filter, All-contains, filter-append, filter_agree, list_all_at}
+use Rattle.snippet_parts.proofs.Common.{sum_by-cons, sum_by-append, Annotation, AnnotationKind, AnnotationFits, LineAnnotation, LongExtent, AnnotatedLineInfo}
+use Rattle.snippet_parts.proofs.Common.{KeptLine, kept_line, is_long, long_entry, long_place, long_spans, long_parts, depth_of, deepest, single_part}
+use Rattle.snippet_parts.proofs.Common.{made_parts, parts_on, bar_lines, same_place, depth_among, greatest_depth, AllEntries, HasCharacterRoom, HasColumnRoom}
+use Rattle.snippet_parts.proofs.Common.{HasShortLabel, HasDepthWithin, seen_kept, is_untouched, Source, HasTextLabel, is_marking, is_single_line, touches}
+use Rattle.snippet_parts.proofs.Common.{is_marked_on, is_wide, first_line, last_line, is_single_part, is_wide_entry, IsSpan, length-text_at-source}
 use Rattle.snippet_model.specs.Fits.{TextFits}
 use Rattle.snippet_parts.proofs.DepthLemmas.{depths-within}
 use Rattle.snippet_parts.proofs.RawDepthLemmas.{same-true}
@@ -178,31 +177,16 @@ depths-fit s marks ks infos same =
 -- what passes one test and then another passes both
 pub filter-filter : {X : Type 0} (q p : X → Bool) (xs : List X) → filter q (filter p xs) ≡ filter (λ x. p x && q x) xs
 filter-filter q p [] = refl
-filter-filter q p (x ∷ xs) =
-    elim (cases_Bool (p x)) [
-      | inl t ↦ ap (filter q) (cond-true (p x) (x ∷ filter p xs) (filter p xs) t) ∙ ap (λ ys. cond (q x) (x ∷ ys) ys) (filter-filter q p xs)
-          ∙ sym (ap (λ b. cond (b && q x) (x ∷ filter (λ x. p x && q x) xs) (filter (λ x. p x && q x) xs)) t)
-      | inr f ↦ ap (filter q) (cond-false (p x) (x ∷ filter p xs) (filter p xs) f) ∙ filter-filter q p xs
-          ∙ sym (ap (λ b. cond (b && q x) (x ∷ filter (λ x. p x && q x) xs) (filter (λ x. p x && q x) xs)) f)
-    ]
+filter-filter q p (x ∷ xs) = grind (arith, cond-true, cond-false, filter-filter q p xs)
 
 all-member : {X : Type 0} (p : X → Bool) (xs : List X) (x : X) → list_all p xs ≡ true → Contains xs x → p x ≡ true
-all-member p xs x all among =
-    elim (cases_Bool (p x)) [
-      | inl t ↦ t
-      | inr f ↦ absurd (both_ways (list_all p xs) (list_all_at p xs among.0 x among.1 (ap p among.2 ∙ f)) all)
-    ]
+all-member p xs x all among = grind (arith, both_ways, list_all_at)
 
 -- the entries on line k of spans on one line are those of the spans that are marked there
 pub singles-on : (s : Source) (marks : List Annotation) (k : ℕ)
     → filter (λ (p : LineAnnotation). eqb p.start.line (s.first + k)) (map (single_part s) (filter (is_short s.text) marks))
     ≡ map (single_part s) (filter (is_marked_on s.text k) marks)
-singles-on s marks k =
-    filter-map (λ (p : LineAnnotation). eqb p.start.line (s.first + k)) (single_part s) (filter (is_short s.text) marks)
-    ∙ ap (map (single_part s))
-    (filter-filter (λ (a : Annotation). eqb (entry_of s a).start.line (s.first + k)) (is_short s.text) marks ∙ filter_agree (λ (a : Annotation).
-    is_short s.text a && eqb (entry_of s a).start.line (s.first + k)) (is_marked_on s.text k)
-    (λ a. ap (λ b. is_short s.text a && b) (eqb-shift s.first (first_line s.text a) k (entry_of s a).start.line (entry_of-line s a))) marks)
+singles-on s marks k = grind (arith, filter-map, filter-filter, entry_of, filter_agree, eqb-shift, entry_of-line)
 
 -- no part of a span of several lines stands on a line that no span touches
 pub longs-off : (s : Source) (marks : List Annotation) (k : ℕ) → All (λ a. IsSpan s.text a.span.start a.span.end) marks → is_untouched s.text marks k ≡ true
@@ -284,15 +268,11 @@ count-filter q p (x ∷ xs) =
 
 count-agree : {X : Type 0} (p q : X → Bool) → ((x : X) → p x ≡ q x) → (xs : List X) → count_by p xs ≡ count_by q xs
 count-agree p q same [] = refl
-count-agree p q same (x ∷ xs) =
-    sum_by-cons (λ y. cond (p y) 1 0) x xs ∙ ap (λ b. cond b 1 0 + count_by p xs) (same x) ∙ ap (λ n. cond (q x) 1 0 + n) (count-agree p q same xs)
-    ∙ sym (sum_by-cons (λ y. cond (q y) 1 0) x xs)
+count-agree p q same (x ∷ xs) = grind (arith, sum_by-cons, count-agree p q same xs)
 
 count-none : {X : Type 0} (p : X → Bool) (xs : List X) → All (λ x. p x ≡ false) xs → count_by p xs ≡ 0
 count-none p [] all = refl
-count-none p (x ∷ xs) all =
-    sum_by-cons (λ y. cond (p y) 1 0) x xs ∙ ap (λ b. cond b 1 0 + count_by p xs) (All-head (λ x. p x ≡ false) x xs all) ∙ zero-add (count_by p xs)
-    ∙ count-none p xs (All-tail (λ x. p x ≡ false) x xs all)
+count-none p (x ∷ xs) all = grind (arith, sum_by-cons, All-head, zero-add, All-tail, count-none p xs (All-tail (λ x. p x ≡ false) x xs all))
 
 -- whether an entry that is made stands for a whole span that is wide
 is_wide_part : ℕ → ℕ → LineAnnotation → Bool
@@ -303,26 +283,11 @@ is_wide_part room placeholder_width p =
 wide-single : (room placeholder_width : ℕ) (s : Source) (a : Annotation) → is_single_line s.text a ≡ true
     → is_wide_part room placeholder_width (single_part s a) ≡ is_wide room placeholder_width s.text a
 unfolding is_wide_part
-wide-single room placeholder_width s a single =
-    let at : Loc × Loc = locations_of s a.span.start a.span.end in
-    let start : at.0.display ≡ start_column s.text a = start_column-from s a at refl in
-    let first : at.0.line ≡ s.first + first_line s.text a = start-line s a.span.start a.span.end in
-    let last : at.1.line ≡ s.first + last_line s.text a = end-line s a.span.start a.span.end in
-    let one : last_line s.text a ≡ first_line s.text a = eqb-true (last_line s.text a) (first_line s.text a) single in
-    let end : at.1.display ≡ (place_of s.text a.span.end).column = end_column-from s a at at.0.line refl refl (omega arith) in
-    let width : max at.1.display (at.0.display + 1) - at.0.display ≡ span_width s.text a = omega arith in
-    ap (λ w. ltb (2 * room) w && ltb (10 + placeholder_width) w) width
+wide-single room placeholder_width s a single = grind (arith, start_column-from, start-line, end-line, eqb-true, end_column-from)
 
 wide-marked : (room placeholder_width : ℕ) (s : Source) (k : ℕ) (a : Annotation)
     → (is_marked_on s.text k a && is_wide_part room placeholder_width (single_part s a)) ≡ (is_marked_on s.text k a && is_wide room placeholder_width s.text a)
-wide-marked room placeholder_width s k a =
-    elim (cases_Bool (is_marked_on s.text k a)) [
-      | inl t ↦
-          let parts = and_parts (is_marking a.kind && is_single_line s.text a) (eqb (first_line s.text a) k) t in
-          let single = and_parts (is_marking a.kind) (is_single_line s.text a) parts.0 in
-          ap (λ b. is_marked_on s.text k a && b) (wide-single room placeholder_width s a single.1)
-      | inr f ↦ ap (λ b. b && is_wide_part room placeholder_width (single_part s a)) f ∙ sym (ap (λ b. b && is_wide room placeholder_width s.text a) f)
-    ]
+wide-marked room placeholder_width s k a = grind (arith, and_parts, wide-single)
 
 -- the entries of spans of several lines are one column wide at most
 wide-long : (room placeholder_width : ℕ) (s : Source) (marks : List Annotation)

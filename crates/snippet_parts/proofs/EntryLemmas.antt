@@ -1,16 +1,16 @@
 -- The entries of spans, in the order made.
-use Rattle.snippet_parts.proofs.Common.{None, ◌≡◌, ℕ, ◌+◌, ◌-◌, ◌<◌, ◌≤◌, Bool, true, false, ◌&&◌, ◌||◌, cond, not, eqb, leb}
-use Rattle.snippet_parts.proofs.Common.{ltb, min, List, [], ◌∷◌, ◌++◌, map, length, take, drop, get_or, inl, inr, refl, sym, ap, ◌∙◌, arith}
-use Rattle.snippet_parts.proofs.Common.{All, filter, list_any, range_with_len, cases_Bool, cases_lt, le-leb, le-ltb, lt-leb, cond-true, cond-false, and_parts}
-use Rattle.snippet_parts.proofs.Common.{both_ways, eq-eqb, ne_eqb, false_from_ne_true, append-nil, map-append, map_more, drop-map, take-map, drop_more}
-use Rattle.snippet_parts.proofs.Common.{length-map, get_or-map, filter-append, map-range_with_len_more, LineAnnotation, span_parts, long_parts, long_place}
-use Rattle.snippet_parts.proofs.Common.{promoted, is_primary, same_place, depth_among, LongExtent, AnnotationKind, Primary, Context, Visible, IsNonDecreasingBy}
-use Rattle.snippet_parts.proofs.Common.{has_bar, is_trivial_line, Source, bar_lines, seen_long, HasFit, LongSpan, Loc, map-map}
+use Rattle.snippet_parts.proofs.Common.{None, ◌≡◌, ℕ, ◌+◌, ◌-◌, ◌<◌, ◌≤◌, Bool, true, false, ◌&&◌, ◌||◌, cond, not, eqb, leb, ltb, min, List, [], ◌∷◌, ◌++◌}
+use Rattle.snippet_parts.proofs.Common.{map, length, take, drop, get_or, inl, inr, refl, sym, ap, ◌∙◌, arith, All, filter, list_any, range_with_len, cases_lt}
+use Rattle.snippet_parts.proofs.Common.{le-leb, le-ltb, lt-leb, cond-true, cond-false, and_parts, both_ways, eq-eqb, ne_eqb, false_from_ne_true, append-nil}
+use Rattle.snippet_parts.proofs.Common.{map-append, map_more, drop-map, take-map, drop_more, length-map, get_or-map, filter-append, map-range_with_len_more}
+use Rattle.snippet_parts.proofs.Common.{LineAnnotation, span_parts, long_parts, long_place, promoted, is_primary, same_place, depth_among, LongExtent}
+use Rattle.snippet_parts.proofs.Common.{AnnotationKind, Primary, IsNonDecreasingBy, has_bar, is_trivial_line, Source, bar_lines, seen_long, HasFit, LongSpan}
+use Rattle.snippet_parts.proofs.Common.{Loc, map-map}
 use Rattle.std.proofs.lemmas.List.{append_assoc}
 use Rattle.snippet_parts.proofs.RawDepthLemmas.{same-true}
 use Rattle.snippet_parts.proofs.KeptLemmas.{after-least, range-all, range-none, range-split}
 use Rattle.snippet_parts.proofs.PartLemmas.{list_any-map}
-use Rattle.snippet_parts.proofs.PartWords.{is_promoted, stands_among}
+use Rattle.snippet_parts.proofs.PartWords.{stands_among}
 
 -- whether a span has a bar beside line k, the line before its last
 abbrev closes : List ℕ → ℕ → ℕ → ℕ → Bool
@@ -71,13 +71,7 @@ bars-are source first last u m closing from to before bars is count =
 pub bars_more : (f : ℕ → LineAnnotation) (old now new : List LineAnnotation) (e : LineAnnotation) (a line : ℕ) → a ≤ line → new ≡ now ++ e ∷ []
     → e ≡ f line → now ≡ old ++ map f (range_with_len a (line - a))
     → new ≡ old ++ map f (range_with_len a ((line + 1) - a))
-bars_more f old now new e a line le pushed is before =
-    let count : (line + 1) - a ≡ (line - a) + 1 = omega arith in
-    pushed ∙ ap (λ ps. ps ++ e ∷ []) before
-    ∙ ap (λ p. (old ++ map f (range_with_len a (line - a))) ++ p ∷ []) is
-    ∙ append_assoc old (map f (range_with_len a (line - a))) (f line ∷ [])
-    ∙ ap (λ ps. old ++ ps) (sym (map-range_with_len_more f a (line - a) line (omega arith)))
-    ∙ ap (λ n. old ++ map f (range_with_len a n)) (sym count)
+bars_more f old now new e a line le pushed is before = grind (arith, append_assoc, map-range_with_len_more)
 
 -- all bars, with the one before the last line
 pub bars-closed : (f : ℕ → LineAnnotation) (old now new : List LineAnnotation) (e : LineAnnotation) (source : List ℕ) (first last u a n : ℕ)
@@ -114,23 +108,13 @@ bars-open f old now source first last u a n closing none before at count from to
 pub promoted-primary : (before : List LongSpan) (l : LongSpan) (b : Bool)
     → b ≡ (is_primary l.kind || list_any (λ (o : LongSpan). is_primary o.kind && same_place (long_place (seen_long l))
     (long_place (seen_long o))) before) → b ≡ true → record (seen_long l) { kind = Primary } ≡ promoted (map seen_long before) (seen_long l)
-promoted-primary before l b is there =
-    sym (cond-true (is_promoted (map seen_long before) (seen_long l)) (record (seen_long l)
-    { kind = Primary }) (seen_long l)
-    (ap (λ c. is_primary l.kind ||
-    c) (list_any-map (λ (d : LineAnnotation). is_primary d.kind && same_place (long_place (seen_long l)) (long_place d)) seen_long before) ∙ sym is
-    ∙ there))
+promoted-primary before l b is there = grind (arith, cond-true, list_any-map)
 
 -- a span that is neither primary nor at the place of a primary one stays as it is
 pub promoted-plain : (before : List LongSpan) (l : LongSpan) (b : Bool)
     → b ≡ (is_primary l.kind || list_any (λ (o : LongSpan). is_primary o.kind && same_place (long_place (seen_long l)) (long_place (seen_long o))) before)
     → b ≡ false → seen_long l ≡ promoted (map seen_long before) (seen_long l)
-promoted-plain before l b is none =
-    sym (cond-false (is_promoted (map seen_long before) (seen_long l)) (record (seen_long l)
-    { kind = Primary }) (seen_long l)
-    (ap (λ c. is_primary l.kind ||
-    c) (list_any-map (λ (d : LineAnnotation). is_primary d.kind && same_place (long_place (seen_long l)) (long_place d)) seen_long before) ∙ sym is
-    ∙ none))
+promoted-plain before l b is none = grind (arith, cond-false, list_any-map)
 
 -- one more span of several lines
 pub parts-more : (s : Source) (places : List LongExtent) (spans : List LongSpan) (i : ℕ) (x : LongSpan) (now new all : List LineAnnotation) (depth : ℕ)
@@ -173,9 +157,7 @@ places-are places spans is = is ∙ sym (map-map long_place seen_long spans)
 pub depths-of : (places : List LongExtent) (spans : List LongSpan) (depths : List ℕ) → places ≡ map (λ (l : LongSpan). long_place (seen_long l)) spans
     → depths ≡ map (depth_among places) places
     → depths ≡ map (λ (l : LongSpan). depth_among (map long_place (map seen_long spans)) (long_place (seen_long l))) spans
-depths-of places spans depths is value =
-    value ∙ ap (map (depth_among places)) is ∙ map-map (depth_among places) (λ (l : LongSpan). long_place (seen_long l)) spans
-    ∙ ap (λ ps. map (λ (l : LongSpan). depth_among ps (long_place (seen_long l))) spans) (places-are places spans is)
+depths-of places spans depths is value = grind (arith, map-map, places-are)
 
 -- the places of spans that are ordered by their first lines are ordered by theirs
 pub places-ordered : (places : List LongExtent) (spans : List LongSpan) (none : LongSpan) → places ≡ map (λ (l : LongSpan). long_place (seen_long l)) spans
@@ -212,30 +194,19 @@ no_span = record { start = no_loc; end = no_loc; kind = Primary; label = None; h
 
 any-filtered : {X : Type 0} (q p : X → Bool) → ((x : X) → q x ≡ true → p x ≡ true) → (xs : List X) → list_any q (filter p xs) ≡ list_any q xs
 any-filtered q p implied [] = refl
-any-filtered q p implied (x ∷ xs) =
-    elim (cases_Bool (p x)) [
-      | inl t ↦ ap (list_any q) (cond-true (p x) (x ∷ filter p xs) (filter p xs) t) ∙ ap (λ b. q x || b) (any-filtered q p implied xs)
-      | inr f ↦ ap (list_any q) (cond-false (p x) (x ∷ filter p xs) (filter p xs) f) ∙ any-filtered q p implied xs
-          ∙ ap (λ b. b || list_any q xs) (sym (false_from_ne_true (q x) (λ t. both_ways (p x) f (implied x t))))
-    ]
+any-filtered q p implied (x ∷ xs) = grind (arith, cond-true, cond-false, false_from_ne_true, both_ways, any-filtered q p implied xs)
 
 same_line : (x o : LongSpan) → same_place (long_place (seen_long x)) (long_place (seen_long o)) ≡ true → eqb o.start.line x.start.line ≡ true
-same_line x o same = eq-eqb o.start.line x.start.line (sym (ap (λ (p : LongExtent). p.first)
-    (same-true (long_place (seen_long x)) (long_place (seen_long o)) same)))
+same_line x o same = grind (arith, eq-eqb, same-true)
 
 -- whether a place stands again is told by the spans that are near
 pub place-near : (x : LongSpan) (others near : List LongSpan) (b : Bool) → near ≡ filter (λ (o : LongSpan). eqb o.start.line x.start.line) others
     → b ≡ list_any (λ (o : LongSpan). same_place (long_place (seen_long x)) (long_place (seen_long o))) near
     → b ≡ list_any (λ (o : LongSpan). same_place (long_place (seen_long x)) (long_place (seen_long o))) others
-place-near x others near b is found =
-    found ∙ ap (list_any (λ (o : LongSpan). same_place (long_place (seen_long x)) (long_place (seen_long o)))) is
-    ∙ any-filtered (λ (o : LongSpan). same_place (long_place (seen_long x)) (long_place (seen_long o))) (λ (o : LongSpan). eqb o.start.line x.start.line)
-    (same_line x) others
+place-near x others near b is found = grind (arith, any-filtered, same_line)
 
 kind-other : (kind : AnnotationKind) → (kind ≡ Primary → ⊥) → is_primary kind ≡ false
-kind-other Primary other = absurd (other refl)
-kind-other Context other = refl
-kind-other Visible other = refl
+kind-other x y = grind (arith)
 
 -- whether a primary span stands at the same place is told by the spans that are near
 pub primary-near : (x : LongSpan) (others near : List LongSpan) (b : Bool) → near ≡ filter (λ (o : LongSpan). eqb o.start.line x.start.line) others
@@ -243,10 +214,4 @@ pub primary-near : (x : LongSpan) (others near : List LongSpan) (b : Bool) → n
     → (x.kind ≡ Primary → ⊥)
     → b ≡ (is_primary x.kind || list_any (λ (o : LongSpan). is_primary o.kind && same_place (long_place (seen_long x))
     (long_place (seen_long o))) others)
-primary-near x others near b is found other =
-    found ∙ ap (list_any (λ (o : LongSpan). is_primary o.kind && same_place (long_place (seen_long x)) (long_place (seen_long o)))) is
-    ∙ any-filtered (λ (o : LongSpan). is_primary o.kind && same_place (long_place (seen_long x)) (long_place (seen_long o)))
-    (λ (o : LongSpan). eqb o.start.line x.start.line)
-    (λ o both. same_line x o (and_parts (is_primary o.kind) (same_place (long_place (seen_long x)) (long_place (seen_long o))) both).1) others
-    ∙ ap (λ p. p || list_any (λ (o : LongSpan). is_primary o.kind && same_place (long_place (seen_long x)) (long_place (seen_long o))) others)
-    (sym (kind-other x.kind other))
+primary-near x others near b is found other = grind (arith, any-filtered, same_line, and_parts, kind-other)

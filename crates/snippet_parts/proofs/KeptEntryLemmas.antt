@@ -1,27 +1,19 @@
 -- Lines that are given their entries one by one.
-use Rattle.snippet_parts.proofs.Common.{◌≡◌, ◌≢◌, ℕ, ◌+◌, ◌-◌, ◌<◌, ◌≤◌, Bool, Err, nat_cmp, true, false, List, [], ◌∷◌}
-use Rattle.snippet_parts.proofs.Common.{◌++◌, cond, eqb, map, length, take, drop, get_or, set, inl, inr, sym, ap, subst, ◌∙◌, arith, All, AllPairs}
-use Rattle.snippet_parts.proofs.Common.{filter, range_with_len, IsBinarySearchResult, length-range_with_len, get_or-range_with_len, AllPairs-filter, searched}
-use Rattle.snippet_parts.proofs.Common.{cases_eq, cases_lt, eq-eqb, ne_eqb, append-nil, ext_get_or, get_or-map, get_or-set_same, get_or-set_other, length-map}
-use Rattle.snippet_parts.proofs.Common.{length-set, places, same_lists, filter-append, Source, LineAnnotation, KeptLine, line_with}
+use Rattle.snippet_parts.proofs.Common.{◌≡◌, ◌≢◌, ℕ, ◌+◌, ◌-◌, ◌<◌, ◌≤◌, Bool, Err, nat_cmp, List, [], ◌∷◌, ◌++◌, map, length, take, drop, get_or, set, inl}
+use Rattle.snippet_parts.proofs.Common.{inr, sym, ap, ◌∙◌, arith, All, AllPairs, filter, range_with_len, IsBinarySearchResult, length-range_with_len}
+use Rattle.snippet_parts.proofs.Common.{get_or-range_with_len, AllPairs-filter, searched, cases_eq, cases_lt, eq-eqb, ne_eqb, append-nil, ext_get_or}
+use Rattle.snippet_parts.proofs.Common.{get_or-map, get_or-set_same, get_or-set_other, length-map, length-set, places, same_lists, filter-append, Source}
+use Rattle.snippet_parts.proofs.Common.{LineAnnotation, KeptLine, line_with}
 
 -- an entry that stands on line k comes after its others
 one_more : (s : Source) (seen : List ℕ) (parts : List LineAnnotation) (p : LineAnnotation) (k : ℕ) → s.first + k ≡ p.start.line
     → line_with s seen (parts ++ p ∷ []) k ≡ record (line_with s seen parts k) { parts = (line_with s seen parts k).parts ++ p ∷ [] }
-one_more s seen parts p k here =
-    let test : LineAnnotation → Bool = λ q. eqb q.start.line (s.first + k) in
-    let yes : test p ≡ true = eq-eqb p.start.line (s.first + k) (sym here) in
-    ap (λ ps. record (line_with s seen parts k) { parts = ps })
-    (filter-append test parts (p ∷ []) ∙ ap (λ b. filter test parts ++ cond b (p ∷ []) []) yes)
+one_more s seen parts p k here = grind (arith, eq-eqb, filter-append)
 
 -- one that stands on another line doesn't change it
 none_more : (s : Source) (seen : List ℕ) (parts : List LineAnnotation) (p : LineAnnotation) (k : ℕ) → s.first + k ≢ p.start.line
     → line_with s seen (parts ++ p ∷ []) k ≡ line_with s seen parts k
-none_more s seen parts p k away =
-    let test : LineAnnotation → Bool = λ q. eqb q.start.line (s.first + k) in
-    let no : test p ≡ false = ne_eqb p.start.line (s.first + k) (λ same. away (sym same)) in
-    ap (λ ps. record (line_with s seen parts k) { parts = ps })
-    (filter-append test parts (p ∷ []) ∙ ap (λ b. filter test parts ++ cond b (p ∷ []) []) no ∙ append-nil (filter test parts))
+none_more s seen parts p k away = grind (arith, ne_eqb, filter-append, append-nil)
 
 -- an entry that stands on none of some lines changes none
 pub stands_nowhere : (s : Source) (seen : List ℕ) (parts : List LineAnnotation) (p : LineAnnotation) (ks : List ℕ)
@@ -85,11 +77,7 @@ kept-rise p n =
     ))
 
 rises : (ks : List ℕ) → AllPairs (λ (a b : ℕ). a < b) ks → (i j : ℕ) → i ≤ j → j < length ks → get_or ks i 0 ≤ get_or ks j 0
-rises ks up i j le within =
-    elim (cases_eq i j) [
-      | inl same ↦ subst (λ n. get_or ks i 0 ≤ get_or ks n 0) same (omega arith)
-      | inr other ↦ omega (arith, up i j 0 (omega (arith, le, other)) within)
-    ]
+rises ks up i j le within = grind (arith)
 
 -- a number that a search by halves doesn't find is none of them
 pub found_nowhere : (ks : List ℕ) (first number index i : ℕ) → AllPairs (λ (a b : ℕ). a < b) ks

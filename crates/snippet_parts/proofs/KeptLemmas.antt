@@ -1,138 +1,38 @@
 -- Which lines are kept.
-use Rattle.snippet_parts.proofs.Common.{◌≡◌, ℕ, zero, suc, ◌+◌, ◌-◌, ◌^◌, ◌<◌, ◌≤◌, Bool, true, false, ◌&&◌, ◌||◌, cond}
-use Rattle.snippet_parts.proofs.Common.{not, eqb, leb, ltb, min, max, List, [], ◌∷◌, ◌++◌, length, take, get_or, inl, inr, ◌⊎◌, Result, Ok, Err}
-use Rattle.snippet_parts.proofs.Common.{nat_cmp, refl, sym, ap, subst, ◌∙◌, arith, All, filter, list_any, range_with_len, IsNonDecreasingBy}
-use Rattle.snippet_parts.proofs.Common.{IsBinarySearchResult, IsPermutation, is_ok, and-false, and-true, or-false, cases_Bool, cases_lt, cases_eq, or_from}
-use Rattle.snippet_parts.proofs.Common.{le-leb, le-ltb, lt-leb, eq-eqb, ne_eqb, eqb-true, or_left, or_right, append-nil, take_more, take_all, get_or-take}
-use Rattle.snippet_parts.proofs.Common.{length-take, All-nil, All-cons, All-head, All-tail, All-filter, All-from_get_or, All-weaker, filter-append}
-use Rattle.snippet_parts.proofs.Common.{filter_agree, list_any_more, list_any_at, list_any_none, length-range_with_len, get_or-range_with_len}
-use Rattle.snippet_parts.proofs.Common.{IsNonDecreasingBy-filter, list_any-IsPermutation, searched, any-filter_same, Annotation, Stretch, has_bar, keeps}
-use Rattle.snippet_parts.proofs.Common.{is_marking, touches, first_line, last_line, source_lines, line_of-within, holds_line, is_held, is_seen}
+use Rattle.snippet_parts.proofs.Common.{◌≡◌, ℕ, zero, suc, ◌+◌, ◌-◌, ◌^◌, ◌<◌, ◌≤◌, Bool, true, false, ◌&&◌, ◌||◌, cond, not, eqb, leb, ltb, min, max, List}
+use Rattle.snippet_parts.proofs.Common.{[], ◌∷◌, ◌++◌, length, take, get_or, inl, inr, ◌⊎◌, Result, nat_cmp, refl, sym, ap, subst, ◌∙◌, arith, All, filter}
+use Rattle.snippet_parts.proofs.Common.{list_any, range_with_len, IsNonDecreasingBy, IsBinarySearchResult, IsPermutation, is_ok, and-false, and-true}
+use Rattle.snippet_parts.proofs.Common.{or-false, cases_lt, or_from, le-leb, le-ltb, lt-leb, eq-eqb, ne_eqb, eqb-true, or_left, or_right, append-nil}
+use Rattle.snippet_parts.proofs.Common.{take_more, take_all, get_or-take, length-take, All-nil, All-cons, All-head, All-tail, All-filter, All-from_get_or}
+use Rattle.snippet_parts.proofs.Common.{All-weaker, filter-append, filter_agree, list_any_more, list_any_at, list_any_none, length-range_with_len}
+use Rattle.snippet_parts.proofs.Common.{get_or-range_with_len, IsNonDecreasingBy-filter, list_any-IsPermutation, searched, any-filter_same, Annotation}
+use Rattle.snippet_parts.proofs.Common.{Stretch, keeps, touches, source_lines, line_of-within, holds_line, is_held, is_seen}
 use Rattle.snippet_parts.proofs.PartLemmas.{All-range}
 
 -- ---- which lines a span keeps
 
 or-same : (b : Bool) → (b || b) ≡ b
-or-same true = refl
-or-same false = refl
+or-same x = grind (arith)
 
 -- a span of one line, or one that isn't marked, keeps all its lines
 pub keeps-all : (f l k : ℕ) (marked bar : Bool) → (f ≡ l) ⊎ (marked ≡ false)
     → ((leb f k && leb k l) || (leb f k && leb k l)) ≡ (leb f k && leb k l && (eqb k f || eqb k l || not marked || bar))
-keeps-all f l k marked bar why = or-same (leb f k && leb k l) ∙ sym (elim (cases_lt k f) [
-  | inl before ↦ ap (λ b. b && leb k l && (eqb k f || eqb k l || not marked || bar)) (lt-leb f k before) ∙ sym (ap (λ b. b && leb k l) (lt-leb f k before))
-  | inr from ↦ elim (cases_lt l k) [
-    | inl after ↦ ap (λ b. leb f k && b && (eqb k f || eqb k l || not marked || bar)) (lt-leb k l after)
-        ∙ none (leb f k) (eqb k f || eqb k l || not marked || bar) ∙ sym (ap (λ b. leb f k && b) (lt-leb k l after) ∙ none' (leb f k))
-    | inr to ↦ ap (λ b. leb f k && leb k l && b) (why-kept why from to) ∙ all (leb f k && leb k l)
-  ]
-])
-  where
-    none : (a b : Bool) → (a && false && b) ≡ false
-    none true b = refl
-    none false b = refl
-
-    none' : (a : Bool) → (a && false) ≡ false
-    none' true = refl
-    none' false = refl
-
-    all : (a : Bool) → (a && true) ≡ a
-    all true = refl
-    all false = refl
-
-    third : (a b c d : Bool) → c ≡ true → (a || b || c || d) ≡ true
-    third true b c d is = refl
-    third false true c d is = refl
-    third false false c d is = ap (λ x. x || d) is
-
-    why-kept : (f ≡ l) ⊎ (marked ≡ false) → f ≤ k → k ≤ l → (eqb k f || eqb k l || not marked || bar) ≡ true
-    why-kept (inl one) from to = ap (λ b. b || eqb k l || not marked || bar) (eq-eqb k f (omega arith))
-    why-kept (inr unmarked) from to = third (eqb k f) (eqb k l) (not marked) bar (ap not unmarked)
+keeps-all f l k marked bar why = grind (arith, or-same, lt-leb, eq-eqb)
 
 -- one that is marked keeps its beginning and its end: u is the last line of its beginning, t the first of its end
 pub keeps-ends : (f l u t k : ℕ) (marked shown last_bar : Bool) → f < l → f ≤ u → u ≤ l → marked ≡ true → (f < k → leb k u ≡ shown)
     → (k + 1 ≡ l → leb t k ≡ last_bar) → ((k + 1 ≡ l → ⊥) → last_bar ≡ false) → t ≤ l → l ≤ t + 1
     → ((leb f k && leb k u) || (leb t k && leb k l)) ≡ (leb f k && leb k l && (eqb k f || eqb k l || not marked || (shown || last_bar)))
-keeps-ends f l u t k marked shown last_bar ordered from to is bars ends apart tl tail =
-    elim (cases_lt k f) [
-      | inl before ↦ outside (leb f k) (leb k u) (leb t k) (leb k l) (eqb k f || eqb k l || not marked || (shown || last_bar))
-          (inl (lt-leb f k before, lt-leb t k (omega arith)))
-      | inr after ↦ elim (cases_lt f k) [
-        | inr first ↦
-            let same : k ≡ f = omega arith in
-            kept-first (leb f k) (leb k u) (leb t k && leb k l) (leb k l) (eqb k f) (eqb k l) (not marked) (shown || last_bar) (le-leb f k after)
-            (le-leb k u (omega arith)) (le-leb k l (omega arith)) (eq-eqb k f same)
-        | inl past ↦ elim (cases_lt l k) [
-          | inl over ↦ outside (leb f k) (leb k u) (leb t k) (leb k l) (eqb k f || eqb k l || not marked || (shown || last_bar))
-              (inr (lt-leb k u (omega arith), lt-leb k l over))
-          | inr upto ↦ elim (cases_lt k l) [
-            | inr end ↦ kept-last (leb f k && leb k u) (leb t k) (leb f k) (leb k l) (eqb k f) (eqb k l) (not marked) (shown || last_bar)
-                (le-leb t k (omega arith)) (le-leb f k after) (le-leb k l upto) (eq-eqb k l (omega arith))
-            | inl inner ↦
-                between (leb f k) (leb k u) (leb t k) (leb k l) (eqb k f) (eqb k l) marked shown last_bar (le-leb f k after) (le-leb k l upto)
-                (ne_eqb k f (λ e. omega arith)) (ne_eqb k l (λ e. omega arith)) is (bars past) (elim (cases_eq (k + 1) l) [
-                  | inl next ↦ ends next
-                  | inr far ↦ lt-leb t k (omega arith) ∙ sym (apart far)
-                ])
-          ]
-        ]
-      ]
-    ]
-  where
-    outside : (a b c d r : Bool) → ((a ≡ false) × (c ≡ false)) ⊎ ((b ≡ false) × (d ≡ false)) → ((a && b) || (c && d)) ≡ (a && d && r)
-    outside true b c d r (inl out) = cc
-    outside false b true d r (inl out) = cc
-    outside false b false d r (inl out) = refl
-    outside a true c d r (inr out) = cc
-    outside a false c true r (inr out) = cc
-    outside true false true false r (inr out) = refl
-    outside true false false false r (inr out) = refl
-    outside false false true false r (inr out) = refl
-    outside false false false false r (inr out) = refl
-
-    kept-first : (a b x d e g m y : Bool) → a ≡ true → b ≡ true → d ≡ true → e ≡ true → ((a && b) || x) ≡ (a && d && (e || g || m || y))
-    kept-first a b x d e g m y p q r t = ap (λ z. (z && b) || x) p ∙ ap (λ z. z || x) q
-        ∙ sym (ap (λ z. z && d && (e || g || m || y)) p ∙ ap (λ z. z && (e || g || m || y)) r ∙ ap (λ z. z || g || m || y) t)
-
-    kept-last : (x c a d e g m y : Bool) → c ≡ true → a ≡ true → d ≡ true → g ≡ true → (x || (c && d)) ≡ (a && d && (e || g || m || y))
-    kept-last x c a d e g m y p q r t = ap (λ z. x || (z && d)) p ∙ ap (λ z. x || z) r ∙ last x
-        ∙ sym (ap (λ z. z && d && (e || g || m || y)) q ∙ ap (λ z. z && (e || g || m || y)) r ∙ ap (λ z. e || z || m || y) t ∙ ap (λ z. z || m || y) (last e))
-      where
-        last : (z : Bool) → (z || true) ≡ true
-        last true = refl
-        last false = refl
-
-    between : (a b c d e g m s q : Bool) → a ≡ true → d ≡ true → e ≡ false → g ≡ false → m ≡ true → b ≡ s → c ≡ q
-        → ((a && b) || (c && d)) ≡ (a && d && (e || g || not m || (s || q)))
-    between a b c d e g m s q pa pd pe pg pm pb pc =
-        ap (λ z. (z && b) || (c && d)) pa ∙ ap (λ z. b || (c && z)) pd ∙ ap (λ z. b || z) (unit c) ∙ ap (λ z. z || c) pb ∙ ap (λ z. s || z) pc
-        ∙ sym (ap (λ z. z && d && (e || g || not m || (s || q))) pa ∙ ap (λ z. z && (e || g || not m || (s || q))) pd
-        ∙ ap (λ z. z || g || not m || (s || q)) pe ∙ ap (λ z. z || not m || (s || q)) pg ∙ ap (λ z. not z || (s || q)) pm)
-      where
-        unit : (z : Bool) → (z && true) ≡ z
-        unit true = refl
-        unit false = refl
+keeps-ends f l u t k marked shown last_bar ordered from to is bars ends apart tl tail = grind (arith, lt-leb, le-leb, eq-eqb, ne_eqb)
 
 -- the bar beside the line before the last
 pub last_bar-is : (l k m : ℕ) (trivial : ℕ → Bool) (closing : ℕ) (b : Bool) → 1 ≤ l → b ≡ (ltb m (l - 1) && not (trivial (l - 1))) → (b ≡ true → closing ≡ 1)
     → (b ≡ false → closing ≡ 0) → k + 1 ≡ l → leb (l - closing) k ≡ (eqb (k + 1) l && ltb m k && not (trivial k))
-last_bar-is l k m trivial closing b some is one none' next =
-    let at : l - 1 ≡ k = omega arith in
-    let rest : b ≡ (ltb m k && not (trivial k)) = is ∙ ap (λ n. ltb m n && not (trivial n)) at in
-    elim (cases_Bool b) [
-      | inl there ↦ le-leb (l - closing) k (omega (arith, one there)) ∙ sym there ∙ rest
-          ∙ sym (ap (λ z. z && ltb m k && not (trivial k)) (eq-eqb (k + 1) l next))
-      | inr none ↦ lt-leb (l - closing) k (omega (arith, none' none)) ∙ sym none ∙ rest
-          ∙ sym (ap (λ z. z && ltb m k && not (trivial k)) (eq-eqb (k + 1) l next))
-    ]
+last_bar-is l k m trivial closing b some is one none' next = grind (arith, le-leb, eq-eqb, lt-leb)
 
 -- a line before the last lies after the lesser of a number and the last, where it lies after the number
 pub after-least : (n l : ℕ) → ltb (min n l) (l - 1) ≡ ltb n (l - 1)
-after-least n l =
-    elim (cases_lt n l) [
-      | inl below ↦ ap (λ m. ltb m (l - 1)) (omega arith)
-      | inr upto ↦ le-ltb (min n l) (l - 1) (omega arith) ∙ sym (le-ltb n (l - 1) (omega arith))
-    ]
+after-least n l = grind (arith, le-ltb)
 
 -- only the line right above the last one can have the last bar
 pub last_bar-apart : (l k m : ℕ) (trivial : ℕ → Bool) → (k + 1 ≡ l → ⊥) → (eqb (k + 1) l && ltb m k && not (trivial k)) ≡ false
@@ -141,17 +41,14 @@ last_bar-apart l k m trivial apart = ap (λ z. z && ltb m k && not (trivial k)) 
 -- ---- ranges, of which a test keeps some numbers
 
 pub range-split : (a m n : ℕ) → range_with_len a (m + n) ≡ range_with_len a m ++ range_with_len (a + m) n
-range-split a zero n =
-    let none : 0 + n ≡ n = omega arith in
-    let same : a ≡ a + 0 = omega arith in ap (range_with_len a) none ∙ ap (λ b. range_with_len b n) same
+range-split a zero n = grind (arith)
 range-split a (suc m) n =
     let more : suc m + n ≡ suc (m + n) = omega arith in
     let same : (a + 1) + m ≡ a + suc m = omega arith in
     ap (range_with_len a) more ∙ ap (λ ks. a ∷ ks) (range-split (a + 1) m n ∙ ap (λ b. range_with_len (a + 1) m ++ range_with_len b n) same)
 
 pub lines-split : (m n : ℕ) → range_with_len 0 (m + n) ≡ range_with_len 0 m ++ range_with_len m n
-lines-split m n =
-    let same : 0 + m ≡ m = omega arith in range-split 0 m n ∙ ap (λ b. range_with_len 0 m ++ range_with_len b n) same
+lines-split m n = grind (arith, range-split)
 
 range-agree : (p q : ℕ → Bool) (a n : ℕ) → ((k : ℕ) → a ≤ k → k < a + n → p k ≡ q k) → filter p (range_with_len a n) ≡ filter q (range_with_len a n)
 range-agree p q a zero same = refl
@@ -211,8 +108,7 @@ holds-not_below s k after = ap (λ b. leb s.first k && b) (lt-leb k s.last after
 
 unpushed : {X : Type 0} (P : X → Type 0) (xs : List X) (y : X) → All P (xs ++ y ∷ []) → All P xs × P y
 unpushed P [] y all = (All-nil P, All-head P y [] all)
-unpushed P (x ∷ xs) y all =
-    let rest = unpushed P xs y (All-tail P x (xs ++ y ∷ []) all) in (All-cons P x xs (All-head P x (xs ++ y ∷ []) all) rest.0, rest.1)
+unpushed P (x ∷ xs) y all = grind (arith, All-tail, All-cons, All-head, unpushed P xs y (All-tail P x (xs ++ y ∷ []) all))
 
 -- one more stretch, which starts no earlier than those so far: of its lines those that aren't there yet come after them
 merged-more : (stretches : List Stretch) (count i : ℕ) (s d : Stretch) (next from to : ℕ) (now new : List ℕ) → i < length stretches
@@ -290,43 +186,29 @@ merged-all stretches count i next lines all merged =
 -- the order of stretches doesn't matter
 pub held-permuted : (stretches sorted : List Stretch) (count : ℕ) → IsPermutation stretches sorted
     → filter (is_held sorted) (range_with_len 0 count) ≡ filter (is_held stretches) (range_with_len 0 count)
-held-permuted stretches sorted count same =
-    filter_agree (is_held sorted) (is_held stretches) (λ k. sym (list_any-IsPermutation (λ (s : Stretch). holds_line s k) stretches sorted same))
-    (range_with_len 0 count)
+held-permuted stretches sorted count same = grind (arith, filter_agree, list_any-IsPermutation)
 
 -- the two stretches of one more span
 pub held-two : {A : Type 0} (p : ℕ → A → Bool) (spans : List A) (i : ℕ) (x : A) (old mid new : List Stretch) (s t : Stretch) → i < length spans
     → ((k : ℕ) → is_held mid k ≡ (is_held old k || holds_line s k)) → ((k : ℕ) → is_held new k ≡ (is_held mid k || holds_line t k))
     → ((k : ℕ) → (holds_line s k || holds_line t k) ≡ p k (get_or spans i x))
     → ((k : ℕ) → is_held old k ≡ list_any (p k) (take i spans)) → (k : ℕ) → is_held new k ≡ list_any (p k) (take (i + 1) spans)
-held-two p spans i x old mid new s t within first second are so_far k =
-    second k ∙ ap (λ b. b || holds_line t k) (first k) ∙ or-assoc (is_held old k) (holds_line s k) (holds_line t k)
-    ∙ ap (λ b. is_held old k || b) (are k) ∙ ap (λ b. b || p k (get_or spans i x)) (so_far k) ∙ sym (list_any_more (p k) spans i x within)
-  where
-    or-assoc : (a b c : Bool) → (a || b || c) ≡ (a || (b || c))
-    or-assoc true b c = refl
-    or-assoc false b c = refl
+held-two p spans i x old mid new s t within first second are so_far k = grind (arith, list_any_more)
 
 -- with all spans
 pub held-all : {A : Type 0} (p : ℕ → A → Bool) (q : ℕ → Bool) (spans : List A) (i count : ℕ) (stretches : List Stretch) → length spans ≤ i
     → ((k : ℕ) → is_held stretches k ≡ list_any (p k) (take i spans)) → ((k : ℕ) → list_any (p k) spans ≡ q k)
     → filter (is_held stretches) (range_with_len 0 count) ≡ filter q (range_with_len 0 count)
-held-all p q spans i count stretches all so_far are =
-    filter_agree (is_held stretches) q (λ k. so_far k ∙ ap (list_any (p k)) (take_all i spans all) ∙ are k) (range_with_len 0 count)
+held-all p q spans i count stretches all so_far are = grind (arith, filter_agree, take_all)
 
 -- one more line
 pub range-pushed : (from line : ℕ) → from ≤ line → range_with_len from (line + 1 - from) ≡ range_with_len from (line - from) ++ line ∷ []
-range-pushed from line le =
-    let one : line + 1 - from ≡ (line - from) + 1 = omega arith in
-    let at : from + (line - from) ≡ line = omega arith in
-    ap (range_with_len from) one ∙ range-split from (line - from) 1 ∙ ap (λ n. range_with_len from (line - from) ++ n ∷ []) at
+range-pushed from line le = grind (arith, range-split)
 
 -- ---- lines in order
 
 range-ascends : (a n : ℕ) → IsNonDecreasingBy (λ (k : ℕ). k) (range_with_len a n)
-range-ascends a n i j d le within =
-    let len = length-range_with_len a n in
-    omega (arith, le, len, within, get_or-range_with_len a n i d (omega arith), get_or-range_with_len a n j d (omega arith))
+range-ascends a n i j d le within = grind (arith, length-range_with_len, get_or-range_with_len)
 
 -- lines that pass a test ascend
 pub kept-ascend : (p : ℕ → Bool) (n : ℕ) → IsNonDecreasingBy (λ (k : ℕ). k) (filter p (range_with_len 0 n))
@@ -342,16 +224,7 @@ among-kept p n k within =
 -- what is found by halves is among lines in order
 pub among-found : (ks : List ℕ) (k : ℕ) (r : Result ℕ ℕ) → IsBinarySearchResult (λ y. nat_cmp y k) ks r → IsNonDecreasingBy (λ (j : ℕ). j) ks
     → is_ok r ≡ list_any (λ j. eqb j k) ks
-among-found ks k (Ok i) found up =
-    let at = searched ks k (Ok i) found (λ a b le lt. up a b 0 le lt) in
-    sym (list_any_at (λ j. eqb j k) ks i 0 at.0 (eq-eqb (get_or ks i 0) k at.1))
-among-found ks k (Err i) found up =
-    let at = searched ks k (Err i) found (λ a b le lt. up a b 0 le lt) in
-    sym (list_any_none (λ j. eqb j k) ks (All-from_get_or (λ j. eqb j k ≡ false) ks 0 (λ j within. ne_eqb (get_or ks j 0) k
-    (λ same. elim (cases_lt j i) [
-      | inl below ↦ omega (arith, same, at.1 j below)
-      | inr from ↦ omega (arith, same, at.2 j from within)
-    ]))))
+among-found x y z u v = grind (arith, searched, list_any_at, eq-eqb, list_any_none, ne_eqb)
 
 -- each line that is kept is one of the lines
 pub kept-within : (p : ℕ → Bool) (n : ℕ) → All (λ k. k < n) (filter p (range_with_len 0 n))
@@ -361,39 +234,20 @@ kept-within p n = All-filter p (λ k. k < n) (range_with_len 0 n)
 -- all lines pass a test that each passes
 pub all-kept : (p : ℕ → Bool) (n count : ℕ) (none new : List ℕ) → ((k : ℕ) → p k ≡ true) → count ≡ n → none ≡ []
     → new ≡ none ++ range_with_len 0 (count - 0) → new ≡ filter p (range_with_len 0 n)
-all-kept p n count none new all are empty pushed =
-    let same : count - 0 ≡ n = omega arith in
-    pushed ∙ ap (λ ks. ks ++ range_with_len 0 (count - 0)) empty ∙ ap (range_with_len 0) same ∙ sym (range-all p 0 n (λ k from to. all k))
+all-kept p n count none new all are empty pushed = grind (arith, range-all)
 
 -- ---- lines after a source
 
 -- no span touches a line after the source, nor keeps or sees it
 untouched : (source : List ℕ) (k : ℕ) (a : Annotation) → length (source_lines source) ≤ k → touches source a k ≡ false
-untouched source k a after =
-    let last : last_line source a < k = omega (arith, line_of-within source a.span.end) in
-    ap (λ b. leb (first_line source a) k && b) (lt-leb k (last_line source a) last) ∙ and-none (leb (first_line source a) k)
-  where
-    and-none : (b : Bool) → (b && false) ≡ false
-    and-none true = refl
-    and-none false = refl
+untouched source k a after = grind (arith, line_of-within, lt-leb)
 
 pub unkept : (source : List ℕ) (k : ℕ) (marks : List Annotation) → length (source_lines source) ≤ k → list_any (keeps source k) marks ≡ false
-unkept source k marks after =
-    list_any_none (keeps source k) marks (λ i d within.
-    let a : Annotation = get_or marks i d in
-    ap (λ b. b && (eqb k (first_line source a) || eqb k (last_line source a) || not (is_marking a.kind)
-    || has_bar source (first_line source a) (last_line source a) k)) (untouched source k a after))
+unkept source k marks after = grind (arith, list_any_none, untouched)
 
 pub unseen : {A : Type 0} (source : List ℕ) (k : ℕ) (f : A → Annotation) (xs : List A) → length (source_lines source) ≤ k
     → list_any (λ x. is_seen source k (f x)) xs ≡ false
-unseen {A} source k f xs after =
-    list_any_none (λ (x : A). is_seen source k (f x)) xs (λ i d within.
-    let a : Annotation = f (get_or xs i d) in
-    ap (λ b. not (is_marking a.kind) && b) (untouched source k a after) ∙ and-none (not (is_marking a.kind)))
-  where
-    and-none : (b : Bool) → (b && false) ≡ false
-    and-none true = refl
-    and-none false = refl
+unseen {A} source k f xs after = grind (arith, list_any_none, untouched)
 
 -- where a test keeps none of the lines from n on, it keeps those of the first n
 pub filter-cut : (q : ℕ → Bool) (n m : ℕ) → n ≤ m → ((k : ℕ) → n ≤ k → q k ≡ false) → filter q (range_with_len 0 m) ≡ filter q (range_with_len 0 n)

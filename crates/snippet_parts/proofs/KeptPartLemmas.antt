@@ -1,10 +1,9 @@
 -- Entries stand on lines that are kept.
-use Rattle.snippet_parts.proofs.Common.{◌≡◌, ℕ, ◌+◌, ◌-◌, ◌≤◌, Bool, true, false, ◌&&◌, ◌||◌, not, eqb, leb, ltb, min, List, []}
-use Rattle.snippet_parts.proofs.Common.{inl, inr, refl, ap, subst, ◌∙◌, arith, All, Contains, list_any, range_with_len, and_from, and_parts, or_left}
-use Rattle.snippet_parts.proofs.Common.{or_right, eq-eqb, le-leb, ne_eqb, both_ways, false_from_ne_true, All-contains, All-weaker, All-contains_itself}
-use Rattle.snippet_parts.proofs.Common.{list_any_at, list_any_none, Annotation, AnnotationKind, LineAnnotation, is_long, long_entry, depth_of, single_part}
-use Rattle.snippet_parts.proofs.Common.{made_parts, parts_on, bar_lines, has_bar, is_trivial_line, keeps, Source, source_lines, is_marking, touches, first_line}
-use Rattle.snippet_parts.proofs.Common.{last_line, IsSpan, line_of-mono, line_of-within}
+use Rattle.snippet_parts.proofs.Common.{◌≡◌, ℕ, ◌+◌, ◌-◌, ◌≤◌, Bool, true, false, ◌&&◌, ◌||◌, not, eqb, List, [], ap, subst, ◌∙◌, arith, All, Contains}
+use Rattle.snippet_parts.proofs.Common.{list_any, and_from, and_parts, or_left, or_right, eq-eqb, le-leb, ne_eqb, both_ways, false_from_ne_true, All-contains}
+use Rattle.snippet_parts.proofs.Common.{All-weaker, All-contains_itself, list_any_at, list_any_none, Annotation, AnnotationKind, LineAnnotation, is_long}
+use Rattle.snippet_parts.proofs.Common.{long_entry, depth_of, single_part, made_parts, parts_on, bar_lines, keeps, Source, source_lines, is_marking, touches}
+use Rattle.snippet_parts.proofs.Common.{first_line, last_line, IsSpan, line_of-mono, line_of-within}
 use Rattle.snippet_parts.proofs.MarkLemmas.{start-line, end-line, entry_of-line}
 use Rattle.snippet_parts.proofs.PartLemmas.{HoldsOfSpan, IsBarLine, bar_lines-stand, filter-none, made-all}
 use Rattle.snippet_parts.proofs.PartWords.{is_short}
@@ -20,69 +19,34 @@ lines_ordered source a span = line_of-mono (source_lines source) a.span.start a.
 -- ---- lines that a span keeps
 
 first-of-four : (a b c d e : Bool) → e ≡ true → a ≡ true → (e && (a || b || c || d)) ≡ true
-first-of-four true b c d true t u = refl
-first-of-four false b c d e t u = cc
-first-of-four a b c d false t u = cc
+first-of-four x y z u v w a = grind (arith)
 
 second-of-four : (a b c d e : Bool) → e ≡ true → b ≡ true → (e && (a || b || c || d)) ≡ true
-second-of-four true b c d true t u = refl
-second-of-four false true c d true t u = refl
-second-of-four a false c d e t u = cc
-second-of-four a b c d false t u = cc
+second-of-four x y z u v w a = grind (arith)
 
 third-of-four : (a b c d e : Bool) → e ≡ true → c ≡ true → (e && (a || b || c || d)) ≡ true
-third-of-four true b c d true t u = refl
-third-of-four false true c d true t u = refl
-third-of-four false false true d true t u = refl
-third-of-four a b false d e t u = cc
-third-of-four a b c d false t u = cc
+third-of-four x y z u v w a = grind (arith)
 
 fourth-of-four : (a b c d e : Bool) → e ≡ true → d ≡ true → (e && (a || b || c || d)) ≡ true
-fourth-of-four true b c d true t u = refl
-fourth-of-four false true c d true t u = refl
-fourth-of-four false false true d true t u = refl
-fourth-of-four false false false true true t u = refl
-fourth-of-four a b c false e t u = cc
-fourth-of-four a b c d false t u = cc
+fourth-of-four x y z u v w a = grind (arith)
 
 touched : (source : List ℕ) (a : Annotation) (k : ℕ) → first_line source a ≤ k → k ≤ last_line source a → touches source a k ≡ true
-touched source a k from to = and_from (leb (first_line source a) k) (leb k (last_line source a)) (le-leb (first_line source a) k from)
-    (le-leb k (last_line source a) to)
+touched source a k from to = grind (arith, and_from, le-leb)
 
 -- the line on which a span starts is kept
 pub keeps-first : (source : List ℕ) (a : Annotation) (k : ℕ) → IsSpan source a.span.start a.span.end → k ≡ first_line source a → keeps source k a ≡ true
-keeps-first source a k span is =
-    first-of-four (eqb k (first_line source a)) (eqb k (last_line source a)) (not (is_marking a.kind))
-    (has_bar source (first_line source a) (last_line source a) k) (touches source a k)
-    (touched source a k (omega arith) (omega (arith, lines_ordered source a span))) (eq-eqb k (first_line source a) is)
+keeps-first source a k span is = grind (arith, first-of-four, touched, lines_ordered, eq-eqb)
 
 -- the line on which a span ends is kept
 pub keeps-last : (source : List ℕ) (a : Annotation) (k : ℕ) → IsSpan source a.span.start a.span.end → k ≡ last_line source a → keeps source k a ≡ true
-keeps-last source a k span is =
-    second-of-four (eqb k (first_line source a)) (eqb k (last_line source a)) (not (is_marking a.kind))
-    (has_bar source (first_line source a) (last_line source a) k) (touches source a k)
-    (touched source a k (omega (arith, lines_ordered source a span)) (omega arith)) (eq-eqb k (last_line source a) is)
+keeps-last source a k span is = grind (arith, second-of-four, touched, lines_ordered, eq-eqb)
 
 -- an annotation that isn't marked keeps each line that it touches
 pub keeps-unmarked : (source : List ℕ) (a : Annotation) (k : ℕ) → not (is_marking a.kind) ≡ true → touches source a k ≡ true → keeps source k a ≡ true
-keeps-unmarked source a k unmarked there =
-    third-of-four (eqb k (first_line source a)) (eqb k (last_line source a)) (not (is_marking a.kind))
-    (has_bar source (first_line source a) (last_line source a) k) (touches source a k) there unmarked
+keeps-unmarked source a k unmarked there = grind (arith, third-of-four)
 
 keeps-bar : (source : List ℕ) (a : Annotation) (k : ℕ) → IsBarLine source (first_line source a) (last_line source a) k → keeps source k a ≡ true
-keeps-bar source a k bar =
-    let first : ℕ = first_line source a in
-    let last : ℕ = last_line source a in
-    let shown : Bool = list_any (λ j. not (is_trivial_line source j)) (range_with_len k (min (first + 4) last - k)) in
-    let closing : Bool = eqb (k + 1) last && ltb (first + 4) k && not (is_trivial_line source k) in
-    let there : has_bar source first last k ≡ true = elim bar.shown [
-      | inl t ↦ or_left shown closing t
-      | inr t ↦ or_right shown closing
-          (and_from (eqb (k + 1) last && ltb (first + 4) k) (not (is_trivial_line source k)) (and_from (eqb (k + 1) last) (ltb (first + 4) k)
-          (eq-eqb (k + 1) last t.0) t.1) t.2)
-    ] in
-    fourth-of-four (eqb k first) (eqb k last) (not (is_marking a.kind)) (has_bar source first last k) (touches source a k)
-    (touched source a k (omega (arith, bar.from)) bar.to) there
+keeps-bar source a k bar = grind (arith, or_left, or_right, and_from, eq-eqb, fourth-of-four, touched)
 
 -- ---- the line of an entry
 

@@ -7,8 +7,7 @@ use Rattle.std.proofs.Common.{All}
 pub least-push : (ns : List ℕ) (n : ℕ) → least (ns ++ n ∷ []) ≡ Some (option_map_or (λ m. min m n) (least ns) n)
 least-push [] n = refl
 least-push (k ∷ []) n = refl
-least-push (k ∷ m ∷ ns) n =
-    ap (λ (o : Option ℕ). Some (option_map_or (λ j. min k j) o k)) (least-push (m ∷ ns) n) ∙ ap Some (omega arith)
+least-push (k ∷ m ∷ ns) n = grind (arith, least-push (m ∷ ns) n)
 
 -- the greatest, where one number more is added
 pub greatest-push : (ns : List ℕ) (n : ℕ) → greatest (ns ++ n ∷ []) ≡ max (greatest ns) n
@@ -29,6 +28,4 @@ greatest-push_two ns n m =
 pub least_below : (ns : List ℕ) → All (λ n. unwrap_or (least ns) 0 ≤ n) ns
 least_below [] = All-nil (λ n. 0 ≤ n)
 least_below (n ∷ []) = All-cons (λ k. n ≤ k) n [] (omega arith) (All-nil (λ k. n ≤ k))
-least_below (n ∷ m ∷ ns) =
-    let rest = least_below (m ∷ ns) in
-    All-cons (λ k. unwrap_or (least (n ∷ m ∷ ns)) 0 ≤ k) n (m ∷ ns) (omega arith) (λ k d within. omega (arith, rest k d within))
+least_below (n ∷ m ∷ ns) = grind (arith, All-cons, unwrap_or, least_below (m ∷ ns))

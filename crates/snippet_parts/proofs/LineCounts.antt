@@ -1,16 +1,14 @@
 -- How many entries stand on a line: no more than there are spans.
-use Rattle.snippet_parts.proofs.Common.{◌≡◌, ℕ, zero, suc, ◌+◌, ◌-◌, ◌<◌, ◌≤◌, ◌==◌, ◌&&◌, Bool, true, false, cond, not, min}
-use Rattle.snippet_parts.proofs.Common.{List, [], ◌∷◌, ◌++◌, map, length, inl, inr, refl, sym, ap, subst, ◌∙◌, arith, All, count_by, filter}
-use Rattle.snippet_parts.proofs.Common.{list_any, range_with_len, zero-add, and_parts, cases_Bool, cases_lt, cond-true, cond-false, eq-eqb, ne_eqb, not-true}
-use Rattle.snippet_parts.proofs.Common.{length-map, map-append, All-head, All-map, All-tail, All-weaker, count_by-le-length, length-filter, sum_by-append}
-use Rattle.snippet_parts.proofs.Common.{sum_by-cons, Source, ordered_by, put_in, IsSpan, Annotation, Primary, LineAnnotation, LongExtent, MultilineEnd}
-use Rattle.snippet_parts.proofs.Common.{Singleline, bar_part, end_part, is_long, long_entry, long_parts, long_place, bar_lines, long_spans, made_parts}
-use Rattle.snippet_parts.proofs.Common.{parts_on, promoted, single_part, span_parts, start_part, depth_among, has_bar, is_trivial_line, is_marking}
-use Rattle.snippet_parts.proofs.Common.{is_single_line, first_line, last_line}
+use Rattle.snippet_parts.proofs.Common.{◌≡◌, ℕ, zero, suc, ◌+◌, ◌-◌, ◌<◌, ◌≤◌, ◌==◌, ◌&&◌, Bool, true, false, cond, not, List, [], ◌∷◌, ◌++◌, map, length}
+use Rattle.snippet_parts.proofs.Common.{inl, inr, refl, sym, ap, subst, ◌∙◌, arith, All, count_by, filter, range_with_len, zero-add, and_parts, cases_lt}
+use Rattle.snippet_parts.proofs.Common.{cond-true, cond-false, eq-eqb, ne_eqb, not-true, length-map, map-append, All-head, All-map, All-tail, All-weaker}
+use Rattle.snippet_parts.proofs.Common.{count_by-le-length, length-filter, sum_by-append, sum_by-cons, Source, ordered_by, put_in, IsSpan, Annotation}
+use Rattle.snippet_parts.proofs.Common.{LineAnnotation, LongExtent, MultilineEnd, Singleline, bar_part, end_part, is_long, long_entry, long_parts, bar_lines}
+use Rattle.snippet_parts.proofs.Common.{long_spans, made_parts, parts_on, promoted, single_part, span_parts, start_part, is_marking, is_single_line}
 use Rattle.snippet_parts.proofs.EntryFacts.{count-map}
 use Rattle.snippet_parts.proofs.KeptPartLemmas.{lines_ordered}
 use Rattle.snippet_parts.proofs.MarkLemmas.{end-line, start-line}
-use Rattle.snippet_parts.proofs.PartWords.{is_promoted, is_short, long_places, stands_among, stands_before}
+use Rattle.snippet_parts.proofs.PartWords.{is_short, long_places, stands_before}
 use Rattle.snippet_parts.proofs.PartLemmas.{All-filtered, All-order, IsBarLine, bar_lines-stand}
 
 -- ---- ascending numbers
@@ -26,13 +24,7 @@ rising-lower low from (n ∷ ns) le rising = (omega (arith, le, rising.0), risin
 
 rising-filter : (q : ℕ → Bool) (low : ℕ) (ns : List ℕ) → Rising low ns → Rising low (filter q ns)
 rising-filter q low [] rising = tt
-rising-filter q low (n ∷ ns) rising =
-    let rest : Rising (n + 1) (filter q ns) = rising-filter q (n + 1) ns rising.1 in
-    elim (cases_Bool (q n)) [
-      | inl t ↦ subst (Rising low) (sym (cond-true (q n) (n ∷ filter q ns) (filter q ns) t)) (rising.0, rest)
-      | inr f ↦ subst (Rising low) (sym (cond-false (q n) (n ∷ filter q ns) (filter q ns) f))
-          (rising-lower low (n + 1) (filter q ns) (omega (arith, rising.0)) rest)
-    ]
+rising-filter q low (n ∷ ns) rising = grind (arith, cond-true, cond-false, rising-lower, rising-filter q (n + 1) ns rising.1)
 
 rising-range : (a n : ℕ) → Rising a (range_with_len a n)
 rising-range a zero = tt
@@ -48,9 +40,7 @@ rising-append low high (m ∷ ms) ns le rising below more = (
 
 rising-map : (by low : ℕ) (ns : List ℕ) → Rising low ns → Rising (by + low) (map (λ n. by + n) ns)
 rising-map by low [] rising = tt
-rising-map by low (n ∷ ns) rising =
-    let next : by + (n + 1) ≡ by + n + 1 = omega arith in
-    (omega (arith, rising.0), subst (λ k. Rising k (map (λ m. by + m) ns)) next (rising-map by (n + 1) ns rising.1))
+rising-map by low (n ∷ ns) rising = grind (arith, rising-map by (n + 1) ns rising.1)
 
 -- none of them is less than the first, so each stands there once
 rising-none : (k low : ℕ) (ns : List ℕ) → k < low → Rising low ns → count_by (λ n. n == k) ns ≡ 0
@@ -62,8 +52,7 @@ rising-none k low (n ∷ ns) less rising =
 
 -- a test counts one at most
 one : (b : Bool) → cond b 1 0 ≤ 1
-one true = omega arith
-one false = omega arith
+one x = grind (arith)
 
 rising-once : (k low : ℕ) (ns : List ℕ) → Rising low ns → count_by (λ n. n == k) ns ≤ 1
 rising-once k low [] rising = omega arith
@@ -79,23 +68,11 @@ rising-once k low (n ∷ ns) rising =
 
 -- a bar stands before the last line
 bar-below : (source : List ℕ) (first last k : ℕ) → IsBarLine source first last k → k < last
-bar-below source first last k bar =
-    elim bar.shown [
-      | inl passes ↦ elim (cases_lt k last) [
-        | inl less ↦ less
-        | inr past ↦
-            let none : min (first + 4) last - k ≡ 0 = omega (arith, past) in
-            let never : false ≡ true = sym (ap (λ n. list_any (λ j. not (is_trivial_line source j)) (range_with_len k n)) none) ∙ passes in
-            absurd cc
-      ]
-      | inr closing ↦ omega (arith, closing.0)
-    ]
+bar-below source first last k bar = grind (arith)
 
 -- the lines of bars ascend
 rising-bars : (source : List ℕ) (first last : ℕ) → first < last → Rising (first + 1) (bar_lines source first last)
-rising-bars source first last long =
-    let from : ℕ = first + 1 in
-    rising-filter (has_bar source first last) from (range_with_len from (last - from)) (rising-range from (last - from))
+rising-bars source first last long = grind (arith, rising-filter, rising-range)
 
 module _ (s : Source) (n : ℕ) where
   -- whether a part stands on the line of this number
@@ -146,32 +123,18 @@ module _ (s : Source) (n : ℕ) where
   -- nor of one as it is drawn
   drawn_once : (depth : ℕ) (again : Bool) (before : List LineAnnotation) (e : LineAnnotation) → IsSeveral e
       → count_by stands (span_parts s depth again (promoted before e)) ≤ 1
-  drawn_once depth again before e several =
-      elim (is_promoted before e) as (λ b. count_by stands (span_parts s depth again (cond b (record e { kind = Primary }) e)) ≤ 1) [
-        | true ↦ span_once depth again (record e { kind = Primary }) several
-        | false ↦ span_once depth again e several
-      ]
+  drawn_once depth again before e several = grind (arith, stands, span_once)
 
   longs_few : (places : List LongExtent) (before es : List LineAnnotation) → All IsSeveral es → count_by stands (long_parts s places before es) ≤ length es
   longs_few places before [] all = omega arith
   longs_few places before (e ∷ later) all =
-      let own : List LineAnnotation = span_parts s (depth_among places (long_place e)) (stands_among e later) (promoted before e) in
-      omega (
-        arith,
-        sum_by-append (λ p. cond (stands p) 1 0) own (long_parts s places (before ++ e ∷ []) later),
-        drawn_once (depth_among places (long_place e)) (stands_among e later) before e (All-head IsSeveral e later all),
-        longs_few places (before ++ e ∷ []) later (All-tail IsSeveral e later all),
-      )
+      grind (arith, sum_by-append, stands, drawn_once, All-head, All-tail, longs_few places (before ++ e ∷ []) later (All-tail IsSeveral e later all))
 
 -- ---- all spans
 
 length-put_in : {X : Type 0} (before : X → X → Bool) (x : X) (ys : List X) → length (put_in before x ys) ≡ length ys + 1
 length-put_in before x [] = omega arith
-length-put_in before x (y ∷ ys) =
-    elim (cases_Bool (before y x)) [
-      | inl t ↦ omega (arith, length-put_in before x ys, ap length (cond-true (before y x) (y ∷ put_in before x ys) (x ∷ y ∷ ys) t))
-      | inr f ↦ omega (arith, ap length (cond-false (before y x) (y ∷ put_in before x ys) (x ∷ y ∷ ys) f))
-    ]
+length-put_in before x (y ∷ ys) = grind (arith, cond-true, cond-false, length-put_in before x ys)
 
 -- as many are in order as there are
 pub length-in_order : {X : Type 0} (before : X → X → Bool) (xs : List X) → length (ordered_by before xs) ≡ length xs
@@ -196,22 +159,7 @@ either_few p q apart (x ∷ xs) =
 
 -- a span that stands on several lines stands from one to a later one
 is_several : (s : Source) (a : Annotation) → IsSpan s.text a.span.start a.span.end → is_long s.text a ≡ true → IsSeveral s 0 (long_entry s a)
-is_several s a span long =
-    let parts = and_parts (is_marking a.kind) (not (is_single_line s.text a)) long in
-    let first : (long_entry s a).start.line ≡ s.first + first_line s.text a = start-line s a.span.start a.span.end in
-    let last : (long_entry s a).end.line ≡ s.first + last_line s.text a = end-line s a.span.start a.span.end in
-    let ordered : first_line s.text a ≤ last_line s.text a = lines_ordered s.text a span in
-    let apart : last_line s.text a ≡ first_line s.text a → ⊥ = λ same.
-    not_both (is_single_line s.text a) (eq-eqb (last_line s.text a) (first_line s.text a) same) (not-true (is_single_line s.text a) parts.1) in (
-      omega (arith, first),
-      elim (cases_lt (first_line s.text a) (last_line s.text a)) [
-        | inl less ↦ omega (arith, first, last, less)
-        | inr past ↦ absurd (apart (omega (arith, ordered, past)))
-      ],
-    )
-  where
-    not_both : (b : Bool) → b ≡ true → b ≡ false → ⊥
-    not_both b is not_is = let never : true ≡ false = sym is ∙ not_is in absurd cc
+is_several s a span long = grind (arith, and_parts, start-line, end-line, lines_ordered, eq-eqb, not-true)
 
 -- no more entries stand on a line than there are spans
 pub parts_on-few : (s : Source) (marks : List Annotation) (k : ℕ) → All (λ a. IsSpan s.text a.span.start a.span.end) marks

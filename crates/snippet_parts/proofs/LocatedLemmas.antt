@@ -1,37 +1,27 @@
 -- Spans with their places: what is known of the annotations that they are.
-use Rattle.snippet_parts.proofs.Common.{◌+◌, ◌≡◌, ℕ, ◌<◌, ◌≤◌, ◌^◌, Bool, true, false, ◌&&◌, not, cond, eqb, List, [], ◌∷◌}
-use Rattle.snippet_parts.proofs.Common.{map, refl, sym, ap, ◌∙◌, subst, arith, max, All, filter, option_map, cow_str_bytes, ne_eqb, All-head, All-tail}
-use Rattle.snippet_parts.proofs.Common.{Source, source_lines, line_of-mono, line_of-within, ordered_by, Loc, Annotation, LineAnnotation, Singleline}
-use Rattle.snippet_parts.proofs.Common.{single_part, long_entry, is_long, long_spans, is_marking, first_line, last_line, LocatedSpan, LongSpan, AreBars}
-use Rattle.snippet_parts.proofs.Common.{IsLocated, annotations_of, is_short_span, is_long_span, span_entry, short_part, seen_long, HasFit}
+use Rattle.snippet_parts.proofs.Common.{◌+◌, ◌≡◌, ℕ, ◌<◌, ◌≤◌, ◌^◌, Bool, true, List, [], ◌∷◌, map, refl, sym, ap, ◌∙◌, subst, arith, max, All, filter}
+use Rattle.snippet_parts.proofs.Common.{option_map, cow_str_bytes, ne_eqb, All-head, All-tail, Source, line_of-mono, line_of-within, ordered_by, Loc}
+use Rattle.snippet_parts.proofs.Common.{Annotation, LineAnnotation, Singleline, single_part, long_entry, is_long, long_spans, is_marking, first_line}
+use Rattle.snippet_parts.proofs.Common.{last_line, LocatedSpan, LongSpan, AreBars, IsLocated, annotations_of, is_short_span, is_long_span, span_entry}
+use Rattle.snippet_parts.proofs.Common.{short_part, seen_long, HasFit}
 use Rattle.snippet_parts.proofs.LongLemmas.{fit-long}
 use Rattle.snippet_parts.proofs.PartWords.{is_short, stands_before}
 
 -- ---- one span
 
 short-is : (s : Source) (l : LocatedSpan) → IsLocated s l → is_short_span l ≡ is_short s.text l.annotation.now
-short-is s l at = ap (λ n. is_marking l.annotation.now.kind && eqb n l.first) at.last
-    ∙ ap (λ n. is_marking l.annotation.now.kind && eqb (last_line s.text l.annotation.now) n) at.first
+short-is s l at = grind (arith)
 
 long-is : (s : Source) (l : LocatedSpan) → IsLocated s l → is_long_span l ≡ is_long s.text l.annotation.now
-long-is s l at = ap (λ n. is_marking l.annotation.now.kind && not (eqb n l.first)) at.last
-    ∙ ap (λ n. is_marking l.annotation.now.kind && not (eqb (last_line s.text l.annotation.now) n)) at.first
+long-is s l at = grind (arith)
 
 -- a marked span whose lines differ is one of several lines
 pub long_span-by : (l : LocatedSpan) → is_marking l.annotation.now.kind ≡ true → (l.last ≡ l.first → ⊥) → is_long_span l ≡ true
-long_span-by l marked apart =
-    ap (λ b. b && not (eqb l.last l.first)) marked ∙ ap not (ne_eqb l.last l.first apart)
+long_span-by l marked apart = grind (arith, ne_eqb)
 
 -- its lines are in order, and lines of the source
 pub located-ordered : (s : Source) (l : LocatedSpan) → IsLocated s l → l.first ≤ l.last
-located-ordered s l at =
-    omega (
-      arith,
-      at.first,
-      at.last,
-      line_of-within s.text 0,
-      line_of-mono (source_lines s.text) l.annotation.now.span.start l.annotation.now.span.end (omega (arith, line_of-within s.text 0)) at.span.ordered,
-    )
+located-ordered s l at = grind (arith, line_of-within, line_of-mono)
 
 -- an annotation as it is seen at two locations
 abbrev seen_at : Annotation → Loc × Loc → LineAnnotation
@@ -59,14 +49,7 @@ part-is s l at = ap (part_at l.annotation.now) at.locations
 chosen : {A B C : Type 0} (P : A → Type 0) (g : A → B) (p : A → Bool) (q : B → Bool) (f : A → C) (h : B → C) → ((x : A) → P x → p x ≡ q (g x))
     → ((x : A) → P x → f x ≡ h (g x)) → (xs : List A) → All P xs → map f (filter p xs) ≡ map h (filter q (map g xs))
 chosen P g p q f h same is [] all = refl
-chosen P g p q f h same is (x ∷ xs) all =
-    ap (λ b. map f (cond b (x ∷ filter p xs) (filter p xs))) (same x (All-head P x xs all))
-    ∙ pick (q (g x)) (chosen P g p q f h same is xs (All-tail P x xs all))
-  where
-    pick : (b : Bool) → map f (filter p xs) ≡ map h (filter q (map g xs))
-        → map f (cond b (x ∷ filter p xs) (filter p xs)) ≡ map h (cond b (g x ∷ filter q (map g xs)) (filter q (map g xs)))
-    pick true rest = ap (λ c. c ∷ map f (filter p xs)) (is x (All-head P x xs all)) ∙ ap (λ cs. h (g x) ∷ cs) rest
-    pick false rest = rest
+chosen P g p q f h same is (x ∷ xs) all = grind (arith, All-head, All-tail, chosen P g p q f h same is xs (All-tail P x xs all))
 
 -- the entries of spans on one line
 pub short-parts : (s : Source) (ls : List LocatedSpan) → All (IsLocated s) ls

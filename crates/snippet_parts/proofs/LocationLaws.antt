@@ -1,12 +1,11 @@
 -- The place that the head of a primary snippet names, in words of its spans.
-use Rattle.snippet_parts.proofs.Common.{◌≡◌, ℕ, suc, ◌+◌, ◌<◌, ◌≤◌, Bool, true, false, ◌&&◌, ◌||◌, cond, not, eqb, min, Option}
-use Rattle.snippet_parts.proofs.Common.{Some, None, List, [], ◌∷◌, map, get_or, inl, inr, refl, sym, ap, subst, ◌∙◌, arith, All, Contains, filter}
-use Rattle.snippet_parts.proofs.Common.{list_any, IsSomeAnd, is_some, option_map, option_map_or, option_or, cases_Bool, cases_lt, cond-true, cond-false}
-use Rattle.snippet_parts.proofs.Common.{and_from, and_left, and_parts, false_from_ne_true, both_ways, eq-eqb, eqb-true, All-head, All-tail, All-contains}
-use Rattle.snippet_parts.proofs.Common.{All-contains_itself, All-filter, Contains-get_or, filter_passes, map-map, Annotation, AnnotationKind, Primary, Context}
-use Rattle.snippet_parts.proofs.Common.{Visible, Source, locations_of, IsSpan, LineAnnotation, Location, KeptLine, annotated_lines, is_long, kept_line}
-use Rattle.snippet_parts.proofs.Common.{parts_on, single_part, is_primary, Ascends, is_untouched, kept_lines, is_marking, is_marked_on, is_single_line, touches}
-use Rattle.snippet_parts.proofs.Common.{first_line, least, primary_place, start_at, IsLocation}
+use Rattle.snippet_parts.proofs.Common.{◌≡◌, ℕ, suc, ◌+◌, ◌<◌, ◌≤◌, Bool, true, false, ◌&&◌, ◌||◌, cond, eqb, min, Option, Some, None, List, [], ◌∷◌, map}
+use Rattle.snippet_parts.proofs.Common.{get_or, inl, inr, refl, sym, ap, subst, ◌∙◌, arith, All, Contains, filter, list_any, IsSomeAnd, is_some, option_map}
+use Rattle.snippet_parts.proofs.Common.{option_map_or, option_or, cases_Bool, cases_lt, cond-true, cond-false, and_from, and_left, and_parts}
+use Rattle.snippet_parts.proofs.Common.{false_from_ne_true, both_ways, eq-eqb, eqb-true, All-head, All-tail, All-contains, All-contains_itself, All-filter}
+use Rattle.snippet_parts.proofs.Common.{Contains-get_or, filter_passes, map-map, Annotation, AnnotationKind, Primary, Context, Visible, Source, locations_of}
+use Rattle.snippet_parts.proofs.Common.{IsSpan, LineAnnotation, Location, KeptLine, annotated_lines, is_long, kept_line, parts_on, single_part, is_primary}
+use Rattle.snippet_parts.proofs.Common.{Ascends, is_untouched, kept_lines, is_marking, is_marked_on, first_line, least, primary_place, start_at, IsLocation}
 use Rattle.snippet_parts.proofs.EntryFacts.{filter-filter, untouched-parts}
 use Rattle.snippet_parts.proofs.KeptPartLemmas.{any-member}
 use Rattle.snippet_parts.proofs.LocationWords.{start_columns, primary_parts, all_parts, choice_place, first_place, filter-true, primary-is}
@@ -77,9 +76,7 @@ none-member p xs x among none = false_from_ne_true (p x) (λ t. both_ways (list_
 
 filter-agree : {X : Type 0} (p q : X → Bool) (xs : List X) → All (λ x. p x ≡ q x) xs → filter p xs ≡ filter q xs
 filter-agree p q [] same = refl
-filter-agree p q (x ∷ xs) same =
-    ap (λ b. cond b (x ∷ filter p xs) (filter p xs)) (All-head (λ x. p x ≡ q x) x xs same)
-    ∙ ap (λ ys. cond (q x) (x ∷ ys) ys) (filter-agree p q xs (All-tail (λ x. p x ≡ q x) x xs same))
+filter-agree p q (x ∷ xs) same = grind (arith, All-head, All-tail, filter-agree p q xs (All-tail (λ x. p x ≡ q x) x xs same))
 
 -- ---- the first line that has a place
 
@@ -115,16 +112,7 @@ first-here place_on line_at k ks place rises has = record {
 -- it has none
 first-there : (place_on : KeptLine → Option Location) (line_at : ℕ → KeptLine) (k : ℕ) (ks : List ℕ) (n : ℕ) (place : Location) → place_on (line_at k) ≡ None
     → IsFirst place_on line_at ks n place → IsFirst place_on line_at (k ∷ ks) n place
-first-there place_on line_at k ks n place missing first = record {
-  among = contains-there n k ks first.among;
-  has = first.has;
-  is = ap (λ o. option_or o (first_place place_on (map line_at ks))) missing ∙ first.is;
-  none = λ j found less. elim (contains-cases j k ks found) [
-    | inl same ↦ ap (λ n. place_on (line_at n)) (sym same)
-        ∙ missing
-    | inr later ↦ first.none j later less
-  ];
-}
+first-there place_on line_at k ks n place missing first = grind (arith, contains-there, first_place, contains-cases)
 
 first_placed : (place_on : KeptLine → Option Location) (line_at : ℕ → KeptLine) (ks : List ℕ) (some : ℕ) → Ascends ks → Contains ks some
     → is_some (place_on (line_at some)) ≡ true → (k : ℕ) × (place : Location) × IsFirst place_on line_at ks k place
@@ -149,8 +137,7 @@ first_placed place_on line_at (k ∷ ks) some rises among has =
 pub first-none : (place_on : KeptLine → Option Location) (line_at : ℕ → KeptLine) (ks : List ℕ) → ((k : ℕ) → place_on (line_at k) ≡ None)
     → first_place place_on (map line_at ks) ≡ None
 first-none place_on line_at [] none = refl
-first-none place_on line_at (k ∷ ks) none =
-    ap (λ o. option_or o (first_place place_on (map line_at ks))) (none k) ∙ first-none place_on line_at ks none
+first-none place_on line_at (k ∷ ks) none = grind (arith, first_place, first-none place_on line_at ks none)
 
 -- ---- the spans that start on a line
 
@@ -165,9 +152,7 @@ record Chooses (choice : List LineAnnotation → List LineAnnotation) (test : An
 starts-there : (test : Annotation → Bool) (s : Source) (marks : List Annotation) (k : ℕ) (a : Annotation) → Contains marks a → test a ≡ true
     → first_line s.text a ≡ k → Contains (starting test s marks k) a
 unfolding starting
-starts-there test s marks k a among passes on =
-    contains-filter (λ (a : Annotation). test a && eqb (first_line s.text a) k) a marks
-    (and_from (test a) (eqb (first_line s.text a) k) passes (eq-eqb (first_line s.text a) k on)) among
+starts-there test s marks k a among passes on = grind (arith, contains-filter, and_from, eq-eqb)
 
 start_at-single : (s : Source) (spans : List Annotation) → start_columns (map (single_part s) spans) ≡ map (start_at s) spans
 unfolding locations_of
@@ -177,9 +162,7 @@ start_at-single s spans = map-map (λ (p : LineAnnotation). p.start.char + 1) (s
 least_place-on : (choice : List LineAnnotation → List LineAnnotation) (test : Annotation → Bool) (s : Source) (marks : List Annotation) (k : ℕ)
     → Chooses choice test s marks → choice_place choice (kept_line s marks k)
     ≡ option_map (λ column. record { line = s.first + k; column = Some column }) (least (map (start_at s) (starting test s marks k)))
-least_place-on choice test s marks k chooses =
-    ap (λ ns. option_map (λ column. record { line = s.first + k; column = Some column }) (least ns))
-    (ap start_columns (chooses.parts k) ∙ start_at-single s (starting test s marks k))
+least_place-on choice test s marks k chooses = grind (arith, start_at-single)
 
 -- ---- the first line with such a span
 
@@ -268,25 +251,11 @@ NoneLong s marks = All (λ a. is_long s.text a ≡ false) marks
 
 untouched : (s : Source) (marks : List Annotation) (k : ℕ) → NoneLong s marks → is_untouched s.text marks k ≡ true
 untouched s [] k none = refl
-untouched s (a ∷ marks) k none =
-    and_from (not (is_marking a.kind && touches s.text a k && not (is_single_line s.text a))) (is_untouched s.text marks k)
-    (apart (is_marking a.kind) (touches s.text a k) (is_single_line s.text a) (All-head (λ a. is_long s.text a ≡ false) a marks none))
-    (untouched s marks k (All-tail (λ a. is_long s.text a ≡ false) a marks none))
-  where
-    apart : (marked there single : Bool) → (marked && not single) ≡ false → not (marked && there && not single) ≡ true
-    apart true true true none = refl
-    apart true true false none = cc
-    apart true false single none = refl
-    apart false there single none = refl
+untouched s (a ∷ marks) k none = grind (arith, and_from, All-head, All-tail, untouched s marks k (All-tail (λ a. is_long s.text a ≡ false) a marks none))
 
 -- so a span that is marked is marked on the line on which it starts
 marked-there : (s : Source) (k : ℕ) (a : Annotation) → is_long s.text a ≡ false → is_marked_on s.text k a ≡ (is_marking a.kind && eqb (first_line s.text a) k)
-marked-there s k a none = by (is_marking a.kind) (is_single_line s.text a) (eqb (first_line s.text a) k) none
-  where
-    by : (marked single there : Bool) → (marked && not single) ≡ false → (marked && single && there) ≡ (marked && there)
-    by true true there none = refl
-    by true false there none = cc
-    by false single there none = refl
+marked-there s k a none = grind (arith)
 
 parts-marked : (s : Source) (marks : List Annotation) (k : ℕ) → All (λ a. IsSpan s.text a.span.start a.span.end) marks → NoneLong s marks
     → parts_on s marks k ≡ map (single_part s) (starting (λ a. is_marking a.kind) s marks k)
@@ -329,22 +298,7 @@ chooses-primary s marks spans none = record { parts = on }
 -- where a span is primary, the primary ones name, and else the context ones
 named-primary : (s : Source) (marks : List Annotation) (place : Location) → list_any (λ a. is_primary a.kind) marks ≡ true
     → IsPlaceBy (λ a. is_primary a.kind) s marks place → IsLocation s marks place
-named-primary s marks place some by = record {
-  span = by.span;
-  naming = (by.among, primary by.span.kind by.passes ∙ sym kind);
-  line = by.line;
-  column = by.column;
-  first = λ other naming. by.first other naming.0 (ap is_primary (naming.1 ∙ kind));
-  least = λ other naming beside. by.lowest other naming.0 (ap is_primary (naming.1 ∙ kind)) beside;
-}
-  where
-    kind : cond (list_any (λ a. is_primary a.kind) marks) Primary Context ≡ Primary
-    kind = cond-true (list_any (λ a. is_primary a.kind) marks) Primary Context some
-
-    primary : (kind : AnnotationKind) → is_primary kind ≡ true → kind ≡ Primary
-    primary Primary is = refl
-    primary Context is = cc
-    primary Visible is = cc
+named-primary s marks place some by = grind (arith, cond-true)
 
 named-context : (s : Source) (marks : List Annotation) (place : Location) → list_any (λ a. is_primary a.kind) marks ≡ false
     → IsPlaceBy (λ a. is_marking a.kind) s marks place → IsLocation s marks place

@@ -1,7 +1,7 @@
 -- Words for what the places that heads name are made of, which proofs cite.
-use Rattle.snippet_parts.proofs.Common.{◌≡◌, ℕ, ◌+◌, true, Option, Some, None, List, [], ◌∷◌, ◌++◌, map, refl, sym, ap, ◌∙◌}
-use Rattle.snippet_parts.proofs.Common.{cons_option, filter, filter_map, slice_get, option_map, option_or, append-nil, is_primary, LineAnnotation, Location}
-use Rattle.snippet_parts.proofs.Common.{KeptLine, least, least_place, primary_place, secondary_place}
+use Rattle.snippet_parts.proofs.Common.{◌≡◌, ℕ, ◌+◌, true, Option, Some, None, List, [], ◌∷◌, ◌++◌, map, refl, sym, ap, ◌∙◌, filter, filter_map, slice_get}
+use Rattle.snippet_parts.proofs.Common.{option_map, option_or, append-nil, is_primary, LineAnnotation, Location, KeptLine, least, least_place, primary_place}
+use Rattle.snippet_parts.proofs.Common.{secondary_place, arith}
 
 -- the columns at which some entries start: characters, counted from 1
 abbrev pub start_columns : List LineAnnotation → List ℕ
@@ -36,12 +36,7 @@ first_place place_on (line ∷ lines) = option_or (place_on line) (first_place p
 first-is : (place_on : KeptLine → Option Location) (lines : List KeptLine) (others : List Location)
     → slice_get (filter_map place_on lines ++ others) 0 ≡ option_or (first_place place_on lines) (slice_get others 0)
 first-is place_on [] others = refl
-first-is place_on (line ∷ lines) others = by (place_on line) (first-is place_on lines others)
-  where
-    by : (o : Option Location) → slice_get (filter_map place_on lines ++ others) 0 ≡ option_or (first_place place_on lines) (slice_get others 0)
-        → slice_get (cons_option o (filter_map place_on lines) ++ others) 0 ≡ option_or (option_or o (first_place place_on lines)) (slice_get others 0)
-    by None rest = rest
-    by (Some place) rest = refl
+first-is place_on (line ∷ lines) others = grind (arith, first_place, first-is place_on lines others)
 
 -- all entries are chosen where each is
 pub filter-true : {X : Type 0} (xs : List X) → filter (λ x. true) xs ≡ xs
@@ -49,8 +44,7 @@ filter-true [] = refl
 filter-true (x ∷ xs) = ap (λ ys. x ∷ ys) (filter-true xs)
 
 or-none : (o : Option Location) → option_or o None ≡ o
-or-none None = refl
-or-none (Some place) = refl
+or-none x = grind (arith)
 
 -- what the head of a primary snippet names, line by line
 pub primary-is : (lines : List KeptLine)

@@ -1,9 +1,8 @@
 -- Spans of several lines, in their order.
-use Rattle.snippet_parts.proofs.Common.{◌≡◌, ℕ, ◌-◌, ◌^◌, ◌<◌, ◌≤◌, Bool, true, false, ◌&&◌, ◌||◌, not, eqb, ltb, List, map}
-use Rattle.snippet_parts.proofs.Common.{get_or, inl, inr, ap, subst, ◌∙◌, arith, IsStrictWeakOrder, IsNonDecreasingBy, IsSortedBy, is_lt, ordering_then}
-use Rattle.snippet_parts.proofs.Common.{nat_tests, LineAnnotation, LongSpan, long_entry, is_long, ordered_by, AreBars, seen_long, HasFit, Source, source_lines}
-use Rattle.snippet_parts.proofs.Common.{is_marking, first_line, last_line, Annotation, cases_eq, cases_lt, eqb-false, ltb-false, not-true, and_parts, or_parts}
-use Rattle.snippet_parts.proofs.Common.{line_of-mono, line_of-within, map-ordered_by, sorted_far}
+use Rattle.snippet_parts.proofs.Common.{◌≡◌, ℕ, ◌-◌, ◌^◌, ◌<◌, ◌≤◌, Bool, true, false, ◌&&◌, ◌||◌, eqb, ltb, List, map, get_or, ap, subst, ◌∙◌, arith}
+use Rattle.snippet_parts.proofs.Common.{IsStrictWeakOrder, IsNonDecreasingBy, IsSortedBy, is_lt, ordering_then, nat_tests, LineAnnotation, LongSpan}
+use Rattle.snippet_parts.proofs.Common.{long_entry, is_long, ordered_by, AreBars, seen_long, HasFit, Source, first_line, last_line, Annotation, eqb-false}
+use Rattle.snippet_parts.proofs.Common.{ltb-false, not-true, and_parts, or_parts, line_of-mono, line_of-within, map-ordered_by, sorted_far}
 use Rattle.std.specs.Ordering.{nat_cmp}
 use Rattle.snippet_parts.proofs.MarkLemmas.{start-line, end-line}
 use Rattle.snippet_parts.proofs.PartWords.{stands_before}
@@ -24,28 +23,11 @@ chained a b c d e f g h = grind (arith, nat_tests)
 
 -- which of two spans of several lines comes first is an order
 pub long_before-order : IsStrictWeakOrder long_before
-long_before-order = record {
-  one_way = λ x y h. one_way x.start.line x.end.line y.start.line y.end.line h;
-  chain = λ x y z g h. chained x.start.line x.end.line y.start.line y.end.line z.start.line z.end.line g h;
-}
+long_before-order = grind (arith, one_way, chained)
 
 -- a span of several lines starts on an earlier line than it ends on
 pub long-lines : (s : Source) (a : Annotation) → a.span.start ≤ a.span.end → is_long s.text a ≡ true → (long_entry s a).start.line < (long_entry s a).end.line
-long-lines s a ordered long =
-    let other : last_line s.text a ≡ first_line s.text a → ⊥ = eqb-false (last_line s.text a) (first_line s.text a)
-    (not-true (eqb (last_line s.text a) (first_line s.text a)) (and_parts (is_marking a.kind)
-    (not (eqb (last_line s.text a) (first_line s.text a))) long).1) in
-    let up : first_line s.text a ≤ last_line s.text a = line_of-mono (source_lines s.text) a.span.start a.span.end
-    (omega (arith, line_of-within s.text 0)) ordered in
-    let less : first_line s.text a < last_line s.text a = elim (cases_eq (last_line s.text a) (first_line s.text a)) [
-      | inl same ↦ absurd
-          (other same)
-      | inr apart ↦ below (first_line s.text a) (last_line s.text a) up apart
-    ] in
-    omega (arith, start-line s a.span.start a.span.end, end-line s a.span.start a.span.end)
-  where
-    below : (m n : ℕ) → m ≤ n → (n ≡ m → ⊥) → m < n
-    below m n le apart = elim (cases_lt m n) [ inl less ↦ less | inr more ↦ absurd (apart (omega arith)) ]
+long-lines s a ordered long = grind (arith, eqb-false, not-true, and_parts, line_of-mono, line_of-within, start-line, end-line)
 
 -- a span of several lines whose columns are small enough has room
 pub fit-long : (s : Source) (a : Annotation) (l : LongSpan) → a.span.start ≤ a.span.end → seen_long l ≡ long_entry s a → l.start.display < 2 ^ 58

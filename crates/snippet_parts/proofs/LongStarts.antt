@@ -1,9 +1,9 @@
 -- The entries of spans of several lines: one stands where each of them starts, and none before.
-use Rattle.snippet_parts.proofs.Common.{◌≡◌, ℕ, ◌+◌, ◌-◌, ◌<◌, ◌≤◌, Bool, true, false, ◌||◌, ◌&&◌, List, [], ◌∷◌}
-use Rattle.snippet_parts.proofs.Common.{◌++◌, ◌⊎◌, inl, inr, refl, sym, ap, subst, ◌∙◌, arith, All, list_any, cases_Bool, cond-false, cond_both}
-use Rattle.snippet_parts.proofs.Common.{and_from, and_parts, or_right, both_ways, All-nil, All-append, All-weaker, is_primary, AnnotationKind, Primary, Context}
-use Rattle.snippet_parts.proofs.Common.{Visible, Loc, Source, start_location, LineAnnotation, LongExtent, Singleline, MultilineEnd, long_place, long_parts}
-use Rattle.snippet_parts.proofs.Common.{promoted, span_parts, start_part, bar_part, end_part, bar_lines, depth_among, same_place}
+use Rattle.snippet_parts.proofs.Common.{◌≡◌, ℕ, ◌+◌, ◌-◌, ◌<◌, ◌≤◌, Bool, true, false, List, [], ◌∷◌, ◌++◌, ◌⊎◌, inl, inr, refl, sym, ap, subst, ◌∙◌, arith}
+use Rattle.snippet_parts.proofs.Common.{All, cases_Bool, cond-false, cond_both, and_from, and_parts, or_right, both_ways, All-nil, All-append, All-weaker}
+use Rattle.snippet_parts.proofs.Common.{is_primary, AnnotationKind, Primary, Loc, Source, start_location, LineAnnotation, LongExtent, Singleline}
+use Rattle.snippet_parts.proofs.Common.{MultilineEnd, long_place, long_parts, promoted, span_parts, start_part, bar_part, end_part, bar_lines, depth_among}
+use Rattle.snippet_parts.proofs.Common.{same_place}
 use Rattle.snippet_parts.proofs.AmongLemmas.{Among, among_left, among_right, any_among, any_cases, append_cases}
 use Rattle.snippet_parts.proofs.PartLemmas.{HoldsOfSpan, IsBarLine, bar_lines-stand, span-all}
 use Rattle.snippet_parts.proofs.RawDepthLemmas.{same-refl, same-true}
@@ -28,9 +28,7 @@ pub record IsChoice (t : AnnotationKind → Bool) : Type 0 where
   pub others : (k : AnnotationKind) → t k ≡ true → (is_primary k ≡ true) ⊎ ((j : AnnotationKind) → t j ≡ true)
 
 primary-passes : (t : AnnotationKind → Bool) → IsChoice t → (k : AnnotationKind) → is_primary k ≡ true → t k ≡ true
-primary-passes t choice Primary is = choice.primary
-primary-passes t choice Context is = cc
-primary-passes t choice Visible is = cc
+primary-passes x y z u = grind (arith)
 
 -- what is known of a span of several lines as it is seen
 pub record IsSeen (s : Source) (e : LineAnnotation) : Type 0 where
@@ -55,21 +53,12 @@ more-primary es e place has = record { span = has.span; among = among_left es (e
 
 promoted-primary : (before : List LineAnnotation) (e : LineAnnotation) (place : LongExtent) → HasPrimary before place → long_place e ≡ place
     → is_promoted before e ≡ true
-promoted-primary before e place has at =
-    let same : same_place (long_place e) (long_place has.span) ≡ true = ap (same_place (long_place e)) (has.same ∙ sym at) ∙ same-refl (long_place e) in
-    or_right (is_primary e.kind) (list_any (λ (d : LineAnnotation). is_primary d.kind && same_place (long_place e) (long_place d)) before)
-    (any_among (λ (d : LineAnnotation). is_primary d.kind && same_place (long_place e)
-    (long_place d)) before has.span has.among
-    (and_from (is_primary has.span.kind) (same_place (long_place e) (long_place has.span)) has.primary same))
+promoted-primary before e place has at = grind (arith, same-refl, or_right, any_among, and_from)
 
 promoted-kind : (t : AnnotationKind → Bool) → IsChoice t → (before : List LineAnnotation) (e : LineAnnotation) (place : LongExtent)
     → (t e.kind ≡ true) ⊎ HasPrimary before place
     → long_place e ≡ place → t (promoted before e).kind ≡ true
-promoted-kind t choice before e place why at =
-    cond_both (is_promoted before e) (record e { kind = Primary }) e (λ (d : LineAnnotation). t d.kind ≡ true) (λ _. choice.primary) (λ no. elim why [
-      | inl own ↦ own
-      | inr other ↦ absurd (both_ways (is_promoted before e) no (promoted-primary before e place other at))
-    ])
+promoted-kind t choice before e place why at = grind (arith, cond_both, both_ways, promoted-primary)
 
 -- a span that is promoted starts where it did
 pub promoted-start : (before : List LineAnnotation) (e : LineAnnotation) → (promoted before e).start ≡ e.start
@@ -98,19 +87,7 @@ pub record IsStarted (t : AnnotationKind → Bool) (parts : List LineAnnotation)
 later-started : (t : AnnotationKind → Bool) (first parts : List LineAnnotation) (e : LineAnnotation) (later : List LineAnnotation)
     (place : LongExtent) → IsStarted t parts later place
     → IsStarted t (first ++ parts) (e ∷ later) place
-later-started t first parts e later place rest =
-    record {
-      span = rest.span;
-      among = inr rest.among;
-      same = rest.same;
-      stands = record {
-        part = rest.stands.part;
-        among = among_right first parts rest.stands.part rest.stands.among;
-        passes = rest.stands.passes;
-        at_is =
-            rest.stands.at_is;
-      };
-    }
+later-started t first parts e later place rest = grind (arith, among_right)
 
 -- the last span of its place has an entry where it starts
 last-started : (t : AnnotationKind → Bool) → IsChoice t
@@ -190,30 +167,7 @@ record IsDrawnAs (t : AnnotationKind → Bool) (before later : List LineAnnotati
 
 drawn-as : (t : AnnotationKind → Bool) → IsChoice t → (s : Source) (before : List LineAnnotation) (e : LineAnnotation) (later : List LineAnnotation)
     → ((d : LineAnnotation) → Among before d → IsSeen s d) → IsSeen s e → t (promoted before e).kind ≡ true → IsDrawnAs t before (e ∷ later) e
-drawn-as t choice s before e later seen here passes =
-    elim (cases_Bool (is_primary e.kind)) [
-      | inl primary ↦ record { span = e; among = inr (inl refl); passes = primary-passes t choice e.kind primary; start = refl }
-      | inr other ↦ elim (cases_Bool (is_promoted before e)) [
-        | inl so ↦
-            let d = any_cases (λ (d : LineAnnotation). is_primary d.kind && same_place (long_place e) (long_place d)) before
-            (ap (λ b. b || list_any (λ (d : LineAnnotation). is_primary d.kind && same_place (long_place e) (long_place d)) before) (sym other) ∙ so) in
-            let parts = and_parts (is_primary d.0.kind) (same_place (long_place e) (long_place d.0)) d.2 in
-            record {
-              span = d.0;
-              among = inl d.1;
-              passes = primary-passes t choice d.0.kind parts.0;
-              start = sym
-                  (same_start s e d.0 here (seen d.0 d.1) (same-true (long_place e) (long_place d.0) parts.1));
-            }
-        | inr own ↦ record {
-          span = e;
-          among = inr (inl refl);
-          passes = ap (λ (d : LineAnnotation). t d.kind)
-              (sym (cond-false (is_promoted before e) (record e { kind = Primary }) e own)) ∙ passes;
-          start = refl;
-        }
-      ]
-    ]
+drawn-as t choice s before e later seen here passes = grind (arith, primary-passes, any_cases, and_parts, same_start, same-true, cond-false)
 
 span-reached : (t : AnnotationKind → Bool) → IsChoice t
     → (s : Source) (depth : ℕ) (before : List LineAnnotation) (e : LineAnnotation) (later : List LineAnnotation)

@@ -1,14 +1,13 @@
 -- The place that the head of a primary snippet names is that of a byte: the first one at which a span starts that names it.
-use Rattle.snippet_parts.proofs.Common.{◌≡◌, ℕ, ◌+◌, ◌-◌, ◌<◌, ◌≤◌, Bool, true, false, cond, not, eqb, ltb, min, Option, Some, None}
-use Rattle.snippet_parts.proofs.Common.{List, [], ◌∷◌, ◌++◌, map, length, take, drop, ◌⊎◌, inl, inr, refl, sym, ap, subst, ◌∙◌, arith}
-use Rattle.snippet_parts.proofs.Common.{All, Contains, filter, IfSome, option_map, option_map_or, option_or, IsUtf8, take-add, cases_Bool, cases_eq, cases_lt}
-use Rattle.snippet_parts.proofs.Common.{and_from, and_parts, eq-eqb, eqb-true, le-ltb, lt-ltb, length-append, take_all, IsUtf8-take, chars-append, is_primary}
-use Rattle.snippet_parts.proofs.Common.{Annotation, AnnotationKind, Primary, Context, Visible, Loc, Line, Source, source_lines, start_of, text_at, line_of}
-use Rattle.snippet_parts.proofs.Common.{location_of, place_of, prefix_at, start_location, steps_after_text, IsSpan, IsSpanBorder, IsUtf8-text_at}
-use Rattle.snippet_parts.proofs.Common.{IsCharBoundary-prefix, line_of-mono, line_of-within, locations_of-start, place_of-character, start_location-line}
-use Rattle.snippet_parts.proofs.Common.{LineAnnotation, Location, KeptLine, annotated_lines, is_long, kept_line, long_entry, long_parts, long_place, long_spans}
-use Rattle.snippet_parts.proofs.Common.{made_parts, parts_on, single_part, kept_lines, Ascends, primary_place, marked_starts, naming_start, place_at}
-use Rattle.snippet_parts.proofs.Common.{primary_starts, is_marking, is_single_line, first_line, last_line, least}
+use Rattle.snippet_parts.proofs.Common.{◌≡◌, ℕ, ◌+◌, ◌-◌, ◌<◌, ◌≤◌, Bool, true, cond, not, eqb, ltb, min, Option, Some, None, List, [], ◌∷◌, ◌++◌, map}
+use Rattle.snippet_parts.proofs.Common.{length, take, drop, inl, inr, refl, sym, ap, subst, ◌∙◌, arith, All, Contains, filter, IfSome, option_map}
+use Rattle.snippet_parts.proofs.Common.{option_map_or, option_or, IsUtf8, take-add, cases_Bool, cases_lt, and_from, and_parts, eq-eqb, eqb-true, le-ltb}
+use Rattle.snippet_parts.proofs.Common.{lt-ltb, length-append, take_all, IsUtf8-take, chars-append, is_primary, Annotation, AnnotationKind, Loc, Line, Source}
+use Rattle.snippet_parts.proofs.Common.{source_lines, start_of, text_at, line_of, location_of, place_of, prefix_at, start_location, steps_after_text, IsSpan}
+use Rattle.snippet_parts.proofs.Common.{IsSpanBorder, IsUtf8-text_at, IsCharBoundary-prefix, line_of-mono, line_of-within, locations_of-start}
+use Rattle.snippet_parts.proofs.Common.{place_of-character, start_location-line, LineAnnotation, Location, KeptLine, annotated_lines, is_long, kept_line}
+use Rattle.snippet_parts.proofs.Common.{long_entry, long_parts, long_place, long_spans, made_parts, parts_on, single_part, kept_lines, Ascends, primary_place}
+use Rattle.snippet_parts.proofs.Common.{marked_starts, naming_start, place_at, primary_starts, is_marking, is_single_line, first_line, least}
 use Rattle.std.proofs.Common.{chars}
 use Rattle.snippet_parts.proofs.AmongLemmas.{Among, all_among, among_filter, among_in_order, among_left, among_map, among_right, append_cases, filter_cases}
 use Rattle.snippet_parts.proofs.AmongLemmas.{in_order_cases, least-among, least_le, map_cases}
@@ -76,11 +75,7 @@ abbrev step : Bool → ℕ
 step b = cond b 1 0
 
 steps-more : (e a b : ℕ) → a ≤ b → step (ltb e a) ≤ step (ltb e b)
-steps-more e a b upto =
-    elim (cases_lt e a) [
-      | inl after ↦ omega (arith, ap step (lt-ltb e a after), ap step (lt-ltb e b (omega arith)))
-      | inr before ↦ omega (arith, ap step (le-ltb e a before))
-    ]
+steps-more e a b upto = grind (arith, lt-ltb, le-ltb)
 
 start-char : (s : Source) (b : ℕ) → (start_location s b).char ≡ (place_of s.text b).character + steps_after_text s.text b
 unfolding start_location location_of
@@ -137,29 +132,7 @@ start_byte s b = refl
 
 -- a span of several lines ends on a later line
 long-seen : (s : Source) (a : Annotation) → IsSpan s.text a.span.start a.span.end → is_long s.text a ≡ true → IsSeen s (long_entry s a)
-long-seen s a span long =
-    record {
-      start = start-of-span s a ∙ ap (start_location s) (sym (ap (λ (l : Loc). l.byte) (start-of-span s a) ∙ start_byte s a.span.start));
-      later = omega (
-        arith,
-        start-line s a.span.start a.span.end,
-        end-line s a.span.start a.span.end,
-        apart
-            (cases_eq (last_line s.text a) (first_line s.text a)),
-      );
-    }
-  where
-    other : (b : Bool) → not b ≡ true → b ≡ true → ⊥
-    other true is also = cc
-    other false is also = cc
-
-    apart : (last_line s.text a ≡ first_line s.text a) ⊎ (last_line s.text a ≡ first_line s.text a → ⊥) → first_line s.text a < last_line s.text a
-    apart (inl same) = absurd (other (is_single_line s.text a) (and_parts (is_marking a.kind) (not (is_single_line s.text a)) long).1
-        (eq-eqb (last_line s.text a) (first_line s.text a) same))
-    apart (inr differ) = elim (cases_lt (first_line s.text a) (last_line s.text a)) [
-      | inl less ↦ less
-      | inr upto ↦ absurd (differ (omega (arith, lines_ordered s.text a span, upto)))
-    ]
+long-seen s a span long = grind (arith, start-of-span, start_byte, start-line, end-line, and_parts, eq-eqb, lines_ordered)
 
 -- the span of which an entry of several lines is
 record IsOfSpan (s : Source) (marks : List Annotation) (e : LineAnnotation) : Type 0 where
@@ -169,17 +142,11 @@ record IsOfSpan (s : Source) (marks : List Annotation) (e : LineAnnotation) : Ty
   pub is : long_entry s span ≡ e
 
 of-span : (s : Source) (marks : List Annotation) (e : LineAnnotation) → Among (long_spans s marks) e → IsOfSpan s marks e
-of-span s marks e among =
-    let given = map_cases (long_entry s) (filter (is_long s.text) marks) e
-    (in_order_cases stands_before (map (long_entry s) (filter (is_long s.text) marks)) e among) in
-    let span = filter_cases (is_long s.text) marks given.0 given.1 in
-    record { span = given.0; among = span.0; long = span.1; is = given.2 }
+of-span s marks e among = grind (arith, map_cases, in_order_cases, filter_cases)
 
 all_seen : (s : Source) (marks : List Annotation) → ((a : Annotation) → Among marks a → IsSpan s.text a.span.start a.span.end) → (e : LineAnnotation)
     → Among (long_spans s marks) e → IsSeen s e
-all_seen s marks spans e among =
-    let of = of-span s marks e among in
-    subst (IsSeen s) of.is (long-seen s of.span (spans of.span of.among) of.long)
+all_seen s marks spans e among = grind (arith, of-span, long-seen)
 
 -- where a marked span starts an entry of its kind stands
 marked-started : (t : AnnotationKind → Bool) → IsChoice t → (s : Source) (marks : List Annotation)
@@ -274,10 +241,7 @@ record IsFirstStart (t : AnnotationKind → Bool) (s : Source) (marks : List Ann
 -- the entries of a choice on a line, one by one
 on_line : (t : AnnotationKind → Bool) (s : Source) (marks : List Annotation) (k : ℕ) (p : LineAnnotation) → Among (chosen t (parts_on s marks k)) p
     → Among (made_parts s marks) p × (p.start.line ≡ s.first + k) × (t p.kind ≡ true)
-on_line t s marks k p among =
-    let outer = filter_cases (λ (q : LineAnnotation). t q.kind) (parts_on s marks k) p among in
-    let inner = filter_cases (λ (q : LineAnnotation). eqb q.start.line (s.first + k)) (made_parts s marks) p outer.0 in
-    (inner.0, eqb-true p.start.line (s.first + k) inner.1, outer.1)
+on_line t s marks k p among = grind (arith, filter_cases, eqb-true)
 
 -- above the line of the first span there is no entry of the choice
 none-above : (t : AnnotationKind → Bool) → IsChoice t → (s : Source) (marks : List Annotation)
@@ -401,12 +365,7 @@ any-choice : IsChoice (λ k. true)
 any-choice = record { primary = refl; others = λ k is. inr (λ j. refl) }
 
 primary-test : IsTestOf (λ a. is_primary a.kind) is_primary
-primary-test = record { marked = λ a is. marked a.kind is; passes = λ a is. is; all = λ a marked is. is }
-  where
-    marked : (k : AnnotationKind) → is_primary k ≡ true → is_marking k ≡ true
-    marked Primary is = refl
-    marked Context is = cc
-    marked Visible is = cc
+primary-test = grind (arith)
 
 any-test : IsTestOf (λ a. is_marking a.kind) (λ k. true)
 any-test = record { marked = λ a is. is; passes = λ a is. refl; all = λ a marked is. marked }

@@ -1,13 +1,12 @@
 -- What stands on a line that is kept: of each span that begins or ends there an entry.
-use Rattle.snippet_parts.proofs.Common.{◌≡◌, ℕ, ◌+◌, ◌-◌, ◌⊎◌, Bool, true, false, ◌||◌, not, eqb, leb, List, [], ◌∷◌, ◌++◌}
-use Rattle.snippet_parts.proofs.Common.{map, length, get_or, inl, inr, refl, sym, ap, subst, ◌∙◌, arith, All, Contains, filter, list_any, and_parts}
-use Rattle.snippet_parts.proofs.Common.{cases_Bool, cond_both, eqb-true, eq-eqb, leb-true, get_or-map, length-map, map-map, All-head, All-tail, All-map}
-use Rattle.snippet_parts.proofs.Common.{All-contains, Contains-append_left, Contains-append_right, filter-append, Annotation, Primary, LineAnnotation}
-use Rattle.snippet_parts.proofs.Common.{LongExtent, AnnotatedLineInfo, Singleline, MultilineStart, MultilineEnd, Loc, KeptLine, kept_line, annotated_lines}
-use Rattle.snippet_parts.proofs.Common.{is_long, long_entry, long_place, long_spans, long_parts, depth_of, single_part, start_part, end_part, span_parts}
-use Rattle.snippet_parts.proofs.Common.{parts_on, promoted, put_in, ordered_by, depth_among, same_place, Ascends, kept_lines, Source, is_marking, touches}
-use Rattle.snippet_parts.proofs.Common.{first_line, last_line, numbers_of_lines, AreEntriesOn, seen_kept, locations_of, start_location, end_location}
-use Rattle.snippet_parts.proofs.Common.{location_of, IsSpan, is_seen, line_of-within}
+use Rattle.snippet_parts.proofs.Common.{◌≡◌, ℕ, ◌+◌, ◌-◌, ◌⊎◌, Bool, true, false, ◌||◌, not, eqb, leb, List, [], ◌∷◌, ◌++◌, map, length, get_or, inl, inr}
+use Rattle.snippet_parts.proofs.Common.{refl, sym, ap, subst, ◌∙◌, arith, All, Contains, filter, list_any, and_parts, cases_Bool, cond_both, eqb-true, eq-eqb}
+use Rattle.snippet_parts.proofs.Common.{leb-true, get_or-map, length-map, map-map, All-head, All-tail, All-map, All-contains, Contains-append_left}
+use Rattle.snippet_parts.proofs.Common.{Contains-append_right, filter-append, Annotation, LineAnnotation, LongExtent, AnnotatedLineInfo, Singleline}
+use Rattle.snippet_parts.proofs.Common.{MultilineStart, MultilineEnd, Loc, KeptLine, kept_line, annotated_lines, is_long, long_entry, long_place, long_spans}
+use Rattle.snippet_parts.proofs.Common.{long_parts, depth_of, single_part, start_part, end_part, span_parts, parts_on, promoted, put_in, ordered_by}
+use Rattle.snippet_parts.proofs.Common.{depth_among, same_place, Ascends, kept_lines, Source, is_marking, touches, first_line, last_line, numbers_of_lines}
+use Rattle.snippet_parts.proofs.Common.{AreEntriesOn, seen_kept, locations_of, start_location, end_location, location_of, IsSpan, is_seen, line_of-within}
 use Rattle.snippet_parts.proofs.RawDepthLemmas.{same-true, same-refl}
 use Rattle.snippet_parts.proofs.EntryFacts.{each-line, entries-parts_on, longs-off, singles-on}
 use Rattle.snippet_parts.proofs.KeptPartLemmas.{any-member, keeps-unmarked}
@@ -16,7 +15,7 @@ use Rattle.snippet_parts.proofs.PartLemmas.{All-order}
 use Rattle.snippet_parts.proofs.ShownFacts.{contains-cases, contains-filter, contains-here, contains-there, first_kept, last_kept, span-kept, kept-ascends}
 use Rattle.snippet_parts.proofs.StartByte.{start_byte as start-byte}
 use Rattle.snippet_parts.proofs.LongStarts.{promoted-start, promoted-end}
-use Rattle.snippet_parts.proofs.PartWords.{is_promoted, is_short, long_places, stands_among, stands_before}
+use Rattle.snippet_parts.proofs.PartWords.{is_short, long_places, stands_among, stands_before}
 
 -- ---- elements
 
@@ -68,9 +67,7 @@ record IsPlaced (s : Source) (e : LineAnnotation) : Type 0 where
 
 end-byte : (s : Source) (a : Annotation) → (long_entry s a).end.byte ≡ a.span.end
 unfolding locations_of start_location end_location location_of
-end-byte s a =
-    cond_both (eqb a.span.start a.span.end) (start_location s a.span.start) (end_location s a.span.start a.span.end) (λ (l : Loc). l.byte ≡ a.span.end)
-    (λ same. eqb-true a.span.start a.span.end same) (λ _. refl)
+end-byte s a = grind (arith, cond_both, eqb-true)
 
 long-placed : (s : Source) (a : Annotation) → IsPlaced s (long_entry s a)
 long-placed s a = record {
@@ -88,8 +85,7 @@ same_end s d e dp ep same = dp.end ∙ ap (λ (p : LongExtent). (locations_of s 
 -- ---- the entries of one span
 
 drawn-label : (before : List LineAnnotation) (e : LineAnnotation) → (promoted before e).label ≡ e.label
-drawn-label before e =
-    cond_both (is_promoted before e) (record e { kind = Primary }) e (λ (d : LineAnnotation). d.label ≡ e.label) (λ _. refl) (λ _. refl)
+drawn-label before e = grind (arith, cond_both)
 
 -- an entry starts, on its line, where a span does, at a depth
 record StartsAt (start : Loc) (depth : ℕ) (p : LineAnnotation) : Type 0 where
@@ -232,8 +228,7 @@ all-longs s marks = long_parts s (long_places s marks) [] (long_spans s marks)
 others-among : (s : Source) (marks : List Annotation) (k n : ℕ) (p : LineAnnotation) → Contains (all-longs s marks) p → p.start.line ≡ s.first + n → n ≡ k
     → Contains (filter (on_line s k) (all-longs s marks)) p
 unfolding on_line
-others-among s marks k n p among line here =
-    contains-filter (on_line s k) p (all-longs s marks) (eq-eqb p.start.line (s.first + k) (line ∙ ap (λ m. s.first + m) here)) among
+others-among s marks k n p among line here = grind (arith, contains-filter, on_line, eq-eqb)
 
 -- the entries that are made for line k
 pub parts-on-line : (s : Source) (marks : List Annotation) (k : ℕ) → All (λ a. IsSpan s.text a.span.start a.span.end) marks

@@ -1,11 +1,11 @@
 -- What holds of each entry that is made: of those of each span.
-use Rattle.snippet_parts.proofs.Common.{◌≡◌, ℕ, ◌+◌, ◌-◌, ◌<◌, ◌≤◌, Bool, true, false, ◌&&◌, not, eqb, ltb, min, List, []}
-use Rattle.snippet_parts.proofs.Common.{◌∷◌, ◌++◌, map, get_or, ◌⊎◌, inl, inr, ◌||◌, refl, ap, arith, All, Contains, filter, list_any}
-use Rattle.snippet_parts.proofs.Common.{range_with_len, cond_both, and_parts, eqb-true, or_cases, All-nil, All-cons, All-head, All-tail, All-append, All-map}
-use Rattle.snippet_parts.proofs.Common.{All-weaker, All-contains_itself, length-range_with_len, get_or-range_with_len, Annotation, AnnotationKind, Primary}
-use Rattle.snippet_parts.proofs.Common.{LineAnnotation, LongExtent, Singleline, MultilineEnd, is_long, long_entry, long_place, long_spans, depth_of}
-use Rattle.snippet_parts.proofs.Common.{single_part, start_part, bar_part, end_part, span_parts, long_parts, made_parts, promoted, bar_lines, ordered_by}
-use Rattle.snippet_parts.proofs.Common.{depth_among, same_place, has_bar, is_trivial_line, Source, All-put_in}
+use Rattle.snippet_parts.proofs.Common.{◌≡◌, ℕ, ◌+◌, ◌-◌, ◌<◌, ◌≤◌, Bool, true, false, ◌&&◌, not, eqb, ltb, min, List, [], ◌∷◌, ◌++◌, map, ◌⊎◌, inl, inr}
+use Rattle.snippet_parts.proofs.Common.{◌||◌, refl, ap, arith, All, Contains, filter, list_any, range_with_len, cond_both, and_parts, eqb-true, or_cases}
+use Rattle.snippet_parts.proofs.Common.{All-nil, All-cons, All-head, All-tail, All-append, All-map, All-weaker, All-contains_itself, length-range_with_len}
+use Rattle.snippet_parts.proofs.Common.{get_or-range_with_len, Annotation, AnnotationKind, Primary, LineAnnotation, LongExtent, Singleline, MultilineEnd}
+use Rattle.snippet_parts.proofs.Common.{is_long, long_entry, long_place, long_spans, depth_of, single_part, start_part, bar_part, end_part, span_parts}
+use Rattle.snippet_parts.proofs.Common.{long_parts, made_parts, promoted, bar_lines, ordered_by, depth_among, same_place, has_bar, is_trivial_line, Source}
+use Rattle.snippet_parts.proofs.Common.{All-put_in}
 pub use Rattle.snippet_lines.proofs.OrderLemmas.{filter-none}
 use Rattle.snippet_parts.proofs.PartWords.{is_promoted, is_short, long_places, stands_before}
 
@@ -14,9 +14,7 @@ use Rattle.snippet_parts.proofs.PartWords.{is_promoted, is_short, long_places, s
 -- of each element that passes a test
 pub All-filtered : {X : Type 0} (p : X → Bool) (Q : X → Type 0) (xs : List X) → All (λ x. p x ≡ true → Q x) xs → All Q (filter p xs)
 All-filtered p Q [] all = All-nil Q
-All-filtered p Q (x ∷ xs) all =
-    let rest : All Q (filter p xs) = All-filtered p Q xs (All-tail (λ x. p x ≡ true → Q x) x xs all) in
-    cond_both (p x) (x ∷ filter p xs) (filter p xs) (All Q) (λ t. All-cons Q x (filter p xs) (All-head (λ x. p x ≡ true → Q x) x xs all t) rest) (λ _. rest)
+All-filtered p Q (x ∷ xs) all = grind (arith, All-tail, cond_both, All-cons, All-head, All-filtered p Q xs (All-tail (λ x. p x ≡ true → Q x) x xs all))
 
 -- what holds of each element holds of each once they are in order
 pub All-order : {X : Type 0} (before : X → X → Bool) (Q : X → Type 0) (xs : List X) → All Q xs → All Q (ordered_by before xs)
@@ -25,9 +23,7 @@ All-order before Q (x ∷ xs) all = All-put_in before Q x (ordered_by before xs)
 
 -- each number of a range is at least its first, and less than its end
 pub All-range : (a n : ℕ) → All (λ k. (a ≤ k) × (k < a + n)) (range_with_len a n)
-All-range a n k d within =
-    let below : k < n = omega (arith, length-range_with_len a n) in
-    let at : get_or (range_with_len a n) k d ≡ a + k = get_or-range_with_len a n k d below in (omega arith, omega arith)
+All-range a n k d within = grind (arith, length-range_with_len, get_or-range_with_len)
 
 -- what holds of each element that is made holds of what each was made from
 pub All-unmapped : {X Y : Type 0} (P : Y → Type 0) (f : X → Y) (xs : List X) → All P (map f xs) → All (λ x. P (f x)) xs

@@ -11,8 +11,7 @@ AreLines-drop (suc n) [] are = are
 AreLines-drop (suc n) (l ∷ ls) are = AreLines-drop n ls are.2
 
 take-none : (n : ℕ) (ls : List Line) → ls ≡ [] → take n ls ≡ []
-take-none zero ls none = refl
-take-none (suc n) ls none = ap (take (suc n)) none
+take-none x y z = grind (arith)
 
 AreLines-take : (n : ℕ) (ls : List Line) → AreLines ls → AreLines (take n ls)
 AreLines-take zero ls are = tt

@@ -1,9 +1,8 @@
 -- Places of spans of several lines, and their raw depths.
-use Rattle.snippet_parts.proofs.Common.{◌≡◌, ℕ, zero, suc, ◌+◌, ◌<◌, ◌≤◌, true, false, ◌&&◌, cond, eqb, max, fold, List, []}
-use Rattle.snippet_parts.proofs.Common.{◌∷◌, map, length, get_or, inl, inr, refl, sym, ap, subst, ◌∙◌, arith, list_any, cases_Bool, eqb-true}
-use Rattle.snippet_parts.proofs.Common.{eq-eqb, and_from, and_parts, or_left, or_right, cond-true, cond-false, both_ways, false_from_ne_true, greatest}
-use Rattle.snippet_parts.proofs.Common.{LongExtent, same_place, share_line, places_of, raw_depth, raw_depth_among, greatest_raw_depth, greatest_depth}
-use Rattle.snippet_parts.proofs.Common.{raw_depths}
+use Rattle.snippet_parts.proofs.Common.{◌≡◌, ℕ, zero, suc, ◌+◌, ◌<◌, ◌≤◌, true, false, max, fold, List, [], ◌∷◌, map, length, get_or, refl, ap, ◌∙◌, arith}
+use Rattle.snippet_parts.proofs.Common.{list_any, eqb-true, eq-eqb, and_from, and_parts, or_left, or_right, cond-true, cond-false, both_ways}
+use Rattle.snippet_parts.proofs.Common.{false_from_ne_true, greatest, LongExtent, same_place, places_of, raw_depth, raw_depth_among, greatest_raw_depth}
+use Rattle.snippet_parts.proofs.Common.{greatest_depth, raw_depths}
 
 -- ---- places
 
@@ -13,19 +12,11 @@ same_fields a b c d a' b' c' d' e f g h = cc
 
 -- places that the test calls the same are the same
 pub same-true : (p q : LongExtent) → same_place p q ≡ true → p ≡ q
-same-true p q same =
-    let abcd = and_parts (eqb p.from q.from) (eqb p.to q.to && (eqb p.first q.first && eqb p.last q.last)) same in
-    let bcd = and_parts (eqb p.to q.to) (eqb p.first q.first && eqb p.last q.last) abcd.1 in
-    let cd = and_parts (eqb p.first q.first) (eqb p.last q.last) bcd.1 in
-    same_fields p.from p.to p.first p.last q.from q.to q.first q.last (eqb-true p.from q.from abcd.0) (eqb-true p.to q.to bcd.0)
-    (eqb-true p.first q.first cd.0) (eqb-true p.last q.last cd.1)
+same-true p q same = grind (arith, and_parts, same_fields, eqb-true)
 
 -- the test calls a place the same as itself
 pub same-refl : (p : LongExtent) → same_place p p ≡ true
-same-refl p =
-    and_from (eqb p.from p.from) (eqb p.to p.to && (eqb p.first p.first && eqb p.last p.last)) (eq-eqb p.from p.from refl)
-    (and_from (eqb p.to p.to) (eqb p.first p.first && eqb p.last p.last) (eq-eqb p.to p.to refl)
-    (and_from (eqb p.first p.first) (eqb p.last p.last) (eq-eqb p.first p.first refl) (eq-eqb p.last p.last refl)))
+same-refl p = grind (arith, and_from, eq-eqb)
 
 -- a place whose span stands again isn't taken here, and another one is
 pub places-again : (p : LongExtent) (ps : List LongExtent) → list_any (same_place p) ps ≡ true → places_of (p ∷ ps) ≡ places_of ps
@@ -44,13 +35,7 @@ among-past p q later fails = cond-false (same_place p q) (raw_depth q later) (ra
 -- a place that stands again has the depth that it has there
 pub among_after : (q p : LongExtent) (ps : List LongExtent) → list_any (same_place p) ps ≡ true
     → raw_depth_among (places_of (q ∷ ps)) p ≡ raw_depth_among (places_of ps) p
-among_after q p ps again =
-    elim (cases_Bool (list_any (same_place q) ps)) [
-      | inl holds ↦ ap (λ qs. raw_depth_among qs p) (places-again q ps holds)
-      | inr fails ↦ ap (λ qs. raw_depth_among qs p) (places-new q ps fails)
-          ∙ among-past p q (places_of ps) (false_from_ne_true (same_place p q) (λ same.
-          both_ways (list_any (same_place q) ps) fails (subst (λ (r : LongExtent). list_any (same_place r) ps ≡ true) (same-true p q same) again)))
-    ]
+among_after q p ps again = grind (arith, places-again, places-new, among-past, false_from_ne_true, both_ways, same-true)
 
 -- a place that doesn't stand again has the raw depth that the later places give it
 pub among-new : (p : LongExtent) (ps : List LongExtent) → list_any (same_place p) ps ≡ false
@@ -62,10 +47,7 @@ among-new p ps fails = ap (λ qs. raw_depth_among qs p) (places-new p ps fails) 
 -- the greatest from a number on is the greater of that and the greatest
 pub fold-max : (m : ℕ) (ns : List ℕ) → fold max m ns ≡ max m (greatest ns)
 fold-max m [] = omega arith
-fold-max m (n ∷ ns) =
-    let here : fold max (max m n) ns ≡ max (max m n) (greatest ns) = fold-max (max m n) ns in
-    let from_none : fold max (max 0 n) ns ≡ max (max 0 n) (greatest ns) = fold-max (max 0 n) ns in
-    omega (arith, here, from_none)
+fold-max m (n ∷ ns) = grind (arith, fold-max (max m n) ns, fold-max (max 0 n) ns)
 
 -- the greatest is the first or the greatest of the others
 pub greatest-cons : (n : ℕ) (ns : List ℕ) → greatest (n ∷ ns) ≡ max n (greatest ns)
@@ -74,36 +56,12 @@ greatest-cons n ns = let e : fold max (max 0 n) ns ≡ max (max 0 n) (greatest n
 -- no place is deeper than the greatest raw depth
 pub among-most : (ps : List LongExtent) (p : LongExtent) → raw_depth_among ps p ≤ greatest_raw_depth ps
 among-most [] p = omega arith
-among-most (q ∷ ps) p =
-    let h : raw_depth_among ps p ≤ greatest_raw_depth ps = among-most ps p in
-    elim (cases_Bool (same_place p q)) [
-      | inl holds ↦ rw (cond-true (same_place p q) (raw_depth q ps) (raw_depth_among ps p) holds) (omega arith)
-      | inr fails ↦ rw (cond-false (same_place p q) (raw_depth q ps) (raw_depth_among ps p) fails) (omega arith)
-    ]
+among-most (q ∷ ps) p = grind (arith, cond-true, cond-false, among-most ps p)
 
 -- the greatest raw depth of places is that of the spans
 pub greatest-is : (ps : List LongExtent) → greatest_depth ps ≡ greatest (raw_depths ps)
 greatest-is [] = refl
-greatest-is (p ∷ ps) =
-    let h : greatest_depth ps ≡ greatest (raw_depths ps) = greatest-is ps in
-    let own : ℕ = raw_depth_among (places_of (p ∷ ps)) p in
-    elim (cases_Bool (list_any (same_place p) ps)) [
-      | inl holds ↦
-          let e : greatest_depth (p ∷ ps) ≡ greatest_depth ps = ap greatest_raw_depth (places-again p ps holds) in
-          let f : raw_depth_among (places_of (p ∷ ps)) p ≡ raw_depth_among (places_of ps) p = ap (λ qs. raw_depth_among qs p) (places-again p ps holds) in
-          let g : raw_depth_among (places_of ps) p ≤ greatest_depth ps = among-most (places_of ps) p in
-          e ∙ join (greatest_depth ps) own (greatest (raw_depths ps)) h (omega arith) ∙ sym (greatest-cons own (raw_depths ps))
-      | inr fails ↦
-          let e : greatest_depth (p ∷ ps) ≡ max (raw_depth p (places_of ps)) (greatest_depth ps) = ap greatest_raw_depth (places-new p ps fails) in
-          e ∙ both (raw_depth p (places_of ps)) (raw_depth_among (places_of (p ∷ ps)) p) (greatest_depth ps) (greatest (raw_depths ps))
-          (sym (among-new p ps fails)) h ∙ sym (greatest-cons own (raw_depths ps))
-    ]
-  where
-    join : (a b c : ℕ) → a ≡ c → b ≤ a → a ≡ max b c
-    join a b c e f = omega arith
-
-    both : (a b c d : ℕ) → a ≡ b → c ≡ d → max a c ≡ max b d
-    both a b c d e f = omega arith
+greatest-is (p ∷ ps) = grind (arith, places-again, among-most, greatest-cons, places-new, among-new, greatest-is ps)
 
 -- two functions that agree on each element
 map-agree : {X Y : Type 0} (f g : X → Y) (xs : List X) → ((k : ℕ) (d : X) → k < length xs → f (get_or xs k d) ≡ g (get_or xs k d)) → map f xs ≡ map g xs
@@ -122,10 +80,7 @@ any-at (p ∷ ps) (suc k) d within = or_right (same_place (get_or ps k d) p) (li
 -- each is the raw depth of its place among all
 pub raw_depths-are : (ps : List LongExtent) → raw_depths ps ≡ map (raw_depth_among (places_of ps)) ps
 raw_depths-are [] = refl
-raw_depths-are (p ∷ ps) =
-    ap (λ ns. raw_depth_among (places_of (p ∷ ps)) p ∷ ns) (raw_depths-are ps
-    ∙ map-agree (raw_depth_among (places_of ps)) (raw_depth_among (places_of (p ∷ ps))) ps (λ k d within.
-    sym (among_after p (get_or ps k d) ps (any-at ps k d within))))
+raw_depths-are (p ∷ ps) = grind (arith, map-agree, among_after, any-at, raw_depths-are ps)
 
 -- each place has a raw depth
 pub length-raw_depths : (ps : List LongExtent) → length (raw_depths ps) ≡ length ps
@@ -136,14 +91,7 @@ length-raw_depths (p ∷ ps) = ap (λ n. suc n) (length-raw_depths ps)
 
 raw_depth-bound : (p : LongExtent) (qs : List LongExtent) → raw_depth p qs ≤ length qs + 1
 raw_depth-bound p [] = omega arith
-raw_depth-bound p (q ∷ qs) =
-    let a : raw_depth p qs ≤ length qs + 1 = raw_depth-bound p qs in
-    let b : raw_depth q qs ≤ length qs + 1 = raw_depth-bound q qs in
-    elim (cases_Bool (share_line p q)) [
-      | inl holds ↦ let e : cond (share_line p q) (raw_depth q qs + 1) 1
-          ≡ raw_depth q qs + 1 = cond-true (share_line p q) (raw_depth q qs + 1) 1 holds in omega arith
-      | inr fails ↦ let e : cond (share_line p q) (raw_depth q qs + 1) 1 ≡ 1 = cond-false (share_line p q) (raw_depth q qs + 1) 1 fails in omega arith
-    ]
+raw_depth-bound p (q ∷ qs) = grind (arith, cond-true, cond-false, raw_depth-bound p qs, raw_depth-bound q qs)
 
 -- the greatest raw depth is at most the count of places
 pub greatest-bound : (ps : List LongExtent) → greatest_raw_depth ps ≤ length ps
@@ -153,12 +101,7 @@ greatest-bound (p ∷ ps) = omega (arith, raw_depth-bound p ps, greatest-bound p
 -- no more places are left than there were, once each stands once
 pub places-bound : (ps : List LongExtent) → length (places_of ps) ≤ length ps
 places-bound [] = omega arith
-places-bound (p ∷ ps) =
-    let h : length (places_of ps) ≤ length ps = places-bound ps in
-    elim (cases_Bool (list_any (same_place p) ps)) [
-      | inl holds ↦ rw (places-again p ps holds) (omega arith)
-      | inr fails ↦ rw (places-new p ps fails) (omega arith)
-    ]
+places-bound (p ∷ ps) = grind (arith, places-again, places-new, places-bound ps)
 
 -- no raw depth is greater than the count of places
 pub raw_depths-bound : (ps : List LongExtent) (i d : ℕ) → i < length ps → get_or (raw_depths ps) i d ≤ length ps

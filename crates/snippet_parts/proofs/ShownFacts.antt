@@ -29,17 +29,12 @@ rises-filter p a (suc n) to within =
 rises-rest : (j to : ℕ) (ks : List ℕ) → Rises (j + 1) to ks → Rises (j + 1) to (rest_between j ks)
 unfolding Rises
 rises-rest j to [] rises = tt
-rises-rest j to (k ∷ ks) rises =
-    let rest : Rises (k + 1) to (rest_between k ks) = rises-rest k to ks rises.2 in
-    cond_both (eqb k (j + 2)) ((j + 1) ∷ k ∷ rest_between k ks) (k ∷ rest_between k ks) (Rises (j + 1) to) (λ next.
-    (omega arith, omega (arith, rises.0, rises.1), (omega (arith, eqb-true k (j + 2) next), rises.1, rest))) (λ _. (rises.0, rises.1, rest))
+rises-rest j to (k ∷ ks) rises = grind (arith, cond_both, eqb-true, rises-rest k to ks rises.2)
 
 rises-between : (from to : ℕ) (ks : List ℕ) → Rises from to ks → Rises from to (with_between ks)
 unfolding Rises
 rises-between from to [] rises = tt
-rises-between from to (k ∷ ks) rises =
-    let rest : Rises from to (k ∷ rest_between k ks) = (rises.0, rises.1, rises-rest k to ks rises.2) in
-    subst (Rises from to) (sym (between-rest k ks)) rest
+rises-between from to (k ∷ ks) rises = grind (arith, rises-rest, between-rest)
 
 rises-at : (from to : ℕ) (ks : List ℕ) (i d : ℕ) → Rises from to ks → i < length ks → (from ≤ get_or ks i d) × (get_or ks i d < to)
 unfolding Rises
@@ -56,8 +51,7 @@ rises-pairs from to (k ∷ ks) rises zero (suc j) d less within = omega (arith, 
 rises-pairs from to (k ∷ ks) rises (suc i) (suc j) d less within = rises-pairs (k + 1) to ks rises.2 i j d (omega arith) (omega arith)
 
 kept-rises : (fold : Bool) (source : List ℕ) (marks : List Annotation) → Rises 0 (length (source_lines source)) (kept_lines fold source marks)
-kept-rises fold source marks =
-    rises-filter (λ k. not fold || list_any (keeps source k) marks) 0 (length (source_lines source)) (length (source_lines source)) (omega arith)
+kept-rises fold source marks = grind (arith, rises-filter)
 
 shown-rises : (fold : Bool) (source : List ℕ) (marks : List Annotation) → Rises 0 (length (source_lines source)) (shown_lines fold source marks)
 shown-rises fold source marks = rises-between 0 (length (source_lines source)) (kept_lines fold source marks) (kept-rises fold source marks)
@@ -91,11 +85,7 @@ contains-there x y xs among = (suc among.0, omega (arith, among.1), among.2)
 
 -- what a list contains is its first element, or the rest contains it
 pub contains-cases : {X : Type 0} (x y : X) (xs : List X) → Contains (y ∷ xs) x → (y ≡ x) ⊎ Contains xs x
-contains-cases {X} x y xs among = at among.0 among.1 among.2
-  where
-    at : (i : ℕ) → i < length (y ∷ xs) → get_or (y ∷ xs) i x ≡ x → (y ≡ x) ⊎ Contains xs x
-    at zero within same = inl same
-    at (suc i) within same = inr (i, omega arith, same)
+contains-cases {X} x y xs among = grind (arith)
 
 -- what a list contains and passes the test is among those that pass it
 pub contains-filter : {X : Type 0} (p : X → Bool) (x : X) (xs : List X) → p x ≡ true → Contains xs x → Contains (filter p xs) x

@@ -1,24 +1,18 @@
 -- The lines that are kept, each with its entries.
-use Rattle.snippet_parts.proofs.Common.{◌≡◌, ℕ, zero, suc, ◌+◌, ◌-◌, ◌<◌, ◌≤◌, Bool, true, false, ◌||◌, eqb, List, [], ◌∷◌}
-use Rattle.snippet_parts.proofs.Common.{◌++◌, map, length, take, drop, get_or, inl, inr, refl, sym, ap, ◌∙◌, arith, leb, ltb, Contains, filter}
-use Rattle.snippet_parts.proofs.Common.{list_any, range_with_len, IsPartitionPoint, cases_Bool, cases_lt, or_left, or_right, cond-true, cond-false, eq-eqb}
-use Rattle.snippet_parts.proofs.Common.{ne_eqb, leb-true, leb-false, ltb-true, ltb-false, map-id, map-range_with_len_more, Annotation, LineAnnotation, is_long}
-use Rattle.snippet_parts.proofs.Common.{long_entry, long_place, long_spans, depth_of, KeptLine, put_in, ordered_by, Source, same_place, share_line}
+use Rattle.snippet_parts.proofs.Common.{◌≡◌, ℕ, zero, suc, ◌+◌, ◌-◌, ◌<◌, ◌≤◌, Bool, true, false, ◌||◌, eqb, List, [], ◌∷◌, ◌++◌, map, length, take, drop}
+use Rattle.snippet_parts.proofs.Common.{get_or, inl, inr, refl, sym, ap, ◌∙◌, arith, leb, ltb, Contains, filter, list_any, range_with_len, IsPartitionPoint}
+use Rattle.snippet_parts.proofs.Common.{cases_Bool, cases_lt, or_left, or_right, cond-true, cond-false, eq-eqb, ne_eqb, leb-true, leb-false, ltb-true}
+use Rattle.snippet_parts.proofs.Common.{ltb-false, map-id, map-range_with_len_more, Annotation, LineAnnotation, is_long, long_entry, long_place, depth_of}
+use Rattle.snippet_parts.proofs.Common.{KeptLine, put_in, ordered_by, Source, same_place, share_line}
 use Rattle.snippet_parts.proofs.DepthLemmas.{distinct-places}
 use Rattle.snippet_parts.proofs.RawDepthLemmas.{same-refl}
 use Rattle.snippet_parts.proofs.PartLemmas.{list_any-map}
-use Rattle.snippet_parts.proofs.PartWords.{long_places, stands_before}
+use Rattle.snippet_parts.proofs.PartWords.{long_places}
 
 -- those that pass among the made elements are made from those whose made ones pass
 pub filter-map : {X Y : Type 0} (p : Y → Bool) (f : X → Y) (xs : List X) → filter p (map f xs) ≡ map f (filter (λ x. p (f x)) xs)
 filter-map p f [] = refl
-filter-map p f (x ∷ xs) =
-    elim (cases_Bool (p (f x))) [
-      | inl t ↦ cond-true (p (f x)) (f x ∷ filter p (map f xs)) (filter p (map f xs)) t ∙ ap (λ ys. f x ∷ ys) (filter-map p f xs)
-          ∙ ap (map f) (sym (cond-true (p (f x)) (x ∷ filter (λ x. p (f x)) xs) (filter (λ x. p (f x)) xs) t))
-      | inr e ↦ cond-false (p (f x)) (f x ∷ filter p (map f xs)) (filter p (map f xs)) e ∙ filter-map p f xs
-          ∙ ap (map f) (sym (cond-false (p (f x)) (x ∷ filter (λ x. p (f x)) xs) (filter (λ x. p (f x)) xs) e))
-    ]
+filter-map p f (x ∷ xs) = grind (arith, cond-true, cond-false, filter-map p f xs)
 
 -- ---- entries of a line in a sorted list
 
@@ -95,18 +89,7 @@ on_line-partitioned {X} line none xs n from to within below upto =
 
 any-put : {X : Type 0} (before : X → X → Bool) (q : X → Bool) (x : X) (ys : List X) → list_any q (put_in before x ys) ≡ (q x || list_any q ys)
 any-put before q x [] = refl
-any-put before q x (y ∷ ys) =
-    elim (cases_Bool (before y x)) [
-      | inl t ↦ ap (list_any q) (cond-true (before y x) (y ∷ put_in before x ys) (x ∷ y ∷ ys) t) ∙ ap (λ b. q y || b) (any-put before q x ys)
-          ∙ swapped (q y) (q x) (list_any q ys)
-      | inr f ↦ ap (list_any q) (cond-false (before y x) (y ∷ put_in before x ys) (x ∷ y ∷ ys) f)
-    ]
-  where
-    swapped : (a b c : Bool) → (a || (b || c)) ≡ (b || (a || c))
-    swapped true true c = refl
-    swapped true false c = refl
-    swapped false true c = refl
-    swapped false false c = refl
+any-put before q x (y ∷ ys) = grind (arith, cond-true, cond-false, any-put before q x ys)
 
 any-order : {X : Type 0} (before : X → X → Bool) (q : X → Bool) (xs : List X) → list_any q (ordered_by before xs) ≡ list_any q xs
 any-order before q [] = refl
@@ -115,8 +98,7 @@ any-order before q (x ∷ xs) = any-put before q x (ordered_by before xs) ∙ ap
 any-filter : {X : Type 0} (q p : X → Bool) (xs : List X) (k : ℕ) (d : X) → k < length xs → p (get_or xs k d) ≡ true → q (get_or xs k d) ≡ true
     → list_any q (filter p xs) ≡ true
 any-filter q p [] k d within pass hit = absurd (omega arith)
-any-filter q p (x ∷ xs) zero d within pass hit = ap (list_any q) (cond-true (p x) (x ∷ filter p xs) (filter p xs) pass)
-    ∙ or_left (q x) (list_any q (filter p xs)) hit
+any-filter q p (x ∷ xs) zero d within pass hit = grind (arith, cond-true, or_left)
 any-filter q p (x ∷ xs) (suc k) d within pass hit =
     elim (cases_Bool (p x)) [
       | inl t ↦ ap (list_any q) (cond-true (p x) (x ∷ filter p xs) (filter p xs) t)
@@ -127,13 +109,7 @@ any-filter q p (x ∷ xs) (suc k) d within pass hit =
 -- the place of a span of several lines stands among the places
 pub place-among : (s : Source) (marks : List Annotation) (a : Annotation) → Contains marks a → is_long s.text a ≡ true
     → list_any (same_place (long_place (long_entry s a))) (long_places s marks) ≡ true
-place-among s marks a among long =
-    list_any-map (same_place (long_place (long_entry s a))) long_place (long_spans s marks)
-    ∙ any-order stands_before (λ e. same_place (long_place (long_entry s a)) (long_place e)) (map (long_entry s) (filter (is_long s.text) marks))
-    ∙ list_any-map (λ e. same_place (long_place (long_entry s a)) (long_place e)) (long_entry s) (filter (is_long s.text) marks)
-    ∙ any-filter (λ b. same_place (long_place (long_entry s a)) (long_place (long_entry s b))) (is_long s.text)
-    marks among.0 a among.1 (ap (is_long s.text) among.2 ∙ long)
-    (ap (λ b. same_place (long_place (long_entry s a)) (long_place (long_entry s b))) among.2 ∙ same-refl (long_place (long_entry s a)))
+place-among s marks a among long = grind (arith, list_any-map, any-order, any-filter, same-refl)
 
 -- spans of several lines that share a line and have one depth have one place
 pub annotations-distinct : (s : Source) (marks : List Annotation) (a b : Annotation) → Contains marks a → Contains marks b → is_long s.text a ≡ true

@@ -1,9 +1,8 @@
 -- Lines that are shown, one after the other.
-use Rattle.snippet_parts.proofs.Common.{◌≡◌, ℕ, ◌+◌, ◌<◌, Bool, true, false, not, arith, cond, drop, List, [], ◌∷◌, ◌++◌, get_or}
-use Rattle.snippet_parts.proofs.Common.{length, take, sym, ap, ◌∙◌, append-nil, drop-map, get_or-map, length-map, map-append, map_push, take_more}
-use Rattle.snippet_parts.proofs.Common.{All-cons, All-head, All-nil, All-tail, filter-append, AnnotatedLineInfo, ShownLine, infos_of, kept_of}
+use Rattle.snippet_parts.proofs.Common.{◌≡◌, ℕ, ◌+◌, ◌<◌, Bool, true, false, not, arith, cond, drop, List, [], ◌∷◌, ◌++◌, get_or, length, take, sym, ◌∙◌}
+use Rattle.snippet_parts.proofs.Common.{append-nil, drop-map, get_or-map, length-map, map-append, map_push, take_more, All-cons, All-head, All-nil, All-tail}
+use Rattle.snippet_parts.proofs.Common.{filter-append, AnnotatedLineInfo, ShownLine, infos_of, kept_of}
 use Rattle.std.proofs.Common.{All}
-use Rattle.std.specs.Prelude.{filter}
 
 -- one more line
 pub infos_of-push : (lines : List ShownLine) (line : ShownLine) → infos_of (lines ++ line ∷ []) ≡ infos_of lines ++ line.info ∷ []
@@ -11,10 +10,7 @@ infos_of-push lines line = map_push (λ (l : ShownLine). l.info) lines line
 
 kept_of-either : (lines : List ShownLine) (line : ShownLine) (between : Bool) → line.between ≡ between
     → kept_of (lines ++ line ∷ []) ≡ kept_of lines ++ infos_of (cond (not between) (line ∷ []) [])
-kept_of-either lines line between is =
-    let test : ShownLine → Bool = λ l. not l.between in
-    ap infos_of (filter-append test lines (line ∷ [])) ∙ map-append (λ (l : ShownLine). l.info) (filter test lines) (filter test (line ∷ []))
-    ∙ ap (λ b. kept_of lines ++ infos_of (cond (not b) (line ∷ []) [])) is
+kept_of-either lines line between is = grind (arith, filter-append, map-append)
 
 -- one more line that is kept
 pub kept_of-kept : (lines : List ShownLine) (line : ShownLine) → line.between ≡ false → kept_of (lines ++ line ∷ []) ≡ kept_of lines ++ line.info ∷ []
@@ -26,8 +22,7 @@ kept_of-between lines line between = kept_of-either lines line true between ∙ 
 
 kept_of-taken : (lines : List ShownLine) (i : ℕ) (line : ShownLine) → i < length lines → line ≡ get_or lines i line
     → kept_of (take (i + 1) lines) ≡ kept_of (take i lines ++ line ∷ [])
-kept_of-taken lines i line within is =
-    ap kept_of (take_more lines i line within ∙ ap (λ (l : ShownLine). take i lines ++ l ∷ []) (sym is))
+kept_of-taken lines i line within is = grind (arith, take_more)
 
 -- the lines up to the next one, which is kept
 pub kept_of-next : (lines : List ShownLine) (i : ℕ) (line : ShownLine) → i < length lines → line ≡ get_or lines i line → line.between ≡ false
@@ -44,17 +39,12 @@ kept_of-past lines i line within is between =
 -- what holds of each line, with its entries
 pub infos_all : (P : AnnotatedLineInfo → Type 0) (lines : List ShownLine) → All P (infos_of lines) → All (λ line. P line.info) lines
 infos_all P [] all = All-nil (λ (l : ShownLine). P l.info)
-infos_all P (line ∷ lines) all =
-    All-cons (λ (l : ShownLine). P l.info) line lines (All-head P line.info (infos_of lines) all)
-    (infos_all P lines (All-tail P line.info (infos_of lines) all))
+infos_all P (line ∷ lines) all = grind (arith, All-cons, All-head, All-tail, infos_all P lines (All-tail P line.info (infos_of lines) all))
 
 -- the line at a place
 pub infos_of-at : (lines : List ShownLine) (i : ℕ) (line : ShownLine) → i < length lines → line ≡ get_or lines i line
     → (i < length (infos_of lines)) × (line.info ≡ get_or (infos_of lines) i line.info)
-infos_of-at lines i line within is = (
-  omega (arith, length-map lines (λ (l : ShownLine). l.info)),
-  ap (λ (l : ShownLine). l.info) is ∙ sym (get_or-map (λ (l : ShownLine). l.info) lines i line line.info within),
-)
+infos_of-at lines i line within is = grind (arith, length-map, get_or-map)
 
 -- the lines from a place on
 pub infos_of-drop : (lines : List ShownLine) (n : ℕ) → infos_of (drop n lines) ≡ drop n (infos_of lines)

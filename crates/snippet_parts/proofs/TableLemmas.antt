@@ -1,13 +1,13 @@
 -- What the table of a source's lines says of each of them.
-use Rattle.snippet_parts.proofs.Common.{◌≡◌, ℕ, zero, suc, ◌+◌, ◌-◌, ◌<◌, ◌≤◌, ◌&&◌, cond, leb, ltb, min, take, drop, List, []}
-use Rattle.snippet_parts.proofs.Common.{◌∷◌, ◌++◌, map, length, inl, inr, true, false, Some, None, get_or, refl, sym, ap, subst, ◌∙◌, arith}
-use Rattle.snippet_parts.proofs.Common.{map_push, length-append, length-drop, length-take, take-take, take_all, take-add, flat_map-append, cases_lt, leb-true}
-use Rattle.snippet_parts.proofs.Common.{leb-false, le-leb, lt-ltb, and_from, cond-true, HoldsAt, range_with_len, map-range_with_len_more, IsNonDecreasingBy}
-use Rattle.snippet_parts.proofs.Common.{IsPartitionPoint, LineInfo, Line, line_bytes, joined, source_lines, text_at, start_of, newline_count, line_at, StandsAt}
-use Rattle.snippet_parts.proofs.Common.{Source, width_of, Loc, HoldsByte, line_of, place_of, prefix_at, location_of, steps_after_text, IsSpanBorder}
-use Rattle.snippet_parts.proofs.Common.{IsCharBoundary, IsUtf8, chars, LineEntry, IsLineTable, table_entry, entry_at, starts_from, line_starts, TextFits}
-use Rattle.snippet_parts.proofs.Common.{HasNext, start_of-zero, start_of-cons, start_of-end, start_of-le, joined-source_lines, length-source_lines}
-use Rattle.snippet_parts.proofs.Common.{text_at-stands, line_of-is, line_of-within, HoldsByte-source, start_of-inside, text_at-end, IsCharBoundary-prefix}
+use Rattle.snippet_parts.proofs.Common.{◌≡◌, ℕ, zero, suc, ◌+◌, ◌-◌, ◌<◌, ◌≤◌, cond, leb, ltb, min, take, drop, List, [], ◌∷◌, ◌++◌, map, length, inl, inr}
+use Rattle.snippet_parts.proofs.Common.{true, false, Some, get_or, refl, sym, ap, subst, ◌∙◌, arith, map_push, length-append, length-drop, length-take}
+use Rattle.snippet_parts.proofs.Common.{take-take, take_all, take-add, flat_map-append, cases_lt, leb-true, leb-false, le-leb, lt-ltb, and_from, cond-true}
+use Rattle.snippet_parts.proofs.Common.{HoldsAt, range_with_len, map-range_with_len_more, IsNonDecreasingBy, IsPartitionPoint, LineInfo, Line, line_bytes}
+use Rattle.snippet_parts.proofs.Common.{joined, source_lines, text_at, start_of, newline_count, line_at, StandsAt, Source, width_of, Loc, HoldsByte, line_of}
+use Rattle.snippet_parts.proofs.Common.{place_of, prefix_at, location_of, steps_after_text, IsSpanBorder, IsCharBoundary, IsUtf8, chars, LineEntry}
+use Rattle.snippet_parts.proofs.Common.{IsLineTable, table_entry, entry_at, starts_from, line_starts, TextFits, HasNext, start_of-zero, start_of-cons}
+use Rattle.snippet_parts.proofs.Common.{start_of-end, start_of-le, joined-source_lines, length-source_lines, text_at-stands, line_of-is, line_of-within}
+use Rattle.snippet_parts.proofs.Common.{HoldsByte-source, start_of-inside, text_at-end, IsCharBoundary-prefix}
 
 same_entry : (text : List ℕ) (number start next number' start' next' : ℕ) → number ≡ number' → start ≡ start' → next ≡ next'
     → ◌≡◌ {A = LineEntry} (record { text = text; number = number; start = start; next = next })
@@ -34,9 +34,7 @@ start_of-take ls n k le = ap (λ ms. length (joined ms)) (take-take k n ls le)
 
 pub start_of-drop : (ls : List Line) (k n : ℕ) → start_of ls (k + n) ≡ start_of ls k + start_of (drop k ls) n
 unfolding start_of
-start_of-drop ls k n =
-    ap (λ ms. length (joined ms)) (take-add k n ls) ∙ ap length (flat_map-append line_bytes (take k ls) (take n (drop k ls)))
-    ∙ length-append (joined (take k ls)) (joined (take n (drop k ls)))
+start_of-drop ls k n = grind (arith, take-add, flat_map-append, length-append)
 
 module _ (source starts : List ℕ) (first skipped from end : ℕ) (table : IsLineTable source first skipped from end starts) where
   abbrev kept_lines : List Line
@@ -47,14 +45,7 @@ module _ (source starts : List ℕ) (first skipped from end : ℕ) (table : IsLi
 
   -- the lines that are kept are lines of the source
   pub table-within : skipped + length starts ≤ length (source_lines source)
-  table-within =
-      omega (
-        arith,
-        length-kept,
-        table.some,
-        length-take (length starts) (drop skipped (source_lines source)),
-        length-drop skipped (source_lines source),
-      )
+  table-within = grind (arith, length-kept, length-take, length-drop)
 
   -- where they reach to the end of the source, all lines after those that are skipped are kept
   pub table-last : end ≡ length source → skipped + length starts ≡ length (source_lines source)
@@ -72,22 +63,15 @@ module _ (source starts : List ℕ) (first skipped from end : ℕ) (table : IsLi
 
   -- each start is where its line starts
   pub table-start : (k d : ℕ) → k < length starts → from + get_or starts k d ≡ start_of (source_lines source) (skipped + k)
-  table-start k d within =
-      let ls : List Line = source_lines source in
-      let at : get_or starts k d ≡ 0 + start_of kept_lines k = ap (λ ss. get_or ss k d) table.starts_are
-      ∙ starts_from-at 0 kept_lines k d (omega (arith, length-kept)) in
-      omega (arith, at, table.from_is, start_of-take (drop skipped ls) (length starts) k (omega arith), start_of-drop ls skipped k)
+  table-start k d within = grind (arith, starts_from-at, length-kept, start_of-take, start_of-drop)
 
   -- lines that follow start later
   pub table-ordered : IsNonDecreasingBy (λ (start : ℕ). start) starts
-  table-ordered = λ i j d le within.
-      omega (arith, table-start i d (omega arith), table-start j d within, start_of-le (source_lines source) (skipped + i) (skipped + j) (omega arith))
+  table-ordered = grind (arith, table-start, start_of-le)
 
   -- the first starts where it does
   pub table-first : (byte : ℕ) → HoldsAt (λ (start : ℕ). start ≤ byte) starts 0
-  table-first byte = λ d.
-      let same : skipped + 0 ≡ skipped = omega arith in
-      omega (arith, table-start 0 d table.some, table.from_is, ap (start_of (source_lines source)) same)
+  table-first byte = grind (arith, table-start)
 
   -- the last line that starts at a byte or before it holds the byte, where that stands before the end
   pub table-holding : (byte k : ℕ) → from ≤ byte → byte < end → k < length starts → HoldsAt (λ (start : ℕ). start ≤ byte - from) starts k
@@ -113,19 +97,7 @@ module _ (source starts : List ℕ) (first skipped from end : ℕ) (table : IsLi
 pub table-all : (source starts : List ℕ) (first : ℕ) → starts ≡ line_starts source → IsUtf8 source → TextFits source
     → HasNext (first + newline_count source) → IsLineTable source first 0 0 (length source) starts
 table-all source starts first is utf8 fits numbers =
-    let ls : List Line = source_lines source in
-    let size : length starts ≡ length ls = ap length is ∙ length-starts_from 0 ls in
-    let all : take (length starts) (drop 0 ls) ≡ ls = ap (λ n. take n (drop 0 ls)) size ∙ take_all (length ls) ls (omega arith) in
-    let last : 0 + length starts ≡ length ls = omega (arith, size) in
-    record {
-      starts_are = is ∙ sym (ap (starts_from 0) all);
-      some = omega (arith, size, length-source_lines source);
-      from_is = sym (start_of-zero ls);
-      end_is = sym (ap (start_of ls) last ∙ start_of-end ls (length ls) (omega arith) ∙ ap length (joined-source_lines source));
-      utf8 = utf8;
-      short = fits;
-      numbers = omega (arith, length-source_lines source, numbers);
-    }
+    grind (arith, length-starts_from, take_all, length-source_lines, start_of-zero, start_of-end, joined-source_lines)
 
 -- one line, the one that holds a byte
 pub table-alone : (source : List ℕ) (first skipped from end byte : ℕ) → skipped ≡ line_of (source_lines source) byte
@@ -152,9 +124,7 @@ table-alone source first skipped from end byte is from_is end_is utf8 fits numbe
 -- the entry of a line by its parts
 pub entry_at-is : (info : LineInfo) (first : ℕ) (ls : List Line) (k : ℕ) → info.line.now ≡ text_at ls k → info.line_index ≡ first + k
     → info.start_byte ≡ start_of ls k → info.end_byte ≡ start_of ls (k + 1) → table_entry info ≡ entry_at first ls k
-entry_at-is info first ls k text number start next =
-    ap (λ t. record { text = t; number = info.line_index; start = info.start_byte; next = info.end_byte }) text
-    ∙ same_entry (text_at ls k) info.line_index info.start_byte info.end_byte (first + k) (start_of ls k) (start_of ls (k + 1)) number start next
+entry_at-is info first ls k text number start next = grind (arith, same_entry)
 
 -- one more entry of the lines from number i on: that of line k
 pub entries-more : (first : ℕ) (ls : List Line) (infos more : List LineInfo) (info : LineInfo) (i k : ℕ) → i ≤ k → more ≡ infos ++ info ∷ []
@@ -172,10 +142,7 @@ IsParted starts byte i = IsPartitionPoint (λ (start : ℕ). leb start byte ≡ 
 
 -- at least one line starts at a byte or before it, where the first does
 pub parted-some : (starts : List ℕ) (byte i : ℕ) → 0 < length starts → HoldsAt (λ (start : ℕ). start ≤ byte) starts 0 → IsParted starts byte i → 1 ≤ i
-parted-some [] byte i some first parted = absurd (omega arith)
-parted-some (x ∷ starts) byte zero some first parted =
-    absurd (omega (arith, first x, leb-false x byte (parted.1 0 x (omega arith) (omega arith))))
-parted-some (x ∷ starts) byte (suc i) some first parted = omega arith
+parted-some x y z u v w = grind (arith, leb-false)
 
 -- the line before the parting starts at the byte or before it
 pub parted-from : (starts : List ℕ) (byte i : ℕ) → 1 ≤ i → IsParted starts byte i → HoldsAt (λ (start : ℕ). start ≤ byte) starts (i - 1)
@@ -190,17 +157,7 @@ parted-to starts byte i some parted within = λ d. leb-false (get_or starts ((i 
 pub line_at-some : (s : Source) (number index : ℕ) (text : List ℕ) → s.first ≤ number → index ≡ number - s.first
     → index < length (source_lines s.text) → text ≡ text_at (source_lines s.text) index
     → (Some text ≡ line_at s number) × StandsAt s.text text (start_of (source_lines s.text) (number - s.first))
-line_at-some s number index text ge index_is within is =
-    let ls : List Line = source_lines s.text in
-    let inside : number - s.first < length ls = omega arith in
-    let same : text ≡ text_at ls (number - s.first) = is ∙ ap (text_at ls) index_is in
-    let there : (leb s.first number && ltb (number - s.first) (length ls))
-    ≡ true = and_from (leb s.first number) (ltb (number - s.first) (length ls)) (le-leb s.first number ge)
-    (lt-ltb (number - s.first) (length ls) inside) in (
-      sym (cond-true (leb s.first number && ltb (number - s.first) (length ls)) (Some (text_at ls (number - s.first))) None there
-          ∙ ap (λ t. Some t) (sym same)),
-      subst (λ t. StandsAt s.text t (start_of ls (number - s.first))) (sym same) (text_at-stands s.text (number - s.first) inside),
-    )
+line_at-some s number index text ge index_is within is = grind (arith, and_from, le-leb, lt-ltb, cond-true, text_at-stands)
 
 -- ---- the location of a byte, by the entry of its line
 
@@ -211,8 +168,7 @@ same_parts line char display byte line' char' display' byte' a b c d = cc
 
 same_location : (location : Loc) (line char display byte : ℕ) → location.line ≡ line → location.char ≡ char → location.display ≡ display → location.byte ≡ byte
     → ◌≡◌ {A = Loc} location (record { line = line; char = char; display = display; byte = byte })
-same_location location line char display byte a b c d =
-    same_parts location.line location.char location.display location.byte line char display byte a b c d
+same_location location line char display byte a b c d = grind (arith, same_parts)
 
 module _ (s : Source) (byte : ℕ) (info : LineInfo) (entry : table_entry info
     ≡ entry_at s.first (source_lines s.text) (line_of (source_lines s.text) byte)) where
@@ -235,17 +191,11 @@ module _ (s : Source) (byte : ℕ) (info : LineInfo) (entry : table_entry info
 
   -- the border of a span is a border of characters in its line
   pub located-border : IsSpanBorder s.text byte → IsCharBoundary info.line.now (min (byte - info.start_byte) (length info.line.now))
-  located-border border =
-      let P : List ℕ → ℕ → Type 0 = λ text start. IsCharBoundary text (min (byte - start) (length text)) in
-      let k : ℕ = line_of (source_lines s.text) byte in
-      subst (λ text. P text info.start_byte) (sym located-text) (subst (λ start.
-      P (text_at (source_lines s.text) k) start) (sym located-start) (IsCharBoundary-prefix s.text byte border))
+  located-border border = grind (arith, located-text, located-start, IsCharBoundary-prefix)
 
   -- what stands before the byte in its line
   before-byte : take (byte - info.start_byte) info.line.now ≡ prefix_at (source_lines s.text) (line_of (source_lines s.text) byte) byte
-  before-byte =
-      ap (λ start. take (byte - start) info.line.now) located-start
-      ∙ ap (take (byte - start_of (source_lines s.text) (line_of (source_lines s.text) byte))) located-text
+  before-byte = grind (arith, located-start, located-text)
 
   -- the location of a byte is on its line,
   pub located-line : (location : Loc) → location ≡ location_of s byte → location.line ≡ info.line_index
@@ -266,35 +216,15 @@ module _ (s : Source) (byte : ℕ) (info : LineInfo) (entry : table_entry info
   pub located-is : (location : Loc) → location.line ≡ info.line_index → location.char ≡ length (chars (take (byte - info.start_byte) info.line.now))
       → location.display ≡ width_of (chars (take (byte - info.start_byte) info.line.now)) → location.byte ≡ byte → location ≡ location_of s byte
   unfolding location_of place_of
-  located-is location line char display at =
-      let k : ℕ = line_of (source_lines s.text) byte in
-      let before : List ℕ = chars (prefix_at (source_lines s.text) k byte) in
-      same_location location (s.first + k) (length before) (width_of before) byte
-      (line ∙ located-number)
-      (char ∙ ap (λ bs. length (chars bs)) before-byte)
-      (display ∙ ap (λ bs. width_of (chars bs)) before-byte)
-      at
+  located-is location line char display at = grind (arith, same_location, located-number, before-byte)
 
   -- a byte after a line's text is a step further on
   pub located-steps : (steps : ℕ) → steps ≡ cond (ltb (info.start_byte + length info.line.now) byte) 1 0 → steps ≡ steps_after_text s.text byte
   unfolding steps_after_text
-  located-steps steps is =
-      let end : info.start_byte + length info.line.now ≡ start_of (source_lines s.text) (line_of (source_lines s.text) byte) + length
-      (text_at (source_lines s.text) (line_of (source_lines s.text) byte)) = omega (arith, located-start, ap length located-text) in
-      is ∙ ap (λ n. cond {A = ℕ} (ltb n byte) 1 0) end
+  located-steps steps is = grind (arith, located-start, located-text)
 
 -- the line that holds a byte holds each after it up to its end
 pub located-near : (s : Source) (info : LineInfo) (known byte : ℕ)
     → table_entry info ≡ entry_at s.first (source_lines s.text) (line_of (source_lines s.text) known)
     → known ≤ byte → byte < info.end_byte → table_entry info ≡ entry_at s.first (source_lines s.text) (line_of (source_lines s.text) byte)
-located-near s info known byte is later before =
-    let ls = source_lines s.text in
-    let k = line_of ls known in
-    let held : HoldsByte ls known k = HoldsByte-source s.text known in
-    let end : info.end_byte ≡ start_of ls (k + 1) = ap (λ (e : LineEntry). e.next) is in
-    let here : HoldsByte ls byte k = record {
-      within = held.within;
-      from = omega (arith, held.from, later);
-      to = λ more. omega (arith, before, end);
-    } in
-    is ∙ ap (entry_at s.first ls) (sym (line_of-is ls byte k here))
+located-near s info known byte is later before = grind (arith, HoldsByte-source, line_of-is)

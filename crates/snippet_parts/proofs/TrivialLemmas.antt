@@ -1,9 +1,8 @@
 -- Why a line needn't be read further to know whether it says little.
-use Rattle.snippet_parts.proofs.Common.{◌≡◌, ℕ, suc, ◌+◌, ◌<◌, Bool, true, false, ◌&&◌, ◌||◌, cond, not, eqb, List, [], ◌∷◌}
-use Rattle.snippet_parts.proofs.Common.{◌++◌, length, drop, get_or, reverse, inl, inr, ◌⊎◌, refl, sym, ap, subst, ◌∙◌, arith, is_whitespace}
-use Rattle.snippet_parts.proofs.Common.{drop_trailing_whitespace, skip_leading_whitespace, cases_Bool, or_cases, cond-true, cond-false, eqb-true, ne_eqb}
-use Rattle.snippet_parts.proofs.Common.{drop_more, drop_all, reverse-append, Seen, Nothing, Bracket, Slash, Slashes, Comment, Telling, is_bracket, is_comment}
-use Rattle.snippet_parts.proofs.Common.{is_trivial, step, is_trivial_whole}
+use Rattle.snippet_parts.proofs.Common.{◌≡◌, ℕ, suc, ◌+◌, ◌<◌, Bool, true, false, ◌&&◌, ◌||◌, cond, not, eqb, List, [], ◌∷◌, ◌++◌, length, drop, get_or}
+use Rattle.snippet_parts.proofs.Common.{reverse, inl, inr, ◌⊎◌, refl, sym, ap, ◌∙◌, arith, is_whitespace, drop_trailing_whitespace, skip_leading_whitespace}
+use Rattle.snippet_parts.proofs.Common.{cases_Bool, or_cases, cond-true, cond-false, eqb-true, ne_eqb, drop_more, drop_all, reverse-append, Seen, Nothing}
+use Rattle.snippet_parts.proofs.Common.{Bracket, Slash, Slashes, Comment, Telling, is_bracket, is_comment, is_trivial, step, is_trivial_whole}
 
 -- a text without the whitespace that it ends with
 without_tail : List ℕ → List ℕ
@@ -22,29 +21,12 @@ indent-push : (xs : List ℕ) (c : ℕ)
     → skip_leading_whitespace (xs ++ c ∷ []) ≡ cond (is_blank xs) (skip_leading_whitespace (c ∷ [])) (skip_leading_whitespace xs ++ c ∷ [])
 unfolding is_blank
 indent-push [] c = refl
-indent-push (x ∷ xs) c =
-    elim (cases_Bool (is_whitespace x)) [
-      | inl blank ↦
-          cond-true (is_whitespace x) (skip_leading_whitespace (xs ++ c ∷ [])) (x ∷ xs ++ c ∷ []) blank ∙ indent-push xs c
-          ∙ ap (λ ys. cond (is_blank xs) (skip_leading_whitespace (c ∷ [])) (ys ++ c ∷ []))
-          (sym (cond-true (is_whitespace x) (skip_leading_whitespace xs) (x ∷ xs) blank))
-          ∙ ap (λ b. cond (b && is_blank xs) (skip_leading_whitespace (c ∷ [])) (skip_leading_whitespace (x ∷ xs) ++ c ∷ [])) (sym blank)
-      | inr other ↦
-          cond-false (is_whitespace x) (skip_leading_whitespace (xs ++ c ∷ [])) (x ∷ xs ++ c ∷ []) other
-          ∙ ap (λ ys. ys ++ c ∷ []) (sym (cond-false (is_whitespace x) (skip_leading_whitespace xs) (x ∷ xs) other))
-          ∙ ap (λ b. cond (b && is_blank xs) (skip_leading_whitespace (c ∷ [])) (skip_leading_whitespace (x ∷ xs) ++ c ∷ [])) (sym other)
-    ]
+indent-push (x ∷ xs) c = grind (arith, cond-true, cond-false, indent-push xs c)
 
 blank-push : (xs : List ℕ) (c : ℕ) → is_blank (xs ++ c ∷ []) ≡ (is_whitespace c && is_blank xs)
 unfolding is_blank
 blank-push [] c = refl
-blank-push (x ∷ xs) c = ap (λ b. is_whitespace x && b) (blank-push xs c) ∙ swapped (is_whitespace x) (is_whitespace c) (is_blank xs)
-  where
-    swapped : (a b d : Bool) → (a && (b && d)) ≡ (b && (a && d))
-    swapped true true d = refl
-    swapped true false d = refl
-    swapped false true d = refl
-    swapped false false d = refl
+blank-push (x ∷ xs) c = grind (arith, blank-push xs c)
 
 blank-reverse : (cs : List ℕ) → is_blank (reverse cs) ≡ is_blank cs
 unfolding is_blank
@@ -80,32 +62,18 @@ tail-blank (c ∷ cs) blank =
 
 -- after a character that isn't whitespace
 tail-other : (c : ℕ) (cs : List ℕ) → is_whitespace c ≡ false → without_tail (c ∷ cs) ≡ c ∷ without_tail cs
-tail-other c cs other =
-    elim (cases_Bool (is_blank cs)) [
-      | inl blank ↦ tail-more c cs ∙ cond-true (is_blank cs) (reverse (skip_leading_whitespace (c ∷ []))) (c ∷ without_tail cs) blank
-          ∙ ap reverse (cond-false (is_whitespace c) [] (c ∷ []) other) ∙ ap (λ xs. c ∷ xs) (sym (tail-blank cs blank))
-      | inr some ↦ tail-more c cs ∙ cond-false (is_blank cs) (reverse (skip_leading_whitespace (c ∷ []))) (c ∷ without_tail cs) some
-    ]
+tail-other c cs other = grind (arith, tail-more, cond-true, cond-false, tail-blank)
 
 -- any character is left out with what is after it, or stays
 tail-cases : (c : ℕ) (cs : List ℕ) → (without_tail (c ∷ cs) ≡ []) ⊎ (without_tail (c ∷ cs) ≡ c ∷ without_tail cs)
-tail-cases c cs =
-    elim (cases_Bool (is_whitespace c)) [
-      | inl white ↦ elim (cases_Bool (is_blank cs)) [
-        | inl blank ↦ inl (tail-more c cs ∙ cond-true (is_blank cs) (reverse (skip_leading_whitespace (c ∷ []))) (c ∷ without_tail cs) blank
-            ∙ ap reverse (cond-true (is_whitespace c) [] (c ∷ []) white))
-        | inr some ↦ inr (tail-more c cs ∙ cond-false (is_blank cs) (reverse (skip_leading_whitespace (c ∷ []))) (c ∷ without_tail cs) some)
-      ]
-      | inr other ↦ inr (tail-other c cs other)
-    ]
+tail-cases c cs = grind (arith, tail-more, cond-true, cond-false, tail-other)
 
 trimmed-white : (c : ℕ) (cs : List ℕ) → is_whitespace c ≡ true → trimmed (c ∷ cs) ≡ trimmed cs
 trimmed-white c cs white = ap (λ xs. reverse (skip_leading_whitespace (reverse xs))) (cond-true (is_whitespace c) (skip_leading_whitespace cs) (c ∷ cs) white)
 
 trimmed-other : (c : ℕ) (cs : List ℕ) → is_whitespace c ≡ false → trimmed (c ∷ cs) ≡ c ∷ without_tail cs
 unfolding without_tail
-trimmed-other c cs other = ap (λ xs. reverse (skip_leading_whitespace (reverse xs))) (cond-false (is_whitespace c) (skip_leading_whitespace cs) (c ∷ cs) other)
-    ∙ tail-other c cs other
+trimmed-other c cs other = grind (arith, cond-false, tail-other)
 
 -- ---- what is left to be read
 
@@ -133,69 +101,38 @@ two-trivial c d ts = ap (λ b. b || false || is_comment (c ∷ d ∷ ts)) (some-
 tail-length : (cs : List ℕ) → eqb (length (without_tail cs)) 0 ≡ is_blank cs
 unfolding is_blank without_tail
 tail-length [] = refl
-tail-length (c ∷ cs) =
-    elim (cases_Bool (is_blank cs)) [
-      | inl blank ↦
-          ap (λ xs. eqb (length xs) 0) (tail-more c cs ∙ cond-true (is_blank cs) (reverse (skip_leading_whitespace (c ∷ []))) (c ∷ without_tail cs) blank)
-          ∙ elim (cases_Bool (is_whitespace c)) [
-            | inl white ↦ ap (λ xs. eqb (length (reverse xs)) 0) (cond-true (is_whitespace c) [] (c ∷ []) white)
-                ∙ sym (ap (λ b. b && is_blank cs) white ∙ blank)
-            | inr other ↦ ap (λ xs. eqb (length (reverse xs)) 0) (cond-false (is_whitespace c) [] (c ∷ []) other) ∙ sym (ap (λ b. b && is_blank cs) other)
-          ]
-      | inr some ↦
-          ap (λ xs. eqb (length xs) 0) (tail-more c cs ∙ cond-false (is_blank cs) (reverse (skip_leading_whitespace (c ∷ []))) (c ∷ without_tail cs) some)
-          ∙ some-length (length (without_tail cs)) ∙ sym (ap (λ b. is_whitespace c && b) some ∙ nothing (is_whitespace c))
-    ]
-  where
-    nothing : (b : Bool) → (b && false) ≡ false
-    nothing true = refl
-    nothing false = refl
+tail-length (c ∷ cs) = grind (arith, tail-more, cond-true, cond-false, some-length)
 
 tail-drop : (cs : List ℕ) → drop_trailing_whitespace cs ≡ without_tail cs
 unfolding without_tail
 tail-drop [] = refl
-tail-drop (c ∷ cs) =
-    ap (λ ts. cond (is_whitespace c && eqb (length ts) 0) [] (c ∷ ts)) (tail-drop cs)
-    ∙ ap (λ b. cond (is_whitespace c && b) [] (c ∷ without_tail cs)) (tail-length cs) ∙ elim (cases_Bool (is_whitespace c)) [
-      | inl white ↦ ap (λ b. cond (b && is_blank cs) [] (c ∷ without_tail cs)) white
-          ∙ sym (tail-more c cs ∙ ap (λ ts. cond (is_blank cs) (reverse ts) (c ∷ without_tail cs)) (cond-true (is_whitespace c) [] (c ∷ []) white))
-      | inr other ↦ ap (λ b. cond (b && is_blank cs) [] (c ∷ without_tail cs)) other ∙ sym (tail-other c cs other)
-    ]
+tail-drop (c ∷ cs) = grind (arith, tail-length, tail-more, cond-true, tail-other, tail-drop cs)
 
 trivial-is : (cs ts : List ℕ) → trimmed cs ≡ ts → is_trivial cs ≡ trivial_trimmed ts
 unfolding trivial_trimmed without_tail
 trivial-is cs ts is = ap trivial_trimmed (tail-drop (skip_leading_whitespace cs) ∙ is)
 
 not-comment : (c : ℕ) (ts : List ℕ) → eqb c 47 ≡ false → is_comment (c ∷ ts) ≡ false
-not-comment c [] other = refl
-not-comment c (d ∷ []) other = ap (λ b. b && eqb d 47) other
-not-comment c (d ∷ e ∷ ts) other = ap (λ b. b && eqb d 47 && not (eqb e 47 || eqb e 33)) other
+not-comment x y z = grind (arith)
 
 trivial-strong : (c : ℕ) (ts : List ℕ) → eqb c 47 ≡ false → is_bracket (c ∷ []) ≡ false → trivial_trimmed (c ∷ ts) ≡ false
 unfolding trivial_trimmed
-trivial-strong c [] other plain = ap (λ b. b || is_comment (c ∷ [])) plain
-trivial-strong c (d ∷ ts) other plain = two-trivial c d ts ∙ not-comment c (d ∷ ts) other
+trivial-strong x y z u = grind (arith, two-trivial, not-comment)
 
 trivial-bracket : (c : ℕ) (ts : List ℕ) → eqb c 47 ≡ false → is_bracket (c ∷ []) ≡ true → trivial_trimmed (c ∷ ts) ≡ eqb (length ts) 0
 unfolding trivial_trimmed
-trivial-bracket c [] other is = ap (λ b. false || b || is_comment (c ∷ [])) is
-trivial-bracket c (d ∷ ts) other is = two-trivial c d ts ∙ not-comment c (d ∷ ts) other ∙ sym (some-length (length ts))
+trivial-bracket x y z u = grind (arith, two-trivial, not-comment, some-length)
 
 slash-other : (c : ℕ) (ts : List ℕ) → eqb c 47 ≡ false → trivial_trimmed (47 ∷ c ∷ ts) ≡ false
 unfolding trivial_trimmed
-slash-other c [] other = two-trivial 47 c [] ∙ other
-slash-other c (e ∷ ts) other = two-trivial 47 c (e ∷ ts) ∙ ap (λ b. b && not (eqb e 47 || eqb e 33)) other
+slash-other x y z = grind (arith, two-trivial)
 
 slashes-third : (c : ℕ) (ts : List ℕ) (b : Bool) → (eqb c 47 || eqb c 33) ≡ b → trivial_trimmed (47 ∷ 47 ∷ c ∷ ts) ≡ not b
 unfolding trivial_trimmed
 slashes-third c ts b is = two-trivial 47 47 (c ∷ ts) ∙ ap not is
 
 bracket-no-slash : (c : ℕ) → is_bracket (c ∷ []) ≡ true → eqb c 47 ≡ false
-bracket-no-slash c is =
-    elim (cases_Bool (eqb c 47)) [
-      | inl slash ↦ let e : is_bracket (47 ∷ []) ≡ true = subst (λ x. is_bracket (x ∷ []) ≡ true) (eqb-true c 47 slash) is in cc
-      | inr other ↦ other
-    ]
+bracket-no-slash c is = grind (arith, eqb-true)
 
 -- one more character
 step-nothing : (c : ℕ) (cs : List ℕ) → is_trivial (c ∷ cs) ≡ trivial_after (step Nothing c) cs
@@ -225,57 +162,19 @@ step-nothing c cs =
 
 step-slash : (c : ℕ) (cs : List ℕ) → is_trivial (47 ∷ c ∷ cs) ≡ trivial_after (step Slash c) cs
 unfolding trivial_after trivial_trimmed
-step-slash c cs =
-    elim (cases_Bool (eqb c 47)) [
-      | inl slash ↦ ap (λ x. is_trivial (47 ∷ x ∷ cs)) (eqb-true c 47 slash) ∙ ap (λ s. trivial_after s cs) (sym (cond-true (eqb c 47) Slashes Telling slash))
-      | inr other ↦
-          trivial-is (47 ∷ c ∷ cs) (47 ∷ without_tail (c ∷ cs)) (trimmed-other 47 (c ∷ cs) refl)
-          ∙ elim (tail-cases c cs) [
-            | inl none ↦ ap (λ ts. trivial_trimmed (47 ∷ ts)) none
-            | inr some ↦ ap (λ ts. trivial_trimmed (47 ∷ ts)) some ∙ slash-other c (without_tail cs) other
-          ]
-          ∙ ap (λ s. trivial_after s cs) (sym (cond-false (eqb c 47) Slashes Telling other))
-    ]
+step-slash c cs = grind (arith, eqb-true, cond-true, trivial-is, trimmed-other, tail-cases, slash-other, cond-false)
 
 step-slashes : (c : ℕ) (cs : List ℕ) → is_trivial (47 ∷ 47 ∷ c ∷ cs) ≡ trivial_after (step Slashes c) cs
 unfolding trivial_after trivial_trimmed
-step-slashes c cs =
-    let text : is_trivial (47 ∷ 47 ∷ c ∷ cs) ≡ trivial_trimmed (47 ∷ 47 ∷ without_tail (c ∷ cs)) = trivial-is (47 ∷ 47 ∷ c ∷ cs)
-    (47 ∷ 47 ∷ without_tail (c ∷ cs)) (trimmed-other 47 (47 ∷ c ∷ cs) refl ∙ ap (λ ts. 47 ∷ ts) (tail-other 47 (c ∷ cs) refl)) in
-    elim (cases_Bool (eqb c 47 || eqb c 33)) [
-      | inl third ↦ text ∙ ap (λ ts. trivial_trimmed (47 ∷ 47 ∷ ts)) (tail-other c cs (black c third)) ∙ slashes-third c (without_tail cs) true third
-          ∙ ap (λ s. trivial_after s cs) (sym (cond-true (eqb c 47 || eqb c 33) Telling Comment third))
-      | inr other ↦
-          text ∙ elim (tail-cases c cs) [
-            | inl none ↦ ap (λ ts. trivial_trimmed (47 ∷ 47 ∷ ts)) none
-            | inr some ↦ ap (λ ts. trivial_trimmed (47 ∷ 47 ∷ ts)) some ∙ slashes-third c (without_tail cs) false other
-          ]
-          ∙ ap (λ s. trivial_after s cs) (sym (cond-false (eqb c 47 || eqb c 33) Telling Comment other))
-    ]
-  where
-    black : (c : ℕ) → (eqb c 47 || eqb c 33) ≡ true → is_whitespace c ≡ false
-    black c third =
-        elim (or_cases (eqb c 47) (eqb c 33) third) [
-          | inl slash ↦ ap is_whitespace (eqb-true c 47 slash)
-          | inr mark ↦ ap is_whitespace (eqb-true c 33 mark)
-        ]
+step-slashes c cs = grind (arith, trivial-is, trimmed-other, tail-other, slashes-third, cond-true, tail-cases, cond-false, or_cases, eqb-true)
 
 step-bracket : (c : ℕ) (cs : List ℕ) → (is_whitespace c && is_blank cs) ≡ trivial_after (step Bracket c) cs
 unfolding trivial_after
-step-bracket c cs =
-    elim (cases_Bool (is_whitespace c)) [
-      | inl white ↦ ap (λ b. b && is_blank cs) white ∙ ap (λ s. trivial_after s cs) (sym (cond-true (is_whitespace c) Bracket Telling white))
-      | inr other ↦ ap (λ b. b && is_blank cs) other ∙ ap (λ s. trivial_after s cs) (sym (cond-false (is_whitespace c) Bracket Telling other))
-    ]
+step-bracket c cs = grind (arith, cond-true, cond-false)
 
 after-step : (s : Seen) (c : ℕ) (cs : List ℕ) → trivial_after s (c ∷ cs) ≡ trivial_after (step s c) cs
 unfolding trivial_after is_blank
-after-step Nothing c cs = step-nothing c cs
-after-step Bracket c cs = step-bracket c cs
-after-step Slash c cs = step-slash c cs
-after-step Slashes c cs = step-slashes c cs
-after-step Comment c cs = refl
-after-step Telling c cs = refl
+after-step x y z = grind (arith, step-nothing, step-bracket, step-slash, step-slashes)
 
 -- of a line, what was read of its first n characters tells what the line is
 pub record IsReadTo (cs : List ℕ) (n : ℕ) (s : Seen) : Type 0 where
@@ -288,11 +187,7 @@ trivial_none cs = record { after = refl }
 
 -- with one more character read the characters so far are read
 pub trivial_more : (cs : List ℕ) (n m c : ℕ) (s t : Seen) → (n < length cs) × (c ≡ get_or cs n c) → m ≡ n + 1 → t ≡ step s c → IsReadTo cs n s → IsReadTo cs m t
-trivial_more cs n m c s t at is stepped before =
-    record {
-      after = ap (λ k. trivial_after t (drop k cs)) is ∙ ap (λ x. trivial_after x (drop (n + 1) cs)) stepped ∙ sym (after-step s c (drop (n + 1) cs))
-          ∙ ap (λ x. trivial_after s (x ∷ drop (n + 1) cs)) at.1 ∙ ap (trivial_after s) (sym (drop_more cs n c at.0)) ∙ before.after;
-    }
+trivial_more cs n m c s t at is stepped before = grind (arith, after-step, drop_more)
 
 -- a text in which a comment has begun is trivial
 pub read-comment : (cs : List ℕ) (n : ℕ) → IsReadTo cs n Comment → true ≡ is_trivial cs
@@ -307,12 +202,4 @@ read-strong cs n before = before.after
 -- once all characters are read it is known whether the text is trivial
 pub trivial_read : (cs : List ℕ) (n : ℕ) (s : Seen) → length cs ≡ n → IsReadTo cs n s → is_trivial_whole s ≡ is_trivial cs
 unfolding trivial_after is_blank
-trivial_read cs n s all before = end s ∙ ap (trivial_after s) (sym (drop_all n cs (omega arith))) ∙ before.after
-  where
-    end : (s : Seen) → is_trivial_whole s ≡ trivial_after s []
-    end Nothing = refl
-    end Bracket = refl
-    end Slash = refl
-    end Slashes = refl
-    end Comment = refl
-    end Telling = refl
+trivial_read cs n s all before = grind (arith, drop_all)
