@@ -1,7 +1,7 @@
 -- Codes of which one more is made.
 use Rattle.snippet_grid.proofs.Common.{◌≡◌, ℕ, ◌<◌, arith, Bool, true, false, if◌then◌else◌, List, [], ◌∷◌, ◌++◌, Option, length, zero, suc}
 use Rattle.snippet_grid.proofs.Common.{get_or, refl, sym, ap, ◌∙◌, subst, encode_utf8_all, AllZip, IsCodeOf, StyleCode}
-use Rattle.snippet_grid.proofs.Common.{get_or_default, opening_bytes, style_at, styles_in}
+use Rattle.snippet_grid.proofs.Common.{opening_bytes, style_at, styles_in}
 use Rattle.snippet_grid.proofs.Common.{code, color_code, effect_code, effect_codes, reset, is_plain_style, no_effects, plain_style, Color, Effects}
 use Rattle.snippet_grid.proofs.Common.{encode-opening, reset-bytes, bold-alone, plain_is_plain, Style, Stylesheet}
 use Rattle.std.proofs.Common.{append-nil}
@@ -20,12 +20,6 @@ pub code_read : (codes : List StyleCode) (c : StyleCode) (sheet seen : Styleshee
     → IsCodeOf (get_or codes i c) (style_at seen i)
 code_read codes c sheet seen i are within same =
     subst (λ (s : Stylesheet). IsCodeOf (get_or codes i c) (style_at s i)) same (zipped codes (styles_in sheet) i c sheet.none are within)
-
--- the style at a place of a sheet stands there among its styles
-pub style_read : (sheet seen : Stylesheet) (styles : List Style) (i : ℕ) (d : Style) → i < 11 → sheet ≡ seen → styles ≡ styles_in sheet
-    → style_at seen i ≡ get_or styles i d
-style_read sheet seen styles i d within same are =
-    ap (λ s. style_at s i) (sym same) ∙ get_or_default (styles_in sheet) i sheet.none d within ∙ ap (λ (l : List Style). get_or l i d) (sym are)
 
 -- nothing switches a plain style off
 pub reset_plain : (s : Style) (old : List ℕ) → is_plain_style s ≡ true → old ≡ old ++ encode_utf8_all (reset s)

@@ -19,8 +19,7 @@ use std::marker::Model;
 #[derive(Drop)]
 pub struct SheetCodes {
     sheet: Stylesheet,
-    /// The styles of the sheet, in the order of its fields, and what opens each.
-    styles: [Style; 11],
+    /// What opens each of its styles, in the order of its fields.
     codes: [StyleCode; 11],
 }
 
@@ -36,7 +35,6 @@ impl Model for SheetCodes {
     ghost view = { λ c. c.sheet };
 
     ghost invariant = { λ c. record {
-      styles : c.styles ≡ styles_in c.sheet;
       codes : AllZip IsCodeOf c.codes (styles_in c.sheet);
     } };
 }
@@ -48,7 +46,6 @@ impl SheetCodes {
     {
         SheetCodes {
             sheet: *sheet,
-            styles: styles(sheet),
             codes: codes(sheet),
         }
     }
@@ -58,7 +55,20 @@ impl SheetCodes {
         requires within { place < 11 }
         ensures value { result ≡ style_at self.now place }
     {
-        self.styles[place]
+        let sheet = &self.sheet;
+        match place {
+            0 => sheet.error,
+            1 => sheet.warning,
+            2 => sheet.info,
+            3 => sheet.note,
+            4 => sheet.help,
+            5 => sheet.line_num,
+            6 => sheet.emphasis,
+            8 => sheet.context,
+            9 => sheet.addition,
+            10 => sheet.removal,
+            _ => sheet.none,
+        }
     }
 
     /// Whether the style at a place is plain.
@@ -122,25 +132,6 @@ impl SheetCodes {
     {
         self.codes[place]
     }
-}
-
-/// The styles of a sheet, in the order of its fields.
-fn styles(sheet: &Stylesheet) -> [Style; 11]
-    ensures value { result ≡ styles_in sheet.now }
-{
-    [
-        sheet.error,
-        sheet.warning,
-        sheet.info,
-        sheet.note,
-        sheet.help,
-        sheet.line_num,
-        sheet.emphasis,
-        sheet.none,
-        sheet.context,
-        sheet.addition,
-        sheet.removal,
-    ]
 }
 
 /// What opens each style of a sheet, in the order of its fields.
