@@ -7,17 +7,18 @@ unfoldable pub use Rattle.snippet_grid.specs.Grid.{changed_within, replaced_with
 pub use Rattle.snippet_grid.specs.Html.{Text, tags_between, HtmlLook, escaped, AnchorStart, HtmlPiece, SpanStart, escape, plain_look, AddsHtml, anchor_started}
 pub use Rattle.snippet_grid.specs.Html.{span_started, html_text, look_at, row_html, rows_html, SpanEnd, AnchorEnd, cells_html, ended, further_html, piece_html}
 pub use Rattle.snippet_grid.specs.Html.{same_html_look, started, html_bytes, anchor_ended, class_of, level_class, html_look_of, span_ended}
-pub use Rattle.snippet_grid.specs.HtmlLooks.{look_seen, IsHtmlGap}
+pub use Rattle.snippet_grid.specs.HtmlLooks.{look_seen}
 pub use Rattle.snippet_grid.specs.HtmlRead.{unescaped, html_says, piece_tag, tags_of, without_tags, CharInTags, InTags, InText, InTag, InEscape, after_tag}
 pub use Rattle.snippet_grid.specs.HtmlRead.{as_read, html_reads, quoted, reads, tags_in, ReadChar, chars_of_cells, chars_of_rows, feed_read}
 pub use Rattle.snippet_grid.specs.GridRow.{AddsToRow, GainsRows, appended}
-pub use Rattle.snippet_grid.specs.OpenRow.{AddsCells, IsPrinted, Goes, cells_alike}
+pub use Rattle.snippet_grid.specs.OpenHtml.{AddsHtmlCells, HtmlGoes, IsHtml, IsHtmlBegun}
+pub use Rattle.snippet_grid.specs.OpenRow.{AddsCells, IsBegun, IsPrinted, Goes, cells_alike}
 pub use Rattle.snippet_grid.specs.Print.{row_text, plain_text, further_text}
 pub use Rattle.snippet_grid.specs.RunBounds.{most_runs, fewest_runs, Look, look_of, goes_on, fewest_after, most_after, same_level, same_role, same_look}
 pub use Rattle.snippet_grid.specs.RunBounds.{is_bare}
 pub use Rattle.snippet_grid.specs.Runs.{IsRun, BeginsWith, shown_cell, IsRow, EndsBy, Precedes, run_cell, run_chars, FitIn, run_bytes, holds, painted_over}
 pub use Rattle.snippet_grid.specs.Runs.{cells_to, IsPart, IsGrid, ShowsMore, Differ, IsPut, Continues, AddsRun, Touches, IsWord, IsWidened, IsJoined}
-pub use Rattle.snippet_grid.specs.Runs.{BeginsAfter, IsClear, AreTouchedRuns, ArePieces, BeginsBy, IsFront, IsBack, ShowsCopy, IsLast}
+pub use Rattle.snippet_grid.specs.Runs.{BeginsAfter, BeginsRow, IsClear, AreTouchedRuns, ArePieces, BeginsBy, IsFront, IsBack, ShowsCopy, IsLast}
 unfoldable pub use Rattle.snippet_grid.specs.Runs.{grid_shown}
 pub use Rattle.snippet_grid.specs.SheetCodes.{style_at, opening_bytes, styles_in}
 pub use Rattle.snippet_grid.specs.Stored.{Stored, stored}
@@ -29,6 +30,7 @@ pub use Rattle.snippet_grid.specs.Woven.{piece_text, Piece, Char, Opening, Reset
 pub use Rattle.snippet_grid.specs.Woven.{links_of, plain_piece, piece_link, IsStyleOf, IsOfSheet, AreLinksEnded, IsWoven, link_begun, links_after}
 pub use Rattle.snippet_grid.specs.declared.change.Change.{Change}
 pub use Rattle.snippet_grid.specs.declared.grid_row.GridRow.{GridRow}
+pub use Rattle.snippet_grid.specs.declared.html_row.HtmlRow.{HtmlRow}
 pub use Rattle.snippet_grid.specs.declared.printed_row.PrintedRow.{PrintedRow}
 pub use Rattle.snippet_grid.specs.declared.runs.Run.{Run}
 pub use Rattle.snippet_grid.specs.declared.styled_char.StyledChar.{StyledChar}

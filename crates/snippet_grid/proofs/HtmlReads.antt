@@ -4,7 +4,8 @@ use Rattle.snippet_grid.proofs.Common.{cells_alike}
 use Rattle.snippet_grid.proofs.Common.{◌≡◌, ◌==◌, ℕ, zero, suc, replicate, ◌<◌, Bool, true, false, codes, ◌&&◌, if◌then◌else◌, nat_eq}
 use Rattle.snippet_grid.proofs.Common.{List, [], ◌∷◌, ◌++◌, length, Option, map, refl, sym, ap, ◌∙◌, arith, encode_utf8, encode_utf8_all}
 use Rattle.snippet_grid.proofs.Common.{append_assoc, append-nil, flat_map-append, false≢true, encodes-append, encodes-chars, nat_list_eq_equiv, IsUtf8}
-use Rattle.snippet_grid.proofs.Common.{AddsHtml, AnchorStart, HtmlLook, HtmlPiece, SpanStart, Text, anchor_started, tags_between, cells_html, ended, escape}
+use Rattle.snippet_grid.proofs.Common.{AddsHtml, AnchorStart, HtmlGoes, HtmlLook, HtmlPiece, SpanStart, Text, anchor_started, tags_between, cells_html, ended}
+use Rattle.snippet_grid.proofs.Common.{escape}
 use Rattle.snippet_grid.proofs.Common.{escaped, further_html, html_bytes, span_started, html_text, look_at, piece_html, row_html, rows_html, same_html_look}
 use Rattle.snippet_grid.proofs.Common.{started, Cell, ElementStyle, LevelInner, not, None, Some, and_parts, eqb-true, flat_map, list_all, SpanEnd, AnchorEnd}
 use Rattle.snippet_grid.proofs.Common.{html_says, piece_tag, tags_of, unescaped, without_tags}
@@ -295,11 +296,6 @@ stretch_html level last role link (ch ∷ word) more some =
     ∙ sym (append_assoc (tags_between last look) (Text ch ∷ map Text word) (cells_html level look more))
 
 -- ---- a row
-
--- what was printed of a row is all but what further cells make of it, after one that stands in this
-abbrev pub HtmlGoes : LevelInner → HtmlLook → List Cell → List ℕ → List ℕ → Type 0
-HtmlGoes level last done old now =
-    (more : List Cell) → old ++ html_bytes (row_html level (done ++ more)) ≡ now ++ html_bytes (cells_html level last more)
 
 -- a stretch was printed
 pub html_stretch : (level : LevelInner) (last : HtmlLook) (role : ElementStyle) (link : Option Url) (word : List ℕ) (done : List Cell) (old now new : List ℕ)

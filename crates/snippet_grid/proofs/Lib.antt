@@ -1,6 +1,7 @@
 pub mod Common
 pub mod AddedRows
 pub mod AppendLemmas
+pub mod ChangedRow
 pub mod CopyLemmas
 pub mod CodeLemmas
 pub mod CutLemmas

@@ -1,20 +1,18 @@
--- A row that grows by spaces and by words, and ends.
-use Rattle.snippet_grid.proofs.Common.{◌≡◌, ℕ, zero, suc, ◌<◌, List, [], ◌∷◌, ◌++◌, length, map, replicate, Option, None, Some, refl, sym, ap}
-use Rattle.snippet_grid.proofs.Common.{◌∙◌, subst, append_assoc, append-nil, linked, AddsCells, Goes, IsPrinted, PrintedRow, PrintsStretch, cells_alike}
-use Rattle.snippet_grid.proofs.Common.{Cell, SPACE, text_cells, style_of, ElementStyle, NoStyle, LevelInner, Style, Stylesheet}
-use Rattle.snippet_grid.proofs.ReplaceLemmas.{stretch_printed}
-use Rattle.snippet_grid.proofs.WeaveLemmas.{Url}
+-- A row that begins, and grows by spaces and by words.
+use Rattle.snippet_grid.proofs.Common.{◌≡◌, ℕ, zero, suc, List, [], ◌∷◌, ◌++◌, map, replicate, None, Some, refl, sym, ap, ◌∙◌, subst, append_assoc, append-nil}
+use Rattle.snippet_grid.proofs.Common.{option_copied, string_bytes, linked, AddsCells, IsBegun, IsPrinted, PrintedRow, PrintsCells, cells_alike, style_at}
+use Rattle.snippet_grid.proofs.Common.{Cell, SPACE, text_cells, ElementStyle, NoStyle, LevelInner, Stylesheet}
 
--- a word in a role was added: its style and its link are open
-pub word_added : (sheet : Stylesheet) (level : LevelInner) (role next_role : ElementStyle) (link next_link shown : Option Url) (cells : List Cell)
-    (old now new word : List ℕ) (last next : Style) → last ≡ style_of sheet level role → next ≡ style_of sheet level next_role → shown ≡ link
-    → 0 < length word → PrintsStretch word last next shown next_link now new → Goes sheet level (Some (style_of sheet level role)) link cells old now
-    → Goes sheet level (Some (style_of sheet level next_role)) next_link (cells ++ cells_alike next_role next_link word) old new
-word_added sheet level role next_role link next_link shown cells old now new word last next last_is next_is seen some prints goes =
-    let here = subst (λ url. PrintsStretch word last next url next_link now new) seen prints in
-    let from = subst (λ style. PrintsStretch word style next link next_link now new) last_is here in
-    let to = subst (λ style. PrintsStretch word (style_of sheet level role) style link next_link now new) next_is from in
-    stretch_printed sheet level (style_of sheet level role) (style_of sheet level next_role) next_role link next_link word cells old now new some refl to goes
+-- no cell is printed of a row that begins
+pub none_printed : (sheet : Stylesheet) (level : LevelInner) (row : PrintedRow) → IsBegun sheet level row → IsPrinted [] (string_bytes row.text) row
+none_printed sheet level row begun =
+    let codes = row.codes.now in
+    record {
+      goes = λ rest more prints.
+          let styled = subst (λ place. PrintsCells codes row.level (Some (style_at codes place)) (option_copied row.last.link) rest more) begun.plain prints in
+          let bare = subst (λ link. PrintsCells codes row.level (Some codes.none) link rest more) (ap option_copied begun.unlinked) styled in
+          record { pieces = rest; text_is = refl; prints = bare };
+    }
 
 -- spaces as cells
 pub spaces_alike : (n : ℕ) → cells_alike NoStyle None (replicate n 32) ≡ replicate n SPACE

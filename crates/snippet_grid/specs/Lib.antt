@@ -8,6 +8,7 @@ pub mod HtmlLooks
 pub mod HtmlRead
 pub mod Layout
 pub mod LayoutOf
+pub mod OpenHtml
 pub mod OpenRow
 pub mod Print
 pub mod RunBounds

@@ -1,11 +1,11 @@
 -- A row of which the first cells are printed, and the rest is to come.
-use Rattle.std.specs.Prelude.{◌≡◌, ℕ, List, ◌++◌, Option, Some, map, string_bytes}
+use Rattle.std.specs.Prelude.{◌≡◌, ℕ, List, ◌++◌, Option, None, Some, map, string_bytes}
 use Rattle.std.specs.List.{flat_map}
 use Rattle.std.specs.Option.{option_copied}
+use Rattle.snippet_grid.specs.SheetCodes.{style_at}
 use Rattle.snippet_grid.specs.Woven.{Piece, piece_text, PrintsCells, PrintsRow}
 use Rattle.snippet_grid.specs.declared.printed_row.PrintedRow.{PrintedRow}
 use Rattle.snippet_style.specs.Cell.{Cell}
-use Rattle.snippet_style.specs.Stylesheet.{style_of}
 use Rattle.snippet_style.specs.declared.role.ElementStyle.{ElementStyle}
 use Rattle.snippet_style.specs.declared.role.LevelInner.{LevelInner}
 use Rattle.snippet_style.specs.declared.style.Style.{Style}
@@ -22,9 +22,16 @@ abbrev pub Goes : Stylesheet → LevelInner → Option Style → Option (List �
 Goes sheet level style link done old now =
     (rest : List Piece) (more : List Cell) → PrintsCells sheet level style link rest more → Completes sheet level done old now rest more
 
+-- no cell of a row is printed, under this sheet in a group of this level
+pub record IsBegun (sheet : Stylesheet) (level : LevelInner) (row : PrintedRow) : Type 0 where
+  pub under : row.codes.now ≡ sheet
+  pub grouped : row.level ≡ level
+  pub plain : row.last.place ≡ 7
+  pub unlinked : row.last.link ≡ None
+
 -- these cells of a row are printed under its sheet, after this text: the style and the link of the last one are open
 pub record IsPrinted (cells : List Cell) (old : List ℕ) (row : PrintedRow) : Type 0 where
-  pub goes : Goes row.codes.now row.level (Some (style_of row.codes.now row.level row.role)) (option_copied row.link) cells old (string_bytes row.text)
+  pub goes : Goes row.codes.now row.level (Some (style_at row.codes.now row.last.place)) (option_copied row.last.link) cells old (string_bytes row.text)
 
 -- these cells were added to a row, under the same sheet and in the same level
 pub record AddsCells (before after : PrintedRow) (more : List Cell) : Type 0 where

@@ -237,3 +237,9 @@ pub record IsWidened (old new : List ℕ) (row end : ℕ) : Type 0 where
 pub record IsLast (widths : List ℕ) (run : Run) : Type 0 where
   pub row : run.row + 1 ≡ length widths
   pub cell : slice_index_or widths run.row 0 ≤ run.cell
+
+-- the runs from this one on stand in this row or below it, and those before it above it
+pub record BeginsRow (runs : List Run) (from row : ℕ) : Type 0 where
+  pub within : from ≤ length runs
+  pub above : (k : ℕ) (d : Run) → k < from → (slice_index_or runs k d).row < row
+  pub below : (k : ℕ) (d : Run) → from ≤ k → k < length runs → row ≤ (slice_index_or runs k d).row

@@ -159,6 +159,20 @@ const RESET: &str = "\u{1b}[0m";
 /// The place of the style of what has no style of its own.
 pub(crate) const NONE: usize = 7;
 
+/// How a cell looks: the place of its style in the sheet, and where its link leads.
+#[derive(Clone, Copy)]
+pub(crate) struct WovenLook<'a> {
+    pub(crate) place: usize,
+    pub(crate) link: Option<&'a str>,
+    ghost within: { place < 11 },
+}
+
+/// How a cell looks in which nothing stands.
+pub(crate) const SPACE: WovenLook<'static> = WovenLook {
+    place: NONE,
+    link: None,
+};
+
 /// The place of the style of a cell of this role, in a group of this level.
 #[inline(always)]
 pub(crate) fn place_of(level: LevelInner, role: ElementStyle) -> usize

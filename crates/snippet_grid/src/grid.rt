@@ -24,12 +24,12 @@ use crate::added_row::add_row;
 use crate::cells::{Cells, RowCells};
 use crate::change::{Change, change_cells};
 use crate::codes::SheetCodes;
-use crate::html::push_html_rows;
+use crate::html_row::push_html_rows;
+use crate::printed_row::print_rows;
 use crate::put::Spare;
 use crate::replace::replace_cells;
 use crate::runs::Run;
 use crate::styled_char::StyledChar;
-use crate::weave::weave_rows;
 use crate::words::{fits, write_char, write_word};
 use snippet_style::{ElementStyle, LevelInner, Stylesheet};
 use std::alloc::{AllocError, Global};
@@ -385,15 +385,14 @@ impl<'a> StyledBuffer<'a> {
         let cells = &self.cells;
         let codes_room = cells.runs.len().saturating_mul(RUN_BYTES);
         text.reserve(cells.text.len().saturating_add(codes_room))?;
-        weave_rows(
-            &mut text,
+        print_rows(
+            text,
             cells.text.as_str(),
             &cells.runs,
             &cells.widths,
             level,
             codes,
-        )?;
-        Ok(text)
+        )
     }
 
     /// The rows, joined by line feeds, as HTML in a group of this level, after a text that is there: characters that
@@ -408,15 +407,13 @@ impl<'a> StyledBuffer<'a> {
         ensures added { IfOk result (λ html. AddsHtml (rows_html level self.now) (string_bytes before)
             (string_bytes html)) }
     {
-        let mut html = before;
         let cells = &self.cells;
         push_html_rows(
-            &mut html,
+            before,
             cells.text.as_str(),
             &cells.runs,
             &cells.widths,
             level,
-        )?;
-        Ok(html)
+        )
     }
 }

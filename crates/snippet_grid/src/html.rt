@@ -6,31 +6,27 @@
 //! ```text
 //! a cell  </a></span>  <span class="snippet-error"><a href="https://..">  the next cell
 //! ```
-ghost use Rattle.std.specs.Prelude.{◌≡◌, ◌++◌, IfOk, OnOk, string_bytes, encode_utf8_all, map};
+ghost use Rattle.std.specs.Prelude.{◌≡◌, ◌++◌, OnOk, string_bytes, encode_utf8_all};
 ghost use Rattle.std.specs.Option.{option_copied};
 ghost use Rattle.std.specs.Str.{chars};
-ghost use Rattle.snippet_grid.specs.Runs.{IsGrid, IsRow, EndsBy, cells_to, grid_shown};
 ghost use Rattle.snippet_grid.specs.Html as spec;
-ghost use Rattle.snippet_grid.specs.Html.{AddsHtml, Text, anchor_ended, anchor_started, tags_between, ended, escape};
-ghost use Rattle.snippet_grid.specs.Html.{look_at, row_html, rows_html, span_ended, span_started, started};
-ghost use Rattle.snippet_grid.specs.HtmlLooks.{IsHtmlGap, look_seen};
+ghost use Rattle.snippet_grid.specs.Html.{AddsHtml, anchor_ended, anchor_started, tags_between, ended, escape};
+ghost use Rattle.snippet_grid.specs.Html.{look_at, span_ended, span_started, started};
+ghost use Rattle.snippet_grid.specs.HtmlLooks.{look_seen};
 
-use crate::runs::Run;
-use crate::spaces::push_spaces;
-use crate::weave::row_end;
 use snippet_style::{ElementStyle, LevelInner};
 use snippet_text::is_link_address;
 use std::alloc::AllocError;
 
 /// What a cell stands in: the class of its role, and the address that it links to. Each is empty where there is none.
 #[derive(Clone, Copy)]
-struct TagLook<'a> {
+pub(crate) struct TagLook<'a> {
     class: &'static str,
     address: &'a str,
 }
 
 /// What a cell stands in that has neither.
-const PLAIN: TagLook<'static> = TagLook {
+pub(crate) const PLAIN: TagLook<'static> = TagLook {
     class: "",
     address: "",
 };
@@ -104,7 +100,11 @@ fn link_address(link: Option<&str>) -> &str
 }
 
 /// What a cell of this role and link stands in, in a group of this level.
-fn look_of<'a>(level: LevelInner, role: ElementStyle, link: Option<&'a str>) -> TagLook<'a>
+pub(crate) fn look_of<'a>(
+    level: LevelInner,
+    role: ElementStyle,
+    link: Option<&'a str>,
+) -> TagLook<'a>
     ensures value { look_seen result ≡ look_at level role (option_copied link.entry) }
 {
     TagLook {
@@ -158,7 +158,7 @@ fn end_anchor(out: &mut String, address: &str) -> Result<(), AllocError>
 }
 
 /// Adds the tags that end what is open.
-fn end_look(out: &mut String, look: TagLook<'_>) -> Result<(), AllocError>
+pub(crate) fn end_look(out: &mut String, look: TagLook<'_>) -> Result<(), AllocError>
     ensures added { OnOk result (AddsHtml (ended (look_seen look.entry)) (string_bytes out.old)
         (string_bytes out.new)) }
 {
@@ -176,7 +176,11 @@ fn start_look(out: &mut String, look: TagLook<'_>) -> Result<(), AllocError>
 }
 
 /// Adds the tags between two neighbours: none where they stand in the same.
-fn change_look(out: &mut String, last: TagLook<'_>, next: TagLook<'_>) -> Result<(), AllocError>
+pub(crate) fn change_look(
+    out: &mut String,
+    last: TagLook<'_>,
+    next: TagLook<'_>,
+) -> Result<(), AllocError>
     ensures added { OnOk result (AddsHtml (tags_between (look_seen last.entry) (look_seen next.entry))
         (string_bytes out.old) (string_bytes out.new)) }
 {
@@ -185,87 +189,4 @@ fn change_look(out: &mut String, last: TagLook<'_>, next: TagLook<'_>) -> Result
     }
     end_look(out, last)?;
     start_look(out, next)
-}
-
-/// Adds a text that stands in this, after what was printed and stands in `last`.
-fn push_stretch(
-    out: &mut String,
-    word: &str,
-    last: TagLook<'_>,
-    next: TagLook<'_>,
-) -> Result<(), AllocError>
-    ensures added { OnOk result (AddsHtml (tags_between (look_seen last.entry) (look_seen next.entry)
-        ++ map Text (chars word.now)) (string_bytes out.old) (string_bytes out.new)) }
-{
-    change_look(out, last, next)?;
-    push_escaped(out, word)
-}
-
-/// Adds spaces from one cell to before another, after what was printed and stands in `last`; gives what is open then.
-fn push_gap<'a>(
-    out: &mut String,
-    from: usize,
-    to: usize,
-    last: TagLook<'a>,
-) -> Result<TagLook<'a>, AllocError>
-    ensures gap { IfOk result (λ next. IsHtmlGap from to (look_seen last.entry) (look_seen next)
-        (string_bytes out.old) (string_bytes out.new)) }
-{
-    if to <= from {
-        return Ok(last);
-    }
-    change_look(out, last, PLAIN)?;
-    push_spaces(out, to - from)?;
-    Ok(PLAIN)
-}
-
-/// Adds a row of this many cells to a text: what its runs hold, and spaces between them.
-fn push_html_row(
-    out: &mut String,
-    text: &str,
-    runs: &[Run<'_>],
-    row: usize,
-    width: usize,
-    level: LevelInner,
-) -> Result<(), AllocError>
-    requires runs { IsRow text.now row runs.now }
-    requires ends { EndsBy width runs.now }
-    ensures added { OnOk result (AddsHtml (row_html level (cells_to text.now runs.now row width))
-        (string_bytes out.old) (string_bytes out.new)) }
-{
-    let mut last = PLAIN;
-    let mut col = 0;
-    for run in runs {
-        let begun = push_gap(out, col, run.cell, last)?;
-        let next = look_of(level, run.role, run.link);
-        push_stretch(out, &text[run.start..run.end], begun, next)?;
-        last = next;
-        col = run.cell + run.count;
-    }
-    let rest = push_gap(out, col, width, last)?;
-    end_look(out, rest)
-}
-
-/// Adds the rows to a text as HTML, one below another.
-pub(crate) fn push_html_rows(
-    out: &mut String,
-    text: &str,
-    runs: &[Run<'_>],
-    widths: &[usize],
-    level: LevelInner,
-) -> Result<(), AllocError>
-    requires grid { IsGrid text.now runs.now widths.now }
-    ensures added { OnOk result (AddsHtml (rows_html level (grid_shown text.now runs.now widths.now))
-        (string_bytes out.old) (string_bytes out.new)) }
-{
-    let mut from = 0;
-    for row in 0..widths.len() {
-        if row > 0 {
-            out.push('\n')?;
-        }
-        let to = row_end(runs, from, row);
-        push_html_row(out, text, &runs[from..to], row, widths[row], level)?;
-        from = to;
-    }
-    Ok(())
 }

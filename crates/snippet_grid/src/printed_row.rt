@@ -1,14 +1,16 @@
 //! A row that is printed while it is written, for one that nothing changes any more: it needs no grid.
-ghost use Rattle.std.specs.Prelude.{◌≡◌, ◌<◌, [], None, OnOk, chars, string_bytes};
+ghost use Rattle.std.specs.Prelude.{◌≡◌, ℕ, List, [], IfOk, OnOk, chars, string_bytes};
 ghost use Rattle.std.specs.Option.{option_copied};
-ghost use Rattle.snippet_grid.specs.OpenRow.{AddsCells, IsPrinted, cells_alike};
-ghost use Rattle.snippet_grid.specs.SheetCodes.{style_at};
-ghost use Rattle.snippet_style.specs.Cell.{text_cells};
-ghost use Rattle.snippet_style.specs.Stylesheet.{style_of};
+ghost use Rattle.snippet_grid.specs.OpenRow.{AddsCells, IsBegun, IsPrinted, cells_alike};
+ghost use Rattle.snippet_grid.specs.Runs.{IsGrid, grid_shown};
+ghost use Rattle.snippet_grid.specs.Weaving.{WeavesRow, WeavesRows};
+ghost use Rattle.snippet_style.specs.Cell.{Cell};
 
-use crate::codes::{SheetCodes, place_of};
+use crate::codes::{SPACE, SheetCodes, WovenLook, place_of};
+use crate::row_runs::{feed, write_row};
 use crate::row_sink::RowSink;
-use crate::weave::{WovenLook, end_row, weave_gap, weave_stretch};
+use crate::runs::Run;
+use crate::weave::{end_row, weave_gap, weave_stretch};
 use snippet_style::{ElementStyle, LevelInner};
 use std::alloc::AllocError;
 
@@ -21,10 +23,8 @@ pub struct PrintedRow<'c, 'a> {
     codes: &'c SheetCodes,
     /// The level of its group.
     level: LevelInner,
-    /// The role of the last cell, whose style is open.
-    role: ElementStyle,
-    /// The link of the last cell, which is open, if there is one.
-    link: Option<&'a str>,
+    /// How the last cell looks: its style is open, and its link, if it has one.
+    last: WovenLook<'a>,
 }
 
 impl<'c, 'a> PrintedRow<'c, 'a> {
@@ -39,49 +39,12 @@ impl<'c, 'a> PrintedRow<'c, 'a> {
             text,
             codes,
             level,
-            role: ElementStyle::NoStyle,
-            link: None,
+            last: SPACE,
         }
-    }
-
-    /// How the last cell looks.
-    #[inline(always)]
-    fn last(&self) -> WovenLook<'a>
-        ensures place { style_at self.now.codes.now result.place
-            ≡ style_of self.now.codes.now self.now.level self.now.role }
-        ensures within { result.place < 11 }
-        ensures link { option_copied result.link ≡ option_copied self.now.link }
-    {
-        WovenLook {
-            place: place_of(self.level, self.role),
-            link: self.link,
-        }
-    }
-
-    /// Adds a text in a role to the row, whose last cell links to nothing.
-    #[inline(always)]
-    fn add_unlinked(&mut self, word: &str, role: ElementStyle) -> Result<(), AllocError>
-        requires unlinked { self.old.link ≡ None }
-        ensures added { OnOk result (AddsCells self.old self.new (text_cells role (chars word.now))) }
-    {
-        if word.is_empty() {
-            return Ok(());
-        }
-        let last = WovenLook {
-            place: place_of(self.level, self.role),
-            link: None,
-        };
-        let next = WovenLook {
-            place: place_of(self.level, role),
-            link: None,
-        };
-        weave_stretch(&mut self.text, word, self.codes, last, next)?;
-        self.role = role;
-        Ok(())
     }
 
     /// Adds a text in a role to the row, which links to an address, if there is one.
-    #[inline(never)]
+    #[inline(always)]
     fn add_stretch(
         &mut self,
         word: &str,
@@ -94,16 +57,54 @@ impl<'c, 'a> PrintedRow<'c, 'a> {
         if word.is_empty() {
             return Ok(());
         }
-        let last = self.last();
         let next = WovenLook {
             place: place_of(self.level, role),
             link,
         };
-        weave_stretch(&mut self.text, word, self.codes, last, next)?;
-        self.role = role;
-        self.link = link;
+        weave_stretch(&mut self.text, word, self.codes, self.last, next)?;
+        self.last = next;
         Ok(())
     }
+
+    /// Ends the row, and begins another one, whose line feed is to come.
+    #[inline(always)]
+    fn close(&mut self) -> Result<(), AllocError>
+        ensures begun { OnOk result (IsBegun self.old.codes.now self.old.level self.new) }
+        ensures closed { OnOk result ((cells : List Cell) (old : List ℕ) → IsPrinted cells old self.old
+            → WeavesRow self.old.codes.now self.old.level cells old (string_bytes self.new.text)) }
+    {
+        end_row(&mut self.text, self.codes, self.last)?;
+        self.last = SPACE;
+        Ok(())
+    }
+}
+
+/// Adds the rows to a text, one below another.
+pub(crate) fn print_rows(
+    before: String,
+    text: &str,
+    runs: &[Run<'_>],
+    widths: &[usize],
+    level: LevelInner,
+    codes: &SheetCodes,
+) -> Result<String, AllocError>
+    requires grid { IsGrid text.now runs.now widths.now }
+    ensures text { IfOk result (λ out. WeavesRows codes.now level (grid_shown text.now runs.now widths.now)
+        (string_bytes before) (string_bytes out)) }
+{
+    let mut line = PrintedRow {
+        text: before,
+        codes,
+        level,
+        last: SPACE,
+    };
+    let mut from = 0;
+    for row in 0..widths.len() {
+        feed(&mut line.text, row)?;
+        from = write_row(&mut line, text, runs, widths, from, row)?;
+        line.close()?;
+    }
+    Ok(line.text)
 }
 
 impl<'c, 'a> RowSink<'a> for PrintedRow<'c, 'a> {
@@ -123,19 +124,14 @@ impl<'c, 'a> RowSink<'a> for PrintedRow<'c, 'a> {
         if count == 0 {
             return Ok(());
         }
-        let last = self.last();
-        weave_gap(&mut self.text, count, self.codes, last)?;
-        self.role = ElementStyle::NoStyle;
-        self.link = None;
+        weave_gap(&mut self.text, count, self.codes, self.last)?;
+        self.last = SPACE;
         Ok(())
     }
 
     #[inline(always)]
     fn add_word(&mut self, word: &str, role: ElementStyle) -> Result<(), AllocError> {
-        if self.link.is_some() {
-            return self.add_stretch(word, role, None);
-        }
-        self.add_unlinked(word, role)
+        self.add_stretch(word, role, None)
     }
 
     #[inline(always)]
@@ -145,9 +141,8 @@ impl<'c, 'a> RowSink<'a> for PrintedRow<'c, 'a> {
 
     #[inline(always)]
     fn end(self) -> Result<String, AllocError> {
-        let last = self.last();
-        let mut text = self.text;
-        end_row(&mut text, self.codes, last)?;
-        Ok(text)
+        let mut row = self;
+        row.close()?;
+        Ok(row.text)
     }
 }

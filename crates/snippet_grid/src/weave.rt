@@ -6,128 +6,22 @@
 //! ```text
 //! a cell  | link ends | reset | opening | link begins |  the next cell
 //! ```
-ghost use Rattle.std.specs.Prelude.{◌≡◌, ◌≢◌, ◌<◌, ◌≤◌, ◌++◌, ℕ, List, [], ◌∷◌, length, replicate, None, Some, OnOk};
+ghost use Rattle.std.specs.Prelude.{◌≡◌, ◌≢◌, ◌<◌, ◌++◌, ℕ, List, [], ◌∷◌, length, replicate, None, Some, OnOk};
 ghost use Rattle.std.specs.Prelude.{string_bytes};
 ghost use Rattle.std.specs.Option.{option_copied};
 ghost use Rattle.std.specs.Str.{chars};
-ghost use Rattle.std.specs.List.{AllPairs, flat_map, slice_index_or};
+ghost use Rattle.std.specs.List.{flat_map};
 ghost use Rattle.snippet_grid.specs.SheetCodes.{style_at};
-ghost use Rattle.snippet_grid.specs.Runs.{IsGrid, IsRow, EndsBy, Precedes, cells_to, grid_shown};
-ghost use Rattle.snippet_grid.specs.declared.runs.Run.{Run};
 ghost use Rattle.snippet_grid.specs.OpenRow.{Goes};
 ghost use Rattle.snippet_grid.specs.Stretch.{PrintsStretch};
 ghost use Rattle.snippet_grid.specs.Woven.{Opening, Reset, LinkTo, LinkEnd, piece_text};
-ghost use Rattle.snippet_grid.specs.Weaving.{WeavesRow, WeavesRows};
+ghost use Rattle.snippet_grid.specs.Weaving.{WeavesRow};
 ghost use Rattle.snippet_style.specs.Cell.{Cell};
 ghost use Rattle.snippet_style.specs.declared.role.LevelInner.{LevelInner};
 
-use crate::codes::{NONE, SheetCodes, place_of};
-use crate::runs::Run;
+use crate::codes::{NONE, SheetCodes, WovenLook};
 use crate::spaces::push_spaces;
-use snippet_style::LevelInner;
 use std::alloc::AllocError;
-
-/// How a cell looks: the place of its style in the sheet, and where its link leads.
-#[derive(Clone, Copy)]
-pub(crate) struct WovenLook<'a> {
-    pub(crate) place: usize,
-    pub(crate) link: Option<&'a str>,
-}
-
-/// How a cell looks in which nothing stands.
-const SPACE: WovenLook<'static> = WovenLook {
-    place: NONE,
-    link: None,
-};
-
-/// The number of a row, and how many cells it has.
-#[derive(Clone, Copy)]
-struct WovenRow {
-    row: usize,
-    width: usize,
-}
-
-/// Adds the rows to a text, one below another.
-pub(crate) fn weave_rows(
-    out: &mut String,
-    text: &str,
-    runs: &[Run<'_>],
-    widths: &[usize],
-    level: LevelInner,
-    codes: &SheetCodes,
-) -> Result<(), AllocError>
-    requires grid { IsGrid text.now runs.now widths.now }
-    ensures text { OnOk result (WeavesRows codes.now level (grid_shown text.now runs.now widths.now)
-        (string_bytes out.old) (string_bytes out.new)) }
-{
-    let mut from = 0;
-    for row in 0..widths.len() {
-        if row > 0 {
-            out.push('\n')?;
-        }
-        let to = row_end(runs, from, row);
-        let line = WovenRow {
-            row,
-            width: widths[row],
-        };
-        weave_row(out, text, &runs[from..to], line, level, codes)?;
-        from = to;
-    }
-    Ok(())
-}
-
-/// Where the runs of a row end that begin here.
-#[inline(always)]
-pub(crate) fn row_end(runs: &[Run<'_>], from: usize, row: usize) -> usize
-    requires within { from ≤ length runs.now }
-    requires ordered { AllPairs (λ a b. Precedes a b) runs.now }
-    requires from_here { (k : ℕ) (d : Run) → from ≤ k → k < length runs.now → row ≤ (slice_index_or runs.now k d).row }
-    ensures bounds { from ≤ result × (result ≤ length runs.now) }
-    ensures inside { (k : ℕ) (d : Run) → from ≤ k → k < result → (slice_index_or runs.now k d).row ≡ row }
-    ensures below { (k : ℕ) (d : Run) → result ≤ k → k < length runs.now → row < (slice_index_or runs.now k d).row }
-{
-    let mut to = from;
-    while to < runs.len() && runs[to].row == row {
-        to += 1;
-    }
-    to
-}
-
-/// Adds a row to a text: what its runs hold, and unstyled spaces between them.
-fn weave_row(
-    out: &mut String,
-    text: &str,
-    runs: &[Run<'_>],
-    line: WovenRow,
-    level: LevelInner,
-    codes: &SheetCodes,
-) -> Result<(), AllocError>
-    requires runs { IsRow text.now line.row runs.now }
-    requires ends { EndsBy line.width runs.now }
-    ensures text { OnOk result (WeavesRow codes.now level (cells_to text.now runs.now line.row line.width)
-        (string_bytes out.old) (string_bytes out.new)) }
-{
-    let mut last = SPACE;
-    let mut col = 0;
-    for run in runs {
-        if col < run.cell {
-            weave_gap(out, run.cell - col, codes, last)?;
-            last = SPACE;
-        }
-        let next = WovenLook {
-            place: place_of(level, run.role),
-            link: run.link,
-        };
-        weave_stretch(out, &text[run.start..run.end], codes, last, next)?;
-        last = next;
-        col = run.cell + run.count;
-    }
-    if col < line.width {
-        weave_gap(out, line.width - col, codes, last)?;
-        last = SPACE;
-    }
-    end_row(out, codes, last)
-}
 
 /// Ends a row whose last cell looks like this.
 #[inline(always)]
@@ -136,7 +30,6 @@ pub(crate) fn end_row(
     codes: &SheetCodes,
     last: WovenLook<'_>,
 ) -> Result<(), AllocError>
-    requires within { last.place < 11 }
     ensures closed { OnOk result ((level : LevelInner) (cells : List Cell) (old : List ℕ)
         → Goes codes.now level (Some (style_at codes.now last.entry.place)) (option_copied last.entry.link) cells old
         (string_bytes out.old) → WeavesRow codes.now level cells old (string_bytes out.new)) }
@@ -155,7 +48,6 @@ pub(crate) fn weave_stretch(
     next: WovenLook<'_>,
 ) -> Result<(), AllocError>
     requires some { 0 < length (chars word.now) }
-    requires within { last.place < 11 × (next.place < 11) }
     ensures text { OnOk result (PrintsStretch (chars word.now) (style_at codes.now last.entry.place)
         (style_at codes.now next.entry.place) (option_copied last.entry.link) (option_copied next.entry.link)
         (string_bytes out.old) (string_bytes out.new)) }
@@ -186,7 +78,6 @@ pub(crate) fn weave_gap(
     codes: &SheetCodes,
     last: WovenLook<'_>,
 ) -> Result<(), AllocError>
-    requires within { last.place < 11 }
     ensures text { OnOk result (PrintsStretch (replicate count 32) (style_at codes.now last.entry.place) codes.now.none
         (option_copied last.entry.link) None (string_bytes out.old) (string_bytes out.new)) }
 {

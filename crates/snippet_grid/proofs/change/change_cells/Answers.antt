@@ -2,7 +2,7 @@ use Rattle.snippet_grid.proofs.Common.{◌≡◌, ◌∙◌, ◌+◌, ◌<◌, �
 use Rattle.snippet_grid.proofs.Common.{get_or, List, ℕ, All, on_ok_weaker, on_err_weaker, changed_by, RowAt, ShowsSpan, cells_changed, Cell, IsRun, IsPut}
 use Rattle.snippet_grid.proofs.Common.{FitIn, shown_cell, Run, ◌++◌, ◌-◌, ◌*◌, take, drop, IsRow, EndsBy, row_at, Stored}
 use Rattle.snippet_grid.proofs.ReplaceLemmas.{cells_changed_none}
-use Rattle.snippet_grid.proofs.HtmlRows.{put_span, put_stays, part_same}
+use Rattle.snippet_grid.proofs.ChangedRow.{put_span, put_stays, part_same}
 use Rattle.snippet_grid.proofs.ReplacedRow.{grid_span, IsExchanged, IsGrid-put, FitIn-put, grid_changed}
 use Rattle.snippet_grid.proofs.GridShown.{on_err_from, IsGrid-grown, grid_grown, width_shown, stored_grown}
 use Rattle.snippet_grid.proofs.RunLemmas.{on_either, stretch, BeginsWith-trans}

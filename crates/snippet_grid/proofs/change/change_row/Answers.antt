@@ -1,5 +1,5 @@
 use Rattle.snippet_grid.proofs.Common.{string_bytes, subst, sym, List, IsPartOfRow, IsRow, shown_cell, Run}
-use Rattle.snippet_grid.proofs.HtmlRows.{change_next}
+use Rattle.snippet_grid.proofs.ChangedRow.{change_next}
 use Rattle.snippet_grid.proofs.ShownLemmas.{All-IsRun-grown}
 use Rattle.snippet_grid.proofs.change.change_row.Goals as goal
 

@@ -1,6 +1,6 @@
 -- What stands before the cell `col` is changed.
 use Rattle.snippet_grid.proofs.Common.{◌-◌, string_bytes}
-use Rattle.snippet_grid.proofs.HtmlRows.{ChangeSoFar}
+use Rattle.snippet_grid.proofs.ChangedRow.{ChangeSoFar}
 use Rattle.snippet_grid.proofs.change.change_row.Given as goal
 
 abbrev pub invariant-loop-col : goal.invariant-loop-col

@@ -1,6 +1,6 @@
 use Rattle.snippet_grid.proofs.Common.{◌+◌, ◌-◌, ◌<◌, ◌≤◌, arith, get_or, inl, inr, length, string_bytes, subst, sym, List, ℕ, cases_lt}
 use Rattle.snippet_grid.proofs.Common.{get_or_default, IfOk-weaker, IsPart, Run}
-use Rattle.snippet_grid.proofs.HtmlRows.{part_held, part_free}
+use Rattle.snippet_grid.proofs.ChangedRow.{part_held, part_free}
 use Rattle.snippet_grid.proofs.RunLemmas.{none}
 use Rattle.snippet_grid.proofs.change.part_at.Goals as goal
 use Rattle.snippet_grid.proofs.change.part_at.Goals.{then-next-gt0+else-from-end, else-next-gt0}

@@ -2,11 +2,12 @@ use Rattle.snippet_grid.proofs.Common.{◌≡◌, ◌∙◌, [], List, ap, arith
 use Rattle.snippet_grid.proofs.Common.{style_at, Cell, cells_alike}
 use Rattle.std.specs.Str.{chars}
 use Rattle.snippet_grid.proofs.GridShown.{chars_some}
-use Rattle.snippet_grid.proofs.OpenRowLemmas.{adds_none, word_added}
+use Rattle.snippet_grid.proofs.OpenRowLemmas.{adds_none}
+use Rattle.snippet_grid.proofs.ReplaceLemmas.{stretch_printed}
 use Rattle.snippet_grid.proofs.printed_row.PrintedRow.add_stretch.Goals as goal
 
-pub weave_stretch-requires-clause-some : goal.weave_stretch-requires-clause-some
-weave_stretch-requires-clause-some c = chars_some c.args.word.now c.utf8.word (first_of (omega arith, search rules, grind arith))
+pub weave_stretch-requires : goal.weave_stretch-requires
+weave_stretch-requires c = record { some = chars_some c.args.word.now c.utf8.word (first_of (omega arith, search rules, grind arith)) }
 
 pub returns-then-is_empty : goal.returns-then-is_empty
 returns-then-is_empty c =
@@ -18,16 +19,17 @@ returns-then-is_empty c =
 
 pub returns : goal.returns
 returns c =
-    let sheet = c.args.self.now.codes.now in
+    let row = c.args.self.now in
+    let sheet = row.codes.now in
     record {
       added = record {
         sheet = refl;
         level = refl;
         printed = λ cells old printed. record {
-          goes = word_added sheet c.args.self.now.level c.args.self.now.role c.args.role (option_copied c.args.self.now.link) (option_copied c.args.link)
-              (option_copied c.last-last.result.link) cells old _ _ (chars c.args.word.now) (style_at sheet c.last-last.result.place)
-              (style_at sheet c.place_of.result) c.last-last.ensures.place (c.place_of.ensures.place sheet sheet.none) c.last-last.ensures.link
-              (chars_some c.args.word.now c.utf8.word (first_of (omega arith, search rules, grind arith))) c.in_ok-weave_stretch.ensures.text printed.goes;
+          goes = stretch_printed sheet row.level (style_at sheet row.last.place) (style_at sheet c.place_of.result) c.args.role
+              (option_copied row.last.link) (option_copied c.args.link) (chars c.args.word.now) cells old _ _
+              (chars_some c.args.word.now c.utf8.word (first_of (omega arith, search rules, grind arith))) (c.place_of.ensures.place sheet sheet.none)
+              c.in_ok-weave_stretch.ensures.text printed.goes;
         };
       };
     }

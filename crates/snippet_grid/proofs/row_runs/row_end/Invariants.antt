@@ -1,6 +1,6 @@
 -- The runs so far are of the row.
 use Rattle.snippet_grid.proofs.Common.{◌≡◌, ◌<◌, ◌≤◌, ◌-◌, ℕ, length, slice_index_or, Run}
-use Rattle.snippet_grid.proofs.weave.row_end.Given as goal
+use Rattle.snippet_grid.proofs.row_runs.row_end.Given as goal
 
 abbrev pub invariant-loop-to : goal.invariant-loop-to
 invariant-loop-to l =

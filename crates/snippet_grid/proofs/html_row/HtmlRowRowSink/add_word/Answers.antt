@@ -1,0 +1,8 @@
+use Rattle.snippet_grid.proofs.Common.{on_ok_weaker}
+use Rattle.snippet_grid.proofs.HtmlRows.{html_more}
+use Rattle.snippet_grid.proofs.html_row.HtmlRowRowSink.add_word.Goals as goal
+
+pub returns : goal.returns
+returns c = record {
+  added = on_ok_weaker c.add_stretch.result (λ added start cells adds. html_more start _ _ cells _ added adds) c.add_stretch.ensures.added;
+}
