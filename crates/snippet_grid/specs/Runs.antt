@@ -86,10 +86,6 @@ ShowsCopy old new out_old out_new runs from to at =
     (r c : ℕ) → shown_cell new out_new r c ≡ (if nat_le at c && nat_lt c (at + (to - from)) then shown_cell old runs r
     (from + (c - at)) else shown_cell old out_old r c)
 
--- nothing is shown from this cell on
-abbrev pub IsClearFrom : List ℕ → List Run → ℕ → Type 0
-IsClearFrom text runs at = (r c : ℕ) → at ≤ c → shown_cell text runs r c ≡ SPACE
-
 -- a run can be moved from one cell to another
 abbrev pub FitsMoved : ℕ → ℕ → Run → Type 0
 FitsMoved from at run = IsUsize (at + (run.cell + run.count - from))

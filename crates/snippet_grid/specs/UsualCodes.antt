@@ -8,15 +8,11 @@ use Rattle.snippet_grid.specs.declared.usual_codes.UsualCode.TheVariants.{Bold, 
 use Rattle.snippet_style.specs.Style.{colored, emboldened, is_plain_style, plain_style}
 use Rattle.snippet_style.specs.declared.style.Style.{Style}
 
--- the style that such a code opens
-abbrev pub usual_style : UsualCode → Style
-usual_style Bold = emboldened plain_style
-usual_style (Color c) = colored c
-usual_style (BoldColor c) = emboldened (colored c)
-
--- its bytes
+-- the bytes of such a code: it opens bold type, a colour, or both
 abbrev pub usual_bytes : UsualCode → List ℕ
-usual_bytes code = opening_bytes (usual_style code)
+usual_bytes Bold = opening_bytes (emboldened plain_style)
+usual_bytes (Color c) = opening_bytes (colored c)
+usual_bytes (BoldColor c) = opening_bytes (emboldened (colored c))
 
 -- what opens a style: nothing where it is plain, and else a code, which is the style's own where it is a usual one
 abbrev pub IsCodeOf : StyleCode → Style → Type 0
