@@ -1,15 +1,14 @@
 -- How wide the rows of titles and messages are.
-use Rattle.snippet_shown.proofs.Common.{◌≡◌, ℕ, zero, suc, ◌+◌, ◌-◌, ◌<◌, ◌≤◌, ◌==◌, ◌||◌, ◌&&◌, nat_le, Bool, true}
-use Rattle.snippet_shown.proofs.Common.{false, List, [], ◌∷◌, ◌++◌, All, length, map, replicate, refl, sym, ap, ◌∙◌, subst, arith, chars, cond}
-use Rattle.snippet_shown.proofs.Common.{if◌then◌else◌, list_any, onto_first, slice_split, false≢true, nat_tests, All-append, All-cons, All-head}
-use Rattle.snippet_shown.proofs.Common.{All-map, All-nil, All-replicate, All-tail, All-weaker, length-slice_split, slice_split-cons_no, slice_split-cons_yes}
-use Rattle.snippet_shown.proofs.Common.{sum_by-append, sum_by-cons, row_text-text_cells, separator_cell, row_text, each_fails, Heading, SPACE, text_cells}
-use Rattle.snippet_shown.proofs.Common.{note_sign_of, DecorStyle, Ascii, Unicode, LineNumber, width_of-norm, unicode_width, has_control_picture}
+use Rattle.snippet_shown.proofs.Common.{◌≡◌, ℕ, zero, suc, ◌+◌, ◌-◌, ◌<◌, ◌≤◌, ◌==◌, ◌||◌, ◌&&◌, nat_le, Bool, true, false, List, [], ◌∷◌, ◌++◌, All, length}
+use Rattle.snippet_shown.proofs.Common.{map, replicate, refl, sym, ap, ◌∙◌, subst, arith, chars, cond, if◌then◌else◌, list_any, onto_first, slice_split}
+use Rattle.snippet_shown.proofs.Common.{nat_tests, All-append, All-cons, All-head, All-map, All-nil, All-replicate, All-tail, All-weaker, length-slice_split}
+use Rattle.snippet_shown.proofs.Common.{slice_split-cons_no, slice_split-cons_yes, sum_by-append, sum_by-cons, row_text-text_cells, separator_cell, row_text}
+use Rattle.snippet_shown.proofs.Common.{each_fails, Heading, SPACE, note_sign_of, DecorStyle, Ascii, Unicode, width_of-norm, unicode_width, has_control_picture}
 use Rattle.snippet_shown.proofs.Common.{is_bidirectional_control, is_listed, norm, shown, char_width, width_of, lines_at-after, row_text-append}
 use Rattle.snippet_shown.proofs.Common.{row_text-spaces, heading_label_text, heading_lines, indent_cells, label_width, note_bar_of, sign_cells, heading_texts}
-use Rattle.snippet_shown.proofs.Common.{texts_below, MessageContext, Message, Title, IsUnlisted, indent-all, label-all, Letter, first_place, is_code, is_feed}
-use Rattle.snippet_shown.proofs.Common.{letter, letter_width, letters, letters_of, place_after, AreRowsWithin, AreWithin, columns_of, lines_in, Place}
-use Rattle.snippet_shown.proofs.Common.{Untrusted, Outside, Escape, Bracket, Command, CommandEscape}
+use Rattle.snippet_shown.proofs.Common.{texts_below, MessageContext, Message, Title, IsUnlisted, indent-all, label-all, Letter, first_place, is_code, letter}
+use Rattle.snippet_shown.proofs.Common.{letter_width, letters, letters_of, place_after, AreRowsWithin, AreWithin, columns_of, lines_in, Place, Untrusted}
+use Rattle.snippet_shown.proofs.Common.{Outside, Escape, Bracket, Command, CommandEscape}
 
 -- ---- what a row begins with
 
@@ -35,45 +34,15 @@ bar-one Unicode false = refl
 
 sign-text : (place : MessageContext) → row_text (sign_cells (Message place))
     ≡ replicate (separator_cell place.layout) 32 ++ note_sign_of place.layout.decor place.followed
-sign-text place =
-    let gutter = separator_cell place.layout in
-    let sign = note_sign_of place.layout.decor place.followed in
-    row_text-append (replicate gutter SPACE) (text_cells LineNumber sign) ∙ ap (λ t. t ++ row_text (text_cells LineNumber sign)) (row_text-spaces gutter)
-    ∙ ap (λ t. replicate gutter 32 ++ t) (row_text-text_cells LineNumber sign)
+sign-text place = grind (arith, row_text-append, row_text-spaces, row_text-text_cells)
 
 -- the sign of a message takes three columns more than the gutter
 sign-width : (place : MessageContext) → width_of (row_text (sign_cells (Message place))) ≡ place.layout.gutter + 3
-sign-width place =
-    let gutter = separator_cell place.layout in
-    let sign = note_sign_of place.layout.decor place.followed in
-    let text = sign-text place in
-    omega (
-      arith,
-      ap width_of text,
-      sum_by-append char_width (replicate gutter 32) sign,
-      width-spaces gutter,
-      sign-two place.layout.decor place.followed,
-    )
+sign-width place = grind (arith, sign-text, sum_by-append, width-spaces, sign-two)
 
 -- and so does what stands below it, with the label
 indent-width : (place : MessageContext) (width : ℕ) → width_of (row_text (indent_cells (Message place) width)) ≡ place.layout.gutter + 3 + width
-indent-width place width =
-    let gutter = separator_cell place.layout in
-    let bar = note_bar_of place.layout.decor place.followed in
-    let text : row_text (indent_cells (Message place) width) ≡ replicate gutter 32 ++ bar.ch ∷ replicate (width + 1) 32 =
-    row_text-append (replicate gutter SPACE) (bar ∷ replicate (width + 1) SPACE)
-    ∙ ap (λ t. t ++ row_text (bar ∷ replicate (width + 1) SPACE)) (row_text-spaces gutter)
-    ∙ ap (λ t. replicate gutter 32 ++ bar.ch ∷ t) (row_text-spaces (width + 1)) in
-    omega (
-      arith,
-      ap width_of text,
-      sum_by-append char_width (replicate gutter 32) (bar.ch ∷ replicate (width + 1) 32),
-      sum_by-cons char_width bar.ch (replicate (width + 1) 32),
-      sum_by-cons char_width bar.ch [],
-      width-spaces gutter,
-      width-spaces (width + 1),
-      bar-one place.layout.decor place.followed,
-    )
+indent-width place width = grind (arith, row_text-append, row_text-spaces, sum_by-append, sum_by-cons, width-spaces, bar-one)
 
 -- ---- lines as they are drawn
 
@@ -107,17 +76,12 @@ lines_of-norm_onto : (c : ℕ) (cs rest : List ℕ) (parts : List (List ℕ)) �
     → lines_of (shown c ++ rest) ≡ map norm (lines_of (c ∷ cs))
 unfolding norm
 lines_of-norm_onto c cs rest [] other is below = absurd (omega (arith, length-slice_split (λ d. d == 10) cs, ap (λ (ps : List (List ℕ)). length ps) is))
-lines_of-norm_onto c cs rest (part ∷ parts) other is below =
-    lines_at-after (shown c) rest (norm part) (map norm parts) (shown-other c other) below
-    ∙ ap (map norm) (sym (slice_split-cons_no (λ d. d == 10) c cs other ∙ ap (onto_first c) is))
+lines_of-norm_onto c cs rest (part ∷ parts) other is below = grind (arith, lines_at-after, shown-other, slice_split-cons_no)
 
 lines_of-norm_step : (c : ℕ) (cs : List ℕ) (feed : Bool) → (c == 10) ≡ feed → lines_of (norm cs) ≡ map norm (lines_of cs)
     → lines_of (norm (c ∷ cs)) ≡ map norm (lines_of (c ∷ cs))
 unfolding norm
-lines_of-norm_step c cs true is below =
-    let ten : c ≡ 10 = grind (arith, nat_tests, is) in
-    ap (λ d. lines_of (norm (d ∷ cs))) ten ∙ slice_split-cons_yes (λ d. d == 10) 10 (norm cs) refl ∙ ap (λ ls. [] ∷ ls) below
-    ∙ ap (map norm) (sym (slice_split-cons_yes (λ d. d == 10) c cs is))
+lines_of-norm_step c cs true is below = grind (arith, slice_split-cons_yes)
 lines_of-norm_step c cs false is below = lines_of-norm_onto c cs (norm cs) (lines_of cs) is refl below
 
 lines-norm : (cs : List ℕ) → lines_of (norm cs) ≡ map norm (lines_of cs)
@@ -182,16 +146,8 @@ onto-lines place c (part ∷ parts) some =
 lines-one : (place : Place) (c : ℕ) (cs : List ℕ) (feed : Bool) → (c == 10) ≡ feed
     → lines_in (letters (place_after place c) cs) ≡ letter_lines (place_after place c) (lines_of cs)
     → lines_in (letters place (c ∷ cs)) ≡ letter_lines place (lines_of (c ∷ cs))
-lines-one place c cs true is rest =
-    let ten : c ≡ 10 = grind (arith, nat_tests, is) in
-    let begins : place_after place c ≡ line_place place = ap (place_after place) ten ∙ place-feed place in
-    slice_split-cons_yes is_feed (letter place c) (letters (place_after place c) cs) is ∙ ap (λ (ls : List (List Letter)). [] ∷ ls) rest
-    ∙ ap (λ (p : Place). [] ∷ letter_lines p (lines_of cs)) begins ∙ ap (λ (ls : List (List Letter)). [] ∷ ls) (letter_lines-map place (lines_of cs))
-    ∙ ap (letter_lines place) (sym (slice_split-cons_yes (λ d. d == 10) c cs is))
-lines-one place c cs false is rest =
-    slice_split-cons_no is_feed (letter place c) (letters (place_after place c) cs) is ∙ ap (onto_first (letter place c)) rest
-    ∙ onto-lines place c (lines_of cs) (omega (arith, length-slice_split (λ d. d == 10) cs))
-    ∙ ap (letter_lines place) (sym (slice_split-cons_no (λ d. d == 10) c cs is))
+lines-one place c cs true is rest = grind (arith, place-feed, slice_split-cons_yes, letter_lines-map)
+lines-one place c cs false is rest = grind (arith, slice_split-cons_no, onto-lines, length-slice_split)
 
 lines-letters : (cs : List ℕ) (place : Place) → lines_in (letters place cs) ≡ letter_lines place (lines_of cs)
 lines-letters [] place = refl
@@ -244,9 +200,7 @@ IsQuiet c = (c == 27) ≡ false
 
 quiet_either : (c : ℕ) (escape : Bool) → (c == 27) ≡ escape → IsUnlisted c → IsQuiet c
 quiet_either c false is free = is
-quiet_either c true is free =
-    let same : c ≡ 27 = grind (arith, nat_tests, is) in
-    absurd (false≢true (sym free ∙ ap is_listed same))
+quiet_either c true is free = grind arith
 
 quiet-free : (c : ℕ) → IsUnlisted c → IsQuiet c
 quiet-free c free = quiet_either c (c == 27) refl free

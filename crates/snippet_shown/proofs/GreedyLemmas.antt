@@ -1,9 +1,9 @@
 -- Where the rows of a text that is wrapped end.
-use Rattle.snippet_shown.proofs.Common.{◌≡◌, ℕ, ◌+◌, ◌-◌, ◌<◌, ◌≤◌, nat_le, true, false, List, [], ◌∷◌, ◌++◌, Option, None}
-use Rattle.snippet_shown.proofs.Common.{Some, filter, inl, inr, refl, sym, ap, ◌∙◌, subst, arith, drop, get_or, is_some, unwrap_or, false≢true}
-use Rattle.snippet_shown.proofs.Common.{nat_tests, All-cons, All-nil, sum_by-cons, char_width, char_width-bound, Letter, is_blank, is_feed, letter_width}
-use Rattle.snippet_shown.proofs.Common.{at_blank, columns_ahead, ended, feed, in_word, inside_after, kept, next_width, row_start, rows, shown_at, IsRowEnd}
-use Rattle.snippet_shown.proofs.Common.{columns_from, columns_of, is_gap, is_inside, Stage, Indentation, Gap, Word, Step}
+use Rattle.snippet_shown.proofs.Common.{◌≡◌, ℕ, ◌+◌, ◌-◌, ◌<◌, ◌≤◌, nat_le, true, false, List, [], ◌∷◌, ◌++◌, Option, None, Some, filter, inl, inr, refl, sym}
+use Rattle.snippet_shown.proofs.Common.{ap, ◌∙◌, subst, arith, drop, get_or, is_some, unwrap_or, false≢true, nat_tests, All-cons, All-nil, sum_by-cons}
+use Rattle.snippet_shown.proofs.Common.{char_width, char_width-bound, Letter, is_blank, is_feed, letter_width, at_blank, columns_ahead, ended, feed, in_word}
+use Rattle.snippet_shown.proofs.Common.{inside_after, kept, next_width, row_start, rows, shown_at, IsRowEnd, columns_from, columns_of, is_gap, is_inside, Stage}
+use Rattle.snippet_shown.proofs.Common.{Indentation, Gap, Word, Step}
 use Rattle.snippet_shown.proofs.LawLemmas.{before-blank, before-code, before-word, code-width, columns_left, either-step, gap_of_blank, keep-own}
 use Rattle.snippet_shown.proofs.LawLemmas.{left-same, next-own, next-same, next-word-columns, next_columns, next_within, own-width, row_at}
 use Rattle.snippet_shown.proofs.PlaceLemmas.{step-cases}
@@ -54,20 +54,10 @@ module _ (room : ℕ) where
   }
 
   more-row : (n : ℕ) (x : Letter) (ls before : List Letter) → feed ≡ x → IsRowEnd room 0 ls before → IsRowEnd room n ls (x ∷ before)
-  more-row n x ls before same end =
-      subst (λ (y : Letter). IsRowEnd room n ls (y ∷ before)) same (record {
-        given = end.given;
-        gap = end.gap;
-        rest = end.rest;
-        is = end.is;
-        same = end.same;
-        ends = end.ends;
-      })
+  more-row n x ls before same end = grind arith
 
   keep-ends : (n : ℕ) (l : Letter) (ls xs : List Letter) → is_feed l ≡ false → AllEnd (n + letter_width l) ls xs → AllEnd n (l ∷ ls) (l ∷ xs)
-  keep-ends n l ls xs is rest [] after same =
-      let parts = first-of l xs feed after same in
-      absurd (false≢true (sym is ∙ ap is_feed parts.0))
+  keep-ends n l ls xs is rest [] after same = grind (arith, first-of)
   keep-ends n l ls xs is rest (x ∷ before) after same =
       let parts = first-of l xs x (before ++ feed ∷ after) same in
       more-own n (n + letter_width l) l x ls before parts.0 (from-own n l before is) (rest before after parts.1)

@@ -1,12 +1,10 @@
 -- Which lines a snippet keeps with the lines around those that it kept, and that what stands on its lines stays.
-use Rattle.snippet_shown.proofs.Common.{◌≡◌, ◌∙◌, ℕ, ◌+◌, ◌-◌, ◌<◌, ◌≤◌, Bool, true, false, ◌&&◌, ◌||◌, eqb, leb, cond}
-use Rattle.snippet_shown.proofs.Common.{min, List, [], ◌∷◌, ◌++◌, map, length, inl, inr, arith, zero, suc, refl, sym, ap, ap₂, subst, append-nil}
-use Rattle.snippet_shown.proofs.Common.{and_parts, cases_lt, eqb-true, false≢true, le-leb, leb-true, lt-leb, or_cases, or_left, or_right, All-head, All-tail}
-use Rattle.snippet_shown.proofs.Common.{filter-append, list_any-append, ⊤, cow_str_bytes, list_any, range_with_len, ordered_by, Range, Source, source_lines}
-use Rattle.snippet_shown.proofs.Common.{SourceSeen, Annotation, Snippet, among-kept, kept-within, LineAnnotation, is_long, long_entry, long_parts, long_place}
-use Rattle.snippet_shown.proofs.Common.{made_parts, single_part, has_bar, keeps, kept_lines, touches, first_line, last_line, numbered_source, context_spans}
-use Rattle.snippet_shown.proofs.Common.{is_line_near, lines_around, reach_after, span_around, spans_around, visible_mark, IsSnippetWithContext}
-use Rattle.snippet_shown.proofs.Common.{KeepsLinesAround, is_short, stands_before}
+use Rattle.snippet_shown.proofs.Common.{◌≡◌, ◌∙◌, ℕ, ◌+◌, ◌-◌, ◌<◌, ◌≤◌, Bool, true, false, ◌&&◌, ◌||◌, eqb, leb, cond, min, List, [], ◌∷◌, ◌++◌, map, length}
+use Rattle.snippet_shown.proofs.Common.{inl, inr, arith, zero, suc, refl, sym, ap, ap₂, subst, append-nil, and_parts, cases_lt, eqb-true, false≢true, le-leb}
+use Rattle.snippet_shown.proofs.Common.{leb-true, or_cases, or_left, or_right, All-head, All-tail, filter-append, list_any-append, ⊤, cow_str_bytes, list_any}
+use Rattle.snippet_shown.proofs.Common.{range_with_len, Range, Source, source_lines, SourceSeen, Annotation, Snippet, among-kept, kept-within, made_parts}
+use Rattle.snippet_shown.proofs.Common.{has_bar, keeps, kept_lines, touches, first_line, last_line, numbered_source, context_spans, is_line_near, lines_around}
+use Rattle.snippet_shown.proofs.Common.{reach_after, span_around, spans_around, visible_mark, IsSnippetWithContext, KeepsLinesAround}
 use Rattle.std.specs.List.{All, filter}
 use Rattle.snippet_shown.proofs.SpanLemmas.{around-first, around-last}
 
@@ -23,9 +21,7 @@ any-later p q later (k ∷ ks) is = either-later (p k) (q k) (list_any p ks) (li
 -- two tests that agree on the lines of a range keep the same of them
 range-same : (p q : ℕ → Bool) (a n : ℕ) → ((k : ℕ) → a ≤ k → k < a + n → p k ≡ q k) → filter p (range_with_len a n) ≡ filter q (range_with_len a n)
 range-same p q a zero same = refl
-range-same p q a (suc n) same =
-    ap (λ b. cond b (a ∷ filter p (range_with_len (a + 1) n)) (filter p (range_with_len (a + 1) n))) (same a (omega arith) (omega arith))
-    ∙ ap (λ ks. cond (q a) (a ∷ ks) ks) (range-same p q (a + 1) n (λ k from to. same k (omega arith) (omega arith)))
+range-same p q a (suc n) same = grind (arith, range-same p q (a + 1) n (λ k from to. same k (omega arith) (omega arith)))
 
 -- ---- which lines the span around a line keeps
 
@@ -38,19 +34,7 @@ keeps-seen false f l b = refl
 
 -- the lines from `before` lines before one to `after` lines after it are those near it
 near-between : (before after n j k : ℕ) → j < n → k < n → (leb (j - before) k && leb k (min (j + after) (n - 1))) ≡ is_line_near before after k j
-near-between before after n j k inside within = ap₂ (λ a b. a && b) first last
-  where
-    first : leb (j - before) k ≡ leb j (k + before)
-    first = elim (cases_lt (k + before) j) [
-      | inl far ↦ lt-leb (j - before) k (omega arith) ∙ sym (lt-leb j (k + before) far)
-      | inr near ↦ le-leb (j - before) k (omega arith) ∙ sym (le-leb j (k + before) near)
-    ]
-
-    last : leb k (min (j + after) (n - 1)) ≡ leb k (j + after)
-    last = elim (cases_lt (j + after) k) [
-      | inl far ↦ lt-leb k (min (j + after) (n - 1)) (omega arith) ∙ sym (lt-leb k (j + after) far)
-      | inr near ↦ le-leb k (min (j + after) (n - 1)) (omega arith) ∙ sym (le-leb k (j + after) near)
-    ]
+near-between before after n j k inside within = grind (arith, cases_lt)
 
 keeps-near : (before after : ℕ) (source : List ℕ) (j k : ℕ) → j < length (source_lines source) → k < length (source_lines source)
     → keeps source k (visible_mark (span_around before after source j)) ≡ is_line_near before after k j
@@ -74,13 +58,7 @@ after-sooner a b (j ∷ js) le after = (omega (arith, after.0), after.1)
 -- those of a range that pass a test are in order
 filtered-after : (p : ℕ → Bool) (a n : ℕ) → IsAfter a (filter p (range_with_len a n))
 filtered-after p a zero = tt
-filtered-after p a (suc n) = by (p a) (after-sooner a (a + 1) (filter p (range_with_len (a + 1) n)) (omega arith) (filtered-after p (a + 1) n))
-    (filtered-after p (a + 1) n)
-  where
-    by : (passes : Bool) → IsAfter a (filter p (range_with_len (a + 1) n)) → IsAfter (a + 1) (filter p (range_with_len (a + 1) n))
-        → IsAfter a (cond passes (a ∷ filter p (range_with_len (a + 1) n)) (filter p (range_with_len (a + 1) n)))
-    by true rest later = (omega arith, after-sooner a (a + 1) (filter p (range_with_len (a + 1) n)) (omega arith) later)
-    by false rest later = rest
+filtered-after p a (suc n) = grind (arith, after-sooner, filtered-after p (a + 1) n)
 
 -- ---- near
 
@@ -187,16 +165,7 @@ module _ (before after : ℕ) (source : List ℕ) (marks : List Annotation) wher
 
   -- the spans around those that are kept keep those near one
   added-keep : (k : ℕ) → k < length (source_lines source) → list_any (keeps source k) added ≡ list_any (is_line_near before after k) lines
-  added-keep k within =
-      both-same (list_any (keeps source k) added) (list_any (is_line_near before after k) lines)
-      (spanned-near before after source k 0 lines all-lines within)
-      (near-spanned before after source k 0 lines all-lines
-      (filtered-after (λ j. list_any (keeps source j) marks) 0 (length (source_lines source))) (omega arith) within)
-    where
-      both-same : (a b : Bool) → (a ≡ true → b ≡ true) → (b ≡ true → a ≡ true) → a ≡ b
-      both-same true b on back = sym (on refl)
-      both-same false true on back = back refl
-      both-same false false on back = refl
+  added-keep k within = grind (arith, spanned-near, all-lines, near-spanned, filtered-after)
 
   -- a line that is kept is near itself
   kept-near : (k : ℕ) → k < length (source_lines source) → list_any (keeps source k) marks ≡ true → list_any (is_line_near before after k) lines ≡ true
@@ -235,9 +204,7 @@ kept-around before after false source marks = unfolded-around before after sourc
 filter-visible_mark : (test : Annotation → Bool) → ((span : Range ℕ) → test (visible_mark span) ≡ false) → (spans : List (Range ℕ))
     → filter test (map visible_mark spans) ≡ []
 filter-visible_mark test none [] = refl
-filter-visible_mark test none (span ∷ spans) =
-    ap (λ b. cond b (visible_mark span ∷ filter test (map visible_mark spans)) (filter test (map visible_mark spans))) (none span)
-    ∙ filter-visible_mark test none spans
+filter-visible_mark test none (span ∷ spans) = grind (arith, filter-visible_mark test none spans)
 
 still-marked : (test : Annotation → Bool) → ((span : Range ℕ) → test (visible_mark span) ≡ false) → (marks : List Annotation) (spans : List (Range ℕ))
     → filter test (marks ++ map visible_mark spans) ≡ filter test marks
@@ -247,12 +214,7 @@ still-marked test none marks spans =
 
 -- annotations that mark nothing have no entries
 made-same : (s : Source) (marks : List Annotation) (spans : List (Range ℕ)) → made_parts s (marks ++ map visible_mark spans) ≡ made_parts s marks
-made-same s marks spans =
-    ap₂ (λ (short long : List Annotation). map (single_part s) short ++ long_of long) (still-marked (is_short s.text) (λ span. refl) marks spans)
-    (still-marked (is_long s.text) (λ span. refl) marks spans)
-  where
-    long_of : List Annotation → List LineAnnotation
-    long_of long = let es : List LineAnnotation = ordered_by stands_before (map (long_entry s) long) in long_parts s (map long_place es) [] es
+made-same s marks spans = grind (arith, still-marked)
 
 -- ---- of a snippet
 

@@ -1,10 +1,9 @@
 -- What follows of a text that is wrapped.
-use Rattle.snippet_shown.proofs.Common.{◌≡◌, ℕ, ◌+◌, ◌-◌, ◌≤◌, ◌||◌, ◌&&◌, nat_le, Bool, true, false, List, [], ◌∷◌}
-use Rattle.snippet_shown.proofs.Common.{◌++◌, Option, None, Some, All, filter, ◌⊎◌, inl, inr, refl, sym, ap, ◌∙◌, arith, if◌then◌else◌}
-use Rattle.snippet_shown.proofs.Common.{unwrap_or, Contains, false≢true, nat_tests, All-cons, All-contains_itself, All-head, All-nil, All-tail, All-weaker}
-use Rattle.snippet_shown.proofs.Common.{filter-append, char_width, char_width-bound, Letter, is_before_word, is_blank, is_feed, letter_width, at_blank}
-use Rattle.snippet_shown.proofs.Common.{columns_ahead, ended, ends_ahead, feed, in_word, inside_after, kept, next_width, row_start, rows, lines_fit, shown_at}
-use Rattle.snippet_shown.proofs.Common.{shown_by, step, IsAmong, is_gap, is_inside, Row, Stage, Indentation, Gap, Word, Step}
+use Rattle.snippet_shown.proofs.Common.{◌≡◌, ℕ, ◌+◌, ◌-◌, ◌≤◌, ◌||◌, ◌&&◌, Bool, true, false, List, [], ◌∷◌, ◌++◌, Option, None, Some, All, filter, ◌⊎◌, inl}
+use Rattle.snippet_shown.proofs.Common.{inr, refl, sym, ap, ◌∙◌, arith, if◌then◌else◌, unwrap_or, Contains, false≢true, All-cons, All-contains_itself, All-head}
+use Rattle.snippet_shown.proofs.Common.{All-nil, All-tail, All-weaker, filter-append, char_width, char_width-bound, Letter, is_before_word, is_blank, is_feed}
+use Rattle.snippet_shown.proofs.Common.{letter_width, at_blank, columns_ahead, ended, ends_ahead, feed, in_word, next_width, row_start, rows, lines_fit}
+use Rattle.snippet_shown.proofs.Common.{shown_at, shown_by, step, IsAmong, is_gap, is_inside, Row, Stage, Indentation, Gap, Word, Step}
 use Rattle.snippet_shown.proofs.PlaceLemmas.{step-cases}
 use Rattle.snippet_shown.proofs.StepLemmas.{fit-rest, lines_fit-feed, lines_fit-next}
 
@@ -20,17 +19,13 @@ keeps_either false a b one other = other
 in_word-keeps : (room : ℕ) (stage : Stage) (left w : ℕ) → (in_word room stage left w).keeps ≡ true
 in_word-keeps room Indentation left w = refl
 in_word-keeps room Gap left w = refl
-in_word-keeps room Word left w =
-    keeps_either (nat_le w left) (kept (record { stage = Word; left = left - w }))
-    (record { breaks = true; keeps = true; row = record { stage = Word; left = room - w } }) refl refl
+in_word-keeps room Word left w = grind (arith, keeps_either)
 
 abbrev IsKept : Letter → Step → Type 0
 IsKept l s = (s.keeps ≡ true) ⊎ (is_gap l ≡ true)
 
 step-kept : (room : ℕ) (row : Row) (l : Letter) (ls : List Letter) → IsKept l (step room row l ls)
-step-kept room row l ls =
-    step-cases (IsKept l) room row l ls (λ f. inl refl) (λ f code. inl refl) (λ f code blank. inr (gap_of_blank l blank))
-    (λ f code word. inl (in_word-keeps room row.stage row.left (char_width l.char)))
+step-kept room row l ls = grind (arith, step-cases, gap_of_blank, in_word-keeps)
 
 pub keep-own : (l : Letter) (xs ys : List Letter) → filter is_inside xs ≡ filter is_inside ys → filter is_inside (l ∷ xs) ≡ filter is_inside (l ∷ ys)
 keep-own l xs ys rest =
@@ -46,9 +41,7 @@ keep-one true false l xs ys (inr gap) rest = rw gap rest
 
 pub rows-kept : (room : ℕ) (ls : List Letter) (row : Row) → filter is_inside (rows room row ls) ≡ filter is_inside ls
 rows-kept room [] row = refl
-rows-kept room (l ∷ ls) row =
-    let s = step room row l ls in
-    keep-one s.breaks s.keeps l (rows room s.row ls) ls (step-kept room row l ls) (rows-kept room ls s.row)
+rows-kept room (l ∷ ls) row = grind (arith, keep-one, step-kept, rows-kept room ls (step room row l ls).row)
 
 -- ---- no other character
 
@@ -61,9 +54,7 @@ module _ (P : Letter → Type 0) (feeds : P feed) where
 
   pub rows-all : (room : ℕ) (ls : List Letter) (row : Row) → All P ls → All P (rows room row ls)
   rows-all room [] row all = All-nil P
-  rows-all room (l ∷ ls) row all =
-      let s = step room row l ls in
-      all_one s.breaks s.keeps l (rows room s.row ls) (All-head P l ls all) (rows-all room ls s.row (All-tail P l ls all))
+  rows-all room (l ∷ ls) row all = grind (arith, all_one, All-head, All-tail, rows-all room ls (step room row l ls).row (All-tail P l ls all))
 
 pub among_own : (ls : List Letter) → All (IsAmong ls) ls
 among_own ls = All-weaker (Contains ls) (IsAmong ls) (λ l own. inr own) ls (All-contains_itself ls)
@@ -144,32 +135,14 @@ module _ (room : ℕ) (enough : 4 ≤ room) where
   Fits l ls b s = lines_fit room b (shown_at s l ++ rows room s.row ls) ≡ true
 
   fit-ended : (l : Letter) (ls : List Letter) (b : ℕ) (found : Option ℕ) → next_width ls ≡ found → AllFit ls → Fits l ls b (ended room found)
-  fit-ended l ls b None is rest =
-      let none : next_columns ls ≡ 0 = ap (λ (o : Option ℕ). unwrap_or o 0) is in
-      rest Gap 0 b (omega (arith, none))
-  fit-ended l ls b (Some w) is rest =
-      let some : next_columns ls ≡ w = ap (λ (o : Option ℕ). unwrap_or o 0) is in
-      rest Gap (room - w) room (omega (arith, some, next_within ls, enough))
+  fit-ended l ls b None is rest = grind arith
+  fit-ended l ls b (Some w) is rest = grind (arith, next_within)
 
   fit-blank : (l : Letter) (ls : List Letter) (stage : Stage) (left b : ℕ) → is_feed l ≡ false → l.code ≡ false → AllFit ls
       → columns_left stage left ls ≤ b → Fits l ls b (at_blank room stage left (char_width l.char) ls)
-  fit-blank l ls Indentation left b other plain rest less =
-      let w = own-width l plain in
-      either-step (Fits l ls b) (nat_le (char_width l.char) left) (kept (row_at Indentation (left - char_width l.char)))
-      (record { breaks = false; keeps = false; row = row_at Indentation left })
-      (λ fits. (
-      let fit : char_width l.char ≤ left = grind (arith, nat_tests, fits) in
-      fit-keep l ls Indentation (left - char_width l.char) b other rest (omega (arith, fit, w, less))))
-      (λ wide. rest Indentation left b less)
+  fit-blank l ls Indentation left b other plain rest less = grind (arith, own-width, either-step, fit-keep)
   fit-blank l ls Gap left b other plain rest less = rest Gap left b less
-  fit-blank l ls Word left b other plain rest less =
-      let w = own-width l plain in
-      either-step (Fits l ls b) (nat_le (char_width l.char + columns_ahead false ls) left) (kept (row_at Word (left - char_width l.char)))
-      (ended room (next_width ls))
-      (λ fits. (
-      let fit : char_width l.char + columns_ahead false ls ≤ left = grind (arith, nat_tests, fits) in
-      fit-keep l ls Word (left - char_width l.char) b other rest (omega (arith, fit, w, less))))
-      (λ wide. fit-ended l ls b (next_width ls) refl rest)
+  fit-blank l ls Word left b other plain rest less = grind (arith, own-width, either-step, fit-keep, fit-ended)
 
   fit-word : (l : Letter) (ls : List Letter) (stage : Stage) (left b : ℕ) → is_feed l ≡ false → l.code ≡ false → is_blank l ≡ false → AllFit ls
       → columns_left stage left (l ∷ ls) ≤ b → Fits l ls b (in_word room stage left (char_width l.char))
@@ -177,14 +150,7 @@ module _ (room : ℕ) (enough : 4 ≤ room) where
       fit-keep l ls Word left b other rest (omega (arith, own-width l plain, next-word-columns left l ls other (before-word l plain word), less))
   fit-word l ls Gap left b other plain word rest less =
       fit-keep l ls Word left b other rest (omega (arith, own-width l plain, next-word-columns left l ls other (before-word l plain word), less))
-  fit-word l ls Word left b other plain word rest less =
-      let w = own-width l plain in
-      either-step (Fits l ls b) (nat_le (char_width l.char) left) (kept (row_at Word (left - char_width l.char)))
-      (record { breaks = true; keeps = true; row = row_at Word (room - char_width l.char) })
-      (λ fits. (
-      let fit : char_width l.char ≤ left = grind (arith, nat_tests, fits) in
-      fit-keep l ls Word (left - char_width l.char) b other rest (omega (arith, fit, w, less))))
-      (λ wide. fit-keep l ls Word (room - char_width l.char) room other rest (omega (arith, w, char_width-bound l.char, enough)))
+  fit-word l ls Word left b other plain word rest less = grind (arith, own-width, either-step, fit-keep, char_width-bound)
 
   pub rows-fit : (ls : List Letter) → AllFit ls
   rows-fit [] stage left b less = refl
@@ -216,13 +182,8 @@ next-feed l ls feeds = rw feeds refl
 next_fits : (room b : ℕ) (l : Letter) (ls : List Letter) (feeds before : Bool) → is_feed l ≡ feeds → is_before_word l ≡ before
     → lines_fit room b (l ∷ ls) ≡ true → ((less : ℕ) → lines_fit room less ls ≡ true → next_columns ls ≤ less) → next_columns (l ∷ ls) ≤ b
 next_fits room b l ls true before is own all rest = omega (arith, columns-none (l ∷ ls) (next-feed l ls is))
-next_fits room b l ls false true is own all rest =
-    let parts = fit-rest room b l ls is all in
-    omega (arith, columns-same l ls is own, rest (b - letter_width l) parts.1)
-next_fits room b l ls false false is own all rest =
-    let parts = fit-rest room b l ls is all in
-    let kind = either_false l.code (is_blank l) own in
-    omega (arith, next-word-columns 0 l ls is own, own-width l kind.0, parts.0)
+next_fits room b l ls false true is own all rest = grind (arith, fit-rest, columns-same)
+next_fits room b l ls false false is own all rest = grind (arith, fit-rest, either_false, next-word-columns, own-width)
 
 -- where a line fits, the first character of its next word does
 next-fits : (room : ℕ) (ls : List Letter) (b : ℕ) → lines_fit room b ls ≡ true → next_columns ls ≤ b
@@ -231,13 +192,8 @@ next-fits room (l ∷ ls) b all = next_fits room b l ls (is_feed l) (is_before_w
 
 ahead_fits : (room b : ℕ) (l : Letter) (ls : List Letter) (inside ends : Bool) → ends_ahead inside l ≡ ends → lines_fit room b (l ∷ ls) ≡ true
     → ((inside : Bool) (less : ℕ) → lines_fit room less ls ≡ true → columns_ahead inside ls ≤ less) → columns_ahead inside (l ∷ ls) ≤ b
-ahead_fits room b l ls inside true is all rest =
-    let none : columns_ahead inside (l ∷ ls) ≡ 0 = rw is refl in
-    omega (arith, none)
-ahead_fits room b l ls inside false is all rest =
-    let more : columns_ahead inside (l ∷ ls) ≡ letter_width l + columns_ahead (inside_after inside l) ls = rw is refl in
-    let parts = fit-rest room b l ls (either_false (is_feed l) (inside && is_blank l) is).0 all in
-    omega (arith, more, parts.0, rest (inside_after inside l) (b - letter_width l) parts.1)
+ahead_fits room b l ls inside true is all rest = grind arith
+ahead_fits room b l ls inside false is all rest = grind (arith, fit-rest, either_false)
 
 -- and so does what is ahead
 ahead-fits : (room : ℕ) (ls : List Letter) (inside : Bool) (b : ℕ) → lines_fit room b ls ≡ true → columns_ahead inside ls ≤ b
@@ -264,51 +220,19 @@ module _ (room : ℕ) (enough : 4 ≤ room) where
   same-blank : (l : Letter) (ls : List Letter) (stage : Stage) (left : ℕ) → is_feed l ≡ false → l.code ≡ false → IsSame ls → IsWhole stage
       → lines_fit room (columns_left stage left ls) (l ∷ ls) ≡ true → StaysSame l ls (at_blank room stage left (char_width l.char) ls)
   same-blank l ls Gap left other plain rest whole all = absurd whole
-  same-blank l ls Indentation left other plain rest whole all =
-      let w = own-width l plain in
-      let parts = fit-rest room (left + next_columns ls) l ls other all in
-      let next = next-fits room ls (left + next_columns ls - letter_width l) parts.1 in
-      let fit : nat_le (char_width l.char) left ≡ true = grind (arith, nat_tests, w, parts.0, next) in
-      either-step (StaysSame l ls) (nat_le (char_width l.char) left) (kept (row_at Indentation (left - char_width l.char)))
-      (record { breaks = false; keeps = false; row = row_at Indentation left })
-      (λ fits. own-same l ls Indentation (left - char_width l.char) (left + next_columns ls - letter_width l) rest tt
-      (omega (arith, w, parts.0, next)) parts.1)
-      (λ wide. absurd (false≢true (sym wide ∙ fit)))
-  same-blank l ls Word left other plain rest whole all =
-      let w = own-width l plain in
-      let parts = fit-rest room left l ls other all in
-      let ahead = ahead-fits room ls false (left - letter_width l) parts.1 in
-      let fit : nat_le (char_width l.char + columns_ahead false ls) left ≡ true = grind (arith, nat_tests, w, parts.0, ahead) in
-      either-step (StaysSame l ls) (nat_le (char_width l.char + columns_ahead false ls) left) (kept (row_at Word (left - char_width l.char)))
-      (ended room (next_width ls))
-      (λ fits. own-same l ls Word (left - char_width l.char) (left - letter_width l) rest tt (omega (arith, w)) parts.1)
-      (λ wide. absurd (false≢true (sym wide ∙ fit)))
+  same-blank l ls Indentation left other plain rest whole all = grind (arith, own-width, fit-rest, next-fits, either-step, own-same)
+  same-blank l ls Word left other plain rest whole all = grind (arith, own-width, fit-rest, ahead-fits, either-step, own-same)
 
   same-word : (l : Letter) (ls : List Letter) (stage : Stage) (left : ℕ) → is_feed l ≡ false → l.code ≡ false → is_blank l ≡ false → IsSame ls
       → IsWhole stage → lines_fit room (columns_left stage left (l ∷ ls)) (l ∷ ls) ≡ true
       → StaysSame l ls (in_word room stage left (char_width l.char))
   same-word l ls Gap left other plain word rest whole all = absurd whole
-  same-word l ls Indentation left other plain word rest whole all =
-      let b = left + next_columns (l ∷ ls) in
-      let parts = fit-rest room b l ls other all in
-      own-same l ls Word left (b - letter_width l) rest tt
-      (omega (arith, own-width l plain, next-word-columns left l ls other (before-word l plain word))) parts.1
-  same-word l ls Word left other plain word rest whole all =
-      let w = own-width l plain in
-      let parts = fit-rest room left l ls other all in
-      let fit : nat_le (char_width l.char) left ≡ true = grind (arith, nat_tests, w, parts.0) in
-      either-step (StaysSame l ls) (nat_le (char_width l.char) left) (kept (row_at Word (left - char_width l.char)))
-      (record { breaks = true; keeps = true; row = row_at Word (room - char_width l.char) })
-      (λ fits. own-same l ls Word (left - char_width l.char) (left - letter_width l) rest tt (omega (arith, w)) parts.1)
-      (λ wide. absurd (false≢true (sym wide ∙ fit)))
+  same-word l ls Indentation left other plain word rest whole all = grind (arith, fit-rest, own-same, own-width, next-word-columns, before-word)
+  same-word l ls Word left other plain word rest whole all = grind (arith, own-width, fit-rest, either-step, own-same)
 
   same-code : (l : Letter) (ls : List Letter) (stage : Stage) (left : ℕ) → is_feed l ≡ false → l.code ≡ true → IsSame ls → IsWhole stage
       → lines_fit room (columns_left stage left (l ∷ ls)) (l ∷ ls) ≡ true → l ∷ rows room (row_at stage left) ls ≡ l ∷ ls
-  same-code l ls stage left other code rest whole all =
-      let b = columns_left stage left (l ∷ ls) in
-      let parts = fit-rest room b l ls other all in
-      own-same l ls stage left (b - letter_width l) rest whole
-      (omega (arith, code-width l code, left-same stage left l ls other (before-code l code))) parts.1
+  same-code l ls stage left other code rest whole all = grind (arith, fit-rest, own-same, code-width, left-same, before-code)
 
   pub rows-same : (ls : List Letter) → IsSame ls
   rows-same [] stage left whole all = refl

@@ -1,7 +1,6 @@
 -- What showing line feeds makes of a text.
-use Rattle.snippet_shown.proofs.Common.{◌≡◌, ℕ, ◌==◌, chars, encode_utf8_all, Bool, true, false, if◌then◌else◌, List, [], ◌∷◌, ◌++◌}
-use Rattle.snippet_shown.proofs.Common.{map, refl, sym, ap, ◌∙◌, list_any, IsUtf8, chars_from_encodes, encodes-append, map-id, false≢true, picture_of}
-use Rattle.snippet_shown.proofs.Common.{with_line_feeds_shown}
+use Rattle.snippet_shown.proofs.Common.{◌≡◌, ℕ, ◌==◌, chars, encode_utf8_all, Bool, true, false, if◌then◌else◌, List, [], ◌∷◌, ◌++◌, arith, map, refl, sym, ap}
+use Rattle.snippet_shown.proofs.Common.{◌∙◌, list_any, IsUtf8, chars_from_encodes, encodes-append, map-id, false≢true, picture_of, with_line_feeds_shown}
 use Rattle.std.proofs.Common.{encode_utf8}
 use Rattle.std.proofs.lemmas.List.{append-nil}
 
@@ -15,9 +14,7 @@ same_after : (c : ℕ) (cs : List ℕ) (feed : Bool) → (c == 10) ≡ feed → 
     → (list_any (λ d. d == 10) cs ≡ false → with_line_feeds_shown cs ≡ cs) → with_line_feeds_shown (c ∷ cs) ≡ c ∷ cs
 same_after c cs true is none below =
     let yes : list_any (λ d. d == 10) (c ∷ cs) ≡ true = rw is in absurd (false≢true (sym none ∙ yes))
-same_after c cs false is none below =
-    let rest : list_any (λ d. d == 10) cs ≡ false = rw is at none in
-    ap (λ (t : Bool). (if t then 0x240A else c) ∷ with_line_feeds_shown cs) is ∙ ap (λ (t : List ℕ). c ∷ t) (below rest)
+same_after c cs false is none below = grind arith
 
 pub shown-feedless : (cs : List ℕ) → list_any (λ c. c == 10) cs ≡ false → with_line_feeds_shown cs ≡ cs
 shown-feedless [] none = refl

@@ -1,10 +1,9 @@
 -- The lines of a text that is wrapped: how wide they are, and which are empty.
-use Rattle.snippet_shown.proofs.Common.{◌≡◌, ℕ, ◌+◌, ◌-◌, ◌<◌, ◌≤◌, nat_le, Bool, true, false, List, [], ◌∷◌, ◌++◌, Option}
-use Rattle.snippet_shown.proofs.Common.{None, Some, length, filter, refl, sym, ap, ◌∙◌, subst, arith, is_some, if◌then◌else◌, unwrap_or, onto_first}
-use Rattle.snippet_shown.proofs.Common.{false≢true, nat_tests, All-cons, All-head, All-nil, All-tail, length-slice_split, slice_split-cons_no}
-use Rattle.snippet_shown.proofs.Common.{slice_split-cons_yes, sum_by-cons, char_width, char_width-bound, Letter, is_before_word, is_feed, letter_width}
-use Rattle.snippet_shown.proofs.Common.{at_blank, columns_ahead, ended, in_word, kept, next_width, row_start, rows, shown_at, lines_fit, AreWithin, columns_of}
-use Rattle.snippet_shown.proofs.Common.{empty_lines, is_empty, lines_in, Stage, Indentation, Gap, Word, Step}
+use Rattle.snippet_shown.proofs.Common.{◌≡◌, ℕ, ◌+◌, ◌-◌, ◌<◌, ◌≤◌, Bool, true, false, List, [], ◌∷◌, ◌++◌, Option, None, Some, length, filter, refl, sym, ap}
+use Rattle.snippet_shown.proofs.Common.{◌∙◌, arith, is_some, if◌then◌else◌, unwrap_or, onto_first, false≢true, All-cons, All-head, All-nil, All-tail}
+use Rattle.snippet_shown.proofs.Common.{length-slice_split, slice_split-cons_no, slice_split-cons_yes, sum_by-cons, char_width, char_width-bound, Letter}
+use Rattle.snippet_shown.proofs.Common.{is_before_word, is_feed, letter_width, at_blank, ended, in_word, next_width, row_start, rows, shown_at, lines_fit}
+use Rattle.snippet_shown.proofs.Common.{AreWithin, columns_of, empty_lines, is_empty, lines_in, Stage, Indentation, Gap, Word, Step}
 use Rattle.snippet_shown.proofs.LawLemmas.{before-blank, either-step, next-feed, next-same, next_columns, next_within, row_at}
 use Rattle.snippet_shown.proofs.PlaceLemmas.{step-cases}
 use Rattle.snippet_shown.proofs.StepLemmas.{fit-rest, lines_fit-feed, lines_fit-next}
@@ -44,13 +43,8 @@ within_onto room b l (line ∷ lines) some within =
 
 lines_one : (room b : ℕ) (l : Letter) (ls : List Letter) (feeds : Bool) → is_feed l ≡ feeds → lines_fit room b (l ∷ ls) ≡ true
     → ((b : ℕ) → lines_fit room b ls ≡ true → AreLinesWithin room b (lines_in ls)) → AreLinesWithin room b (lines_in (l ∷ ls))
-lines_one room b l ls true is all rest =
-    subst (AreLinesWithin room b) (sym (slice_split-cons_yes is_feed l ls is))
-    (omega arith, all_lines room (lines_in ls) (rest room (sym (lines_fit-feed room b l ls is) ∙ all)))
-lines_one room b l ls false is all rest =
-    let parts = fit-rest room b l ls is all in
-    subst (AreLinesWithin room b) (sym (slice_split-cons_no is_feed l ls is))
-    (onto_within room b l (lines_in ls) parts.0 (rest (b - letter_width l) parts.1))
+lines_one room b l ls true is all rest = grind (arith, slice_split-cons_yes, all_lines, lines_fit-feed)
+lines_one room b l ls false is all rest = grind (arith, fit-rest, slice_split-cons_no, onto_within)
 
 -- lines that fit have room
 fit-lines : (room : ℕ) (ls : List Letter) (b : ℕ) → lines_fit room b ls ≡ true → AreLinesWithin room b (lines_in ls)
@@ -62,12 +56,8 @@ fit-within room ls all = all_lines room (lines_in ls) (fit-lines room ls room al
 
 one_lines : (room b : ℕ) (l : Letter) (ls : List Letter) (feeds : Bool) → is_feed l ≡ feeds → AreLinesWithin room b (lines_in (l ∷ ls))
     → ((b : ℕ) → AreLinesWithin room b (lines_in ls) → lines_fit room b ls ≡ true) → lines_fit room b (l ∷ ls) ≡ true
-one_lines room b l ls true is within rest =
-    let parts = subst (AreLinesWithin room b) (slice_split-cons_yes is_feed l ls is) within in
-    lines_fit-feed room b l ls is ∙ rest room (lines_all room (lines_in ls) (some_lines ls) parts.1)
-one_lines room b l ls false is within rest =
-    let parts = within_onto room b l (lines_in ls) (some_lines ls) (subst (AreLinesWithin room b) (slice_split-cons_no is_feed l ls is) within) in
-    lines_fit-next room b l ls is parts.0 ∙ rest (b - letter_width l) parts.1
+one_lines room b l ls true is within rest = grind (arith, slice_split-cons_yes, lines_fit-feed, lines_all, some_lines)
+one_lines room b l ls false is within rest = grind (arith, within_onto, some_lines, slice_split-cons_no, lines_fit-next)
 
 -- and those that have room fit
 lines-fit : (room : ℕ) (ls : List Letter) (b : ℕ) → AreLinesWithin room b (lines_in ls) → lines_fit room b ls ≡ true
@@ -108,19 +98,8 @@ later_onto l [] some = absurd (omega (arith, some))
 later_onto l (line ∷ lines) some = (refl, refl)
 
 counted_one : (l : Letter) (ls : List Letter) (feeds : Bool) → is_feed l ≡ feeds → IsCounted ls → IsCounted (l ∷ ls)
-counted_one l ls true is rest =
-    let split = slice_split-cons_yes is_feed l ls is in
-    record {
-      later = omega (arith, empties-feed true l ls is, rest.all, ap later_empties split);
-      all = omega (arith, empties-feed false l ls is, rest.all, ap (λ (lines : List (List Letter)). length (filter is_empty lines)) split);
-    }
-counted_one l ls false is rest =
-    let split = slice_split-cons_no is_feed l ls is in
-    let onto = later_onto l (lines_in ls) (some_lines ls) in
-    record {
-      later = empties-own true l ls is ∙ rest.later ∙ sym onto.0 ∙ ap later_empties (sym split);
-      all = empties-own false l ls is ∙ rest.later ∙ sym onto.1 ∙ ap (λ (lines : List (List Letter)). length (filter is_empty lines)) (sym split);
-    }
+counted_one l ls true is rest = grind (arith, slice_split-cons_yes, empties-feed)
+counted_one l ls false is rest = grind (arith, slice_split-cons_no, later_onto, some_lines, empties-own)
 
 counted : (ls : List Letter) → IsCounted ls
 counted [] = record { later = refl; all = refl }
@@ -148,9 +127,7 @@ module _ (room : ℕ) (enough : 4 ≤ room) where
   -- a line feed
   feed-same : (started : Bool) (l : Letter) (ls : List Letter) → is_feed l ≡ true → IsAsEmpty ls
       → empties started (l ∷ rows room (row_start room ls) ls) ≡ empties started (l ∷ ls)
-  feed-same started l ls is rest =
-      empties-feed started l (rows room (row_start room ls) ls) is ∙ ap (and_first started) (start-fresh ls rest)
-      ∙ sym (empties-feed started l ls is)
+  feed-same started l ls is rest = grind (arith, empties-feed, start-fresh)
 
   -- any other that is shown
   own-same : (started : Bool) (l : Letter) (ls : List Letter) (stage : Stage) (left : ℕ) → is_feed l ≡ false → IsAsEmpty ls
@@ -165,23 +142,14 @@ module _ (room : ℕ) (enough : 4 ≤ room) where
   blank-begun : (l : Letter) (ls : List Letter) (stage : Stage) (left : ℕ) → is_feed l ≡ false → IsAsEmpty ls
       → Shows true (empties true ls) l ls (at_blank room stage left (char_width l.char) ls)
   blank-begun l ls Gap left is rest = rest.begun Gap left
-  blank-begun l ls Indentation left is rest =
-      either-step (Shows true (empties true ls) l ls) (nat_le (char_width l.char) left) (kept (row_at Indentation (left - char_width l.char)))
-      (record { breaks = false; keeps = false; row = row_at Indentation left })
-      (λ fits. own-same true l ls Indentation (left - char_width l.char) is rest) (λ wide. rest.begun Indentation left)
-  blank-begun l ls Word left is rest =
-      either-step (Shows true (empties true ls) l ls) (nat_le (char_width l.char + columns_ahead false ls) left)
-      (kept (row_at Word (left - char_width l.char))) (ended room (next_width ls)) (λ fits. own-same true l ls Word (left - char_width l.char) is rest)
-      (λ wide. ended-begun l ls (next_width ls) refl rest)
+  blank-begun l ls Indentation left is rest = grind (arith, either-step, own-same)
+  blank-begun l ls Word left is rest = grind (arith, either-step, own-same, ended-begun)
 
   word-begun : (l : Letter) (ls : List Letter) (stage : Stage) (left : ℕ) → is_feed l ≡ false → IsAsEmpty ls
       → Shows true (empties true ls) l ls (in_word room stage left (char_width l.char))
   word-begun l ls Indentation left is rest = own-same true l ls Word left is rest
   word-begun l ls Gap left is rest = own-same true l ls Word left is rest
-  word-begun l ls Word left is rest =
-      either-step (Shows true (empties true ls) l ls) (nat_le (char_width l.char) left) (kept (row_at Word (left - char_width l.char)))
-      (record { breaks = true; keeps = true; row = row_at Word (room - char_width l.char) })
-      (λ fits. own-same true l ls Word (left - char_width l.char) is rest) (λ wide. own-same false l ls Word (room - char_width l.char) is rest)
+  word-begun l ls Word left is rest = grind (arith, either-step, own-same)
 
   has_next : (left w n : ℕ) (found : Option ℕ) → unwrap_or found 0 ≡ n → left < w → w ≤ 4 → left + n ≡ room → is_some found ≡ true
   has_next left w n (Some k) is wide small whole = refl
@@ -189,22 +157,13 @@ module _ (room : ℕ) (enough : 4 ≤ room) where
 
   blank-fresh : (l : Letter) (ls : List Letter) (left : ℕ) → is_feed l ≡ false → left + next_columns ls ≡ room → IsAsEmpty ls
       → Shows false (empties true ls) l ls (at_blank room Indentation left (char_width l.char) ls)
-  blank-fresh l ls left is whole rest =
-      either-step (Shows false (empties true ls) l ls) (nat_le (char_width l.char) left) (kept (row_at Indentation (left - char_width l.char)))
-      (record { breaks = false; keeps = false; row = row_at Indentation left })
-      (λ fits. own-same false l ls Indentation (left - char_width l.char) is rest)
-      (λ wide. (
-      let less : left < char_width l.char = grind (arith, nat_tests, wide) in
-      rest.owed Indentation left tt (has_next left (char_width l.char) (next_columns ls) (next_width ls) refl less (char_width-bound l.char) whole)))
+  blank-fresh l ls left is whole rest = grind (arith, either-step, own-same, has_next, char_width-bound)
 
   blank-owed : (l : Letter) (ls : List Letter) (stage : Stage) (left : ℕ) → is_feed l ≡ false → IsOwed stage → is_some (next_width ls) ≡ true
       → IsAsEmpty ls → Shows false (empties true ls) l ls (at_blank room stage left (char_width l.char) ls)
   blank-owed l ls Word left is owes some rest = absurd owes
   blank-owed l ls Gap left is owes some rest = rest.owed Gap left tt some
-  blank-owed l ls Indentation left is owes some rest =
-      either-step (Shows false (empties true ls) l ls) (nat_le (char_width l.char) left) (kept (row_at Indentation (left - char_width l.char)))
-      (record { breaks = false; keeps = false; row = row_at Indentation left })
-      (λ fits. own-same false l ls Indentation (left - char_width l.char) is rest) (λ wide. rest.owed Indentation left tt some)
+  blank-owed l ls Indentation left is owes some rest = grind (arith, either-step, own-same)
 
   word-owed : (l : Letter) (ls : List Letter) (stage : Stage) (left : ℕ) → is_feed l ≡ false → IsOwed stage → IsAsEmpty ls
       → Shows false (empties true ls) l ls (in_word room stage left (char_width l.char))

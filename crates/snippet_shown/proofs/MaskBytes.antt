@@ -1,7 +1,6 @@
 -- Masking keeps the places of bytes: each character has as many, and those of ASCII stay.
-use Rattle.snippet_shown.proofs.Common.{◌≡◌, ℕ, ◌+◌, ◌/◌, ◌%◌, ◌<◌, ◌≤◌, nat_lt, chars, encode_utf8_all, Bool, true, false, List}
-use Rattle.snippet_shown.proofs.Common.{[], ◌∷◌, ◌++◌, arith, refl, subst, sym, ◌∙◌, if◌then◌else◌, IsUtf8, mod-lt, nat_tests}
-use Rattle.snippet_shown.proofs.Common.{encodes-chars, is_masked, IsAligned, byte_class, mask_of, masked}
+use Rattle.snippet_shown.proofs.Common.{◌≡◌, ℕ, ◌+◌, ◌/◌, ◌%◌, ◌<◌, ◌≤◌, nat_lt, chars, encode_utf8_all, true, false, List, [], ◌∷◌, ◌++◌, arith, refl, subst}
+use Rattle.snippet_shown.proofs.Common.{sym, ◌∙◌, if◌then◌else◌, IsUtf8, mod-lt, nat_tests, encodes-chars, is_masked, IsAligned, byte_class, mask_of, masked}
 use Rattle.std.specs.Char.{encode_utf8}
 
 -- ---- one character
@@ -27,15 +26,10 @@ first-same : (a b : ℕ) → 192 ≤ a → 192 ≤ b → byte_class b ≡ byte_c
 first-same a b one other = class-first b other ∙ sym (class-first a one)
 
 aligned-two : (c d : ℕ) → 128 ≤ c → c < 2048 → 128 ≤ d → d < 2048 → IsAligned (encode_utf8 c) (encode_utf8 d)
-aligned-two c d a b e f =
-    subst (λ (xs : List ℕ). IsAligned xs (encode_utf8 d)) (sym (two c a b)) (subst (IsAligned ((192 + c / 64) ∷ (128 + c % 64) ∷ [])) (sym (two d e f))
-    (first-same (192 + c / 64) (192 + d / 64) (omega arith) (omega arith), (next-same c d, tt)))
+aligned-two c d a b e f = grind (arith, two, first-same, next-same)
 
 aligned-three : (c d : ℕ) → 2048 ≤ c → c < 65536 → 2048 ≤ d → d < 65536 → IsAligned (encode_utf8 c) (encode_utf8 d)
-aligned-three c d a b e f =
-    subst (λ (xs : List ℕ). IsAligned xs (encode_utf8 d)) (sym (three c a b))
-    (subst (IsAligned ((224 + c / 4096) ∷ (128 + (c / 64) % 64) ∷ (128 + c % 64) ∷ [])) (sym (three d e f))
-    (first-same (224 + c / 4096) (224 + d / 4096) (omega arith) (omega arith), (next-same (c / 64) (d / 64), (next-same c d, tt))))
+aligned-three c d a b e f = grind (arith, three, first-same, next-same)
 
 pub aligned-own : (bs : List ℕ) → IsAligned bs bs
 aligned-own [] = tt
@@ -52,15 +46,7 @@ long-within : (c : ℕ) → is_masked c ≡ true → nat_lt c 0x800 ≡ false �
 long-within c is long = record { from = grind (arith, nat_tests); to = grind (arith, nat_tests) }
 
 aligned-char : (c : ℕ) → IsAligned (encode_utf8 c) (encode_utf8 (mask_of c))
-aligned-char c = by (is_masked c) (nat_lt c 0x800) refl refl
-  where
-    by : (is short : Bool) → is_masked c ≡ is → nat_lt c 0x800 ≡ short
-        → IsAligned (encode_utf8 c) (encode_utf8 (if is then (if short then 0xA4 else 0xFFFD) else c))
-    by true true is short =
-        let w : IsWithin 128 2048 c = short-within c is short in aligned-two c 0xA4 w.from w.to (omega arith) (omega arith)
-    by true false is long =
-        let w : IsWithin 2048 65536 c = long-within c is long in aligned-three c 0xFFFD w.from w.to (omega arith) (omega arith)
-    by false short is other = aligned-own (encode_utf8 c)
+aligned-char c = grind (arith, short-within, aligned-two, long-within, aligned-three, aligned-own)
 
 -- ---- a text
 

@@ -1,7 +1,6 @@
 -- What masking makes of a text, character by character.
-use Rattle.snippet_shown.proofs.Common.{◌≡◌, ℕ, chars, encode_utf8_all, Bool, false, if◌then◌else◌, nat_lt, List, [], ◌∷◌, ◌++◌, map}
-use Rattle.snippet_shown.proofs.Common.{refl, sym, ap, ◌∙◌, arith, list_any, IsUtf8, chars_from_encodes, encodes-append, map-id, is_masked, mask_of}
-use Rattle.snippet_shown.proofs.Common.{masked}
+use Rattle.snippet_shown.proofs.Common.{◌≡◌, ℕ, chars, encode_utf8_all, false, if◌then◌else◌, List, [], ◌∷◌, ◌++◌, map, refl, sym, ap, ◌∙◌, arith, list_any}
+use Rattle.snippet_shown.proofs.Common.{IsUtf8, chars_from_encodes, encodes-append, map-id, is_masked, mask_of, masked}
 use Rattle.std.proofs.Common.{encode_utf8}
 use Rattle.std.proofs.lemmas.List.{append-nil}
 
@@ -13,10 +12,7 @@ masked-push (d ∷ cs) c = ap (λ (t : List ℕ). mask_of d ∷ t) (masked-push 
 -- a text that holds none of the characters is masked as it is
 pub masked-none : (cs : List ℕ) → list_any is_masked cs ≡ false → masked cs ≡ cs
 masked-none [] none = refl
-masked-none (c ∷ cs) none =
-    let here : is_masked c ≡ false = grind arith in
-    let later : list_any is_masked cs ≡ false = grind arith in
-    ap (λ (t : Bool). (if t then (if nat_lt c 0x800 then 0xA4 else 0xFFFD) else c) ∷ masked cs) here ∙ ap (λ (t : List ℕ). c ∷ t) (masked-none cs later)
+masked-none (c ∷ cs) none = grind (arith, masked-none cs (grind arith))
 
 -- one more character is written
 pub masked-written : (old new cs : List ℕ) (c p : ℕ) → new ≡ old ++ encode_utf8 p → old ≡ encode_utf8_all (masked cs) → p ≡ mask_of c

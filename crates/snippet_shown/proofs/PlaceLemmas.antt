@@ -1,8 +1,8 @@
 -- What is shown of a character, by its kind; and that no code is torn.
-use Rattle.snippet_shown.proofs.Common.{◌≡◌, ℕ, ◌==◌, ◌||◌, Bool, true, false, List, [], ◌∷◌, ◌++◌, ◌⊎◌, inl, inr, refl, sym}
-use Rattle.snippet_shown.proofs.Common.{ap, ◌∙◌, not, if◌then◌else◌, false≢true, char_width, Letter, is_blank, is_code, is_feed, letter, letters}
-use Rattle.snippet_shown.proofs.Common.{place_after, at_blank, feed, in_word, kept, row_start, rows, shown_by, step, Place, Untrusted, Outside, Escape, Bracket}
-use Rattle.snippet_shown.proofs.Common.{Command, CommandEscape, Row, Step}
+use Rattle.snippet_shown.proofs.Common.{◌≡◌, ℕ, ◌==◌, ◌||◌, Bool, true, false, List, [], ◌∷◌, ◌++◌, ◌⊎◌, inl, inr, refl, sym, arith, ap, ◌∙◌, not}
+use Rattle.snippet_shown.proofs.Common.{if◌then◌else◌, false≢true, char_width, Letter, is_blank, is_code, is_feed, letter, letters, place_after, at_blank, feed}
+use Rattle.snippet_shown.proofs.Common.{in_word, kept, row_start, rows, shown_by, step, Place, Untrusted, Outside, Escape, Bracket, Command, CommandEscape, Row}
+use Rattle.snippet_shown.proofs.Common.{Step}
 use Rattle.snippet_shown.proofs.StepLemmas.{spelled}
 
 -- ---- kinds
@@ -19,9 +19,7 @@ pub step-cases : (P : Step → Type 0) (room : ℕ) (row : Row) (l : Letter) (ls
     → (is_feed l ≡ false → l.code ≡ true → P (kept row))
     → (is_feed l ≡ false → l.code ≡ false → is_blank l ≡ true → P (at_blank room row.stage row.left (char_width l.char) ls))
     → (is_feed l ≡ false → l.code ≡ false → is_blank l ≡ false → P (in_word room row.stage row.left (char_width l.char))) → P (step room row l ls)
-step-cases P room row l ls one two three four =
-    pick P (is_feed l) l.code (is_blank l) (kept (row_start room ls)) (kept row) (at_blank room row.stage row.left (char_width l.char) ls)
-    (in_word room row.stage row.left (char_width l.char)) one two three four
+step-cases P room row l ls one two three four = grind (arith, pick)
 
 -- ---- codes
 
@@ -39,9 +37,7 @@ in_code c place other is = absurd (false≢true (sym is ∙ ap not other))
 
 pub steady : (place : Place) (c : ℕ) → (c == 10) ≡ false → is_code place c ≡ false → IsSteady place c
 steady Untrusted c other is = record { after = refl; line = refl }
-steady Outside c other is =
-    let e = first_false (c == 27) (c == 13) is in
-    record { after = rw e refl; line = refl }
+steady Outside c other is = grind (arith, first_false)
 steady Escape c other is = in_code c Escape other is
 steady Bracket c other is = in_code c Bracket other is
 steady Command c other is = in_code c Command other is
@@ -67,12 +63,8 @@ shown-same true keeps place c more (inl alone) rest = absurd (false≢true (sym 
 shown-same false false place c more (inl alone) rest = absurd (false≢true alone.1)
 shown-same false false place c more (inr still) rest =
     ap (λ (p : Place). letters p (spelled more)) (sym still.after) ∙ rest
-shown-same true false place c more (inr still) rest =
-    ap (λ (l : Letter). l ∷ letters (place_after place 10) (spelled more)) (feed-letter place)
-    ∙ ap (λ (p : Place). feed ∷ letters p (spelled more)) (still.line ∙ sym still.after) ∙ ap (λ (t : List Letter). feed ∷ t) rest
-shown-same true true place c more (inr still) rest =
-    ap (λ (l : Letter). l ∷ letters (place_after place 10) (c ∷ spelled more)) (feed-letter place)
-    ∙ ap (λ (p : Place). feed ∷ letters p (c ∷ spelled more)) still.line ∙ ap (λ (t : List Letter). feed ∷ letter place c ∷ t) rest
+shown-same true false place c more (inr still) rest = grind (arith, feed-letter)
+shown-same true true place c more (inr still) rest = grind (arith, feed-letter)
 
 -- so what is shown of a text are the letters of what is written: no code is torn, and none is made
 abbrev IsRead : Place → ℕ → List Letter → Step → Type 0

@@ -1,13 +1,13 @@
 -- The spans around lines: they are spans of the source, and reach from one line to another.
-use Rattle.snippet_shown.proofs.Common.{◌≡◌, ◌≢◌, ◌∙◌, ℕ, zero, suc, ◌+◌, ◌-◌, ◌<◌, ◌≤◌, ltb, min, List, [], ◌∷◌}
-use Rattle.snippet_shown.proofs.Common.{◌++◌, length, take, drop, get_or, inl, inr, arith, All, map, true, refl, sym, ap, ap₂, subst, append-nil}
-use Rattle.snippet_shown.proofs.Common.{append_assoc, cases_lt, cond-true, cond-false, lt-ltb, le-ltb, drop-map, drop_all, get_or-drop, get_or-map, get_or-take}
-use Rattle.snippet_shown.proofs.Common.{length-map, All-cons, All-head, All-nil, All-tail, IsCharBoundary-before_ascii, IsCharBoundary-end, IsCharBoundary}
-use Rattle.snippet_shown.proofs.Common.{IsUtf8, IsCharBoundary-start_of, line_bytes-slice, AreLinesOf-source_lines, joined-source_lines, last_byte-push}
-use Rattle.snippet_shown.proofs.Common.{start_of-end, start_of-le, start_of-next, HoldsByte-source, line_of-is, line_of-start, start_of-inside, Line, Source}
-use Rattle.snippet_shown.proofs.Common.{last_byte, line_bytes, source_lines, start_of, AreLines, AreLinesOf, EndLine, Eof, Lf, Crlf, HoldsByte, line_of}
-use Rattle.snippet_shown.proofs.Common.{line_starts, Annotation, length-starts_from, starts_from-at, KeptLine, annotated_lines, kept_line, seen_kept}
-use Rattle.snippet_shown.proofs.Common.{kept_lines, AnnotatedLineInfo, close_of, reach_after, span_around, spans_around, HoldsSpan}
+use Rattle.snippet_shown.proofs.Common.{◌≡◌, ◌≢◌, ◌∙◌, ℕ, zero, suc, ◌+◌, ◌-◌, ◌<◌, ◌≤◌, min, List, [], ◌∷◌, ◌++◌, length, take, drop, get_or, inl, inr, arith}
+use Rattle.snippet_shown.proofs.Common.{All, map, true, refl, sym, ap, ap₂, subst, append-nil, append_assoc, cases_lt, cond-true, cond-false, drop-map}
+use Rattle.snippet_shown.proofs.Common.{drop_all, get_or-drop, get_or-map, get_or-take, length-map, All-cons, All-head, All-nil, All-tail}
+use Rattle.snippet_shown.proofs.Common.{IsCharBoundary-before_ascii, IsCharBoundary-end, IsCharBoundary, IsUtf8, IsCharBoundary-start_of, line_bytes-slice}
+use Rattle.snippet_shown.proofs.Common.{AreLinesOf-source_lines, joined-source_lines, last_byte-push, start_of-end, start_of-le, start_of-next}
+use Rattle.snippet_shown.proofs.Common.{HoldsByte-source, line_of-is, line_of-start, start_of-inside, Line, Source, last_byte, line_bytes, source_lines}
+use Rattle.snippet_shown.proofs.Common.{start_of, AreLines, AreLinesOf, EndLine, Eof, Lf, Crlf, HoldsByte, line_of, line_starts, Annotation, length-starts_from}
+use Rattle.snippet_shown.proofs.Common.{starts_from-at, KeptLine, annotated_lines, kept_line, seen_kept, kept_lines, AnnotatedLineInfo, close_of, reach_after}
+use Rattle.snippet_shown.proofs.Common.{span_around, spans_around, HoldsSpan}
 
 -- ---- where a line closes
 
@@ -53,14 +53,10 @@ feed-before source k more =
 
 -- where a line closes: it is the last, or another follows
 close-inner : (source : List ℕ) (k : ℕ) → k + 1 < length (source_lines source) → close_of source k ≡ start_of (source_lines source) (k + 1) - 1
-close-inner source k more =
-    let ls : List Line = source_lines source in
-    cond-true (ltb (k + 1) (length ls)) (start_of ls (k + 1) - 1) (length source) (lt-ltb (k + 1) (length ls) more)
+close-inner source k more = grind (arith, cond-true)
 
 close-last : (source : List ℕ) (k : ℕ) → length (source_lines source) ≤ k + 1 → close_of source k ≡ length source
-close-last source k last =
-    let ls : List Line = source_lines source in
-    cond-false (ltb (k + 1) (length ls)) (start_of ls (k + 1) - 1) (length source) (le-ltb (k + 1) (length ls) last)
+close-last source k last = grind (arith, cond-false)
 
 -- no line starts after the source
 start-inside : (source : List ℕ) (k : ℕ) → start_of (source_lines source) k ≤ length source
@@ -97,14 +93,7 @@ line_of-close source k within = line_of-is (source_lines source) (close_of sourc
 -- and a character ends there
 close-border : (source : List ℕ) (k : ℕ) → IsCharBoundary source (close_of source k)
 close-border source k =
-    let ls : List Line = source_lines source in
-    elim (cases_lt (k + 1) (length ls)) [
-      | inl more ↦
-          let at : close_of source k ≡ start_of ls (k + 1) - 1 = close-inner source k more in
-          let feed : get_or source (close_of source k) 0 ≡ 10 = ap (λ i. get_or source i 0) at ∙ feed-before source k more in
-          IsCharBoundary-before_ascii source (close_of source k) (omega (arith, start_of-inside source k more, later-start source k more)) (omega arith)
-      | inr last ↦ subst (IsCharBoundary source) (sym (close-last source k last)) (IsCharBoundary-end source)
-    ]
+    grind (arith, cases_lt, close-inner, feed-before, IsCharBoundary-before_ascii, start_of-inside, later-start, close-last, IsCharBoundary-end)
 
 -- ---- the span around a line
 
@@ -148,10 +137,7 @@ starts-length source starts is = ap length is ∙ length-starts_from 0 (source_l
 -- each where its line starts
 pub line_starts-start_of : (source starts : List ℕ) (k : ℕ) → starts ≡ line_starts source → k < length starts
     → get_or starts k 0 ≡ start_of (source_lines source) k
-line_starts-start_of source starts k is within =
-    let at : get_or starts k 0 ≡ 0 + start_of (source_lines source) k = ap (λ (ss : List ℕ). get_or ss k 0) is
-    ∙ starts_from-at 0 (source_lines source) k 0 (omega (arith, starts-length source starts is)) in
-    omega (arith, at)
+line_starts-start_of source starts k is within = grind (arith, starts_from-at, starts-length)
 
 -- the start of a line that isn't the first has a byte before it
 pub start-some : (source starts : List ℕ) (k : ℕ) → starts ≡ line_starts source → k + 1 < length starts → 1 ≤ get_or starts (k + 1) 0

@@ -1,9 +1,9 @@
 -- What is ahead in a line, and what is shown, found character by character.
-use Rattle.snippet_shown.proofs.Common.{◌≡◌, ℕ, ◌+◌, ◌-◌, ◌<◌, ◌≤◌, ◌==◌, ◌&&◌, nat_le, Bool, true, false, List, []}
-use Rattle.snippet_shown.proofs.Common.{◌∷◌, ◌++◌, Option, None, Some, length, map, refl, sym, ap, ◌∙◌, arith, chars, encode_utf8_all}
-use Rattle.snippet_shown.proofs.Common.{unwrap_or, option_map, IsUtf8, eqb-true, false≢true, nat_tests, nil_from_length, chars-nil, chars_from_encodes}
-use Rattle.snippet_shown.proofs.Common.{encodes-append, char_width, Letter, is_before_word, is_feed, letter, letter_width, letters, place_after, columns_ahead}
-use Rattle.snippet_shown.proofs.Common.{ends_ahead, inside_after, next_width, rows, shown_at, step, lines_fit, Place, Row, Step}
+use Rattle.snippet_shown.proofs.Common.{◌≡◌, ℕ, ◌+◌, ◌-◌, ◌<◌, ◌≤◌, ◌==◌, ◌&&◌, nat_le, Bool, true, false, List, [], ◌∷◌, ◌++◌, Option, None, Some, length, map}
+use Rattle.snippet_shown.proofs.Common.{refl, sym, ap, ◌∙◌, arith, chars, encode_utf8_all, unwrap_or, option_map, IsUtf8, eqb-true, false≢true, nat_tests}
+use Rattle.snippet_shown.proofs.Common.{nil_from_length, chars-nil, chars_from_encodes, encodes-append, char_width, Letter, is_before_word, is_feed, letter}
+use Rattle.snippet_shown.proofs.Common.{letter_width, letters, place_after, columns_ahead, ends_ahead, inside_after, next_width, rows, shown_at, step}
+use Rattle.snippet_shown.proofs.Common.{lines_fit, Place, Row, Step}
 use Rattle.std.proofs.lemmas.List.{append-nil, append_assoc}
 
 -- a character that is no line feed
@@ -43,9 +43,7 @@ ahead-more inside place c cs on = rw on refl
 
 pub ahead-wide : (inside : Bool) (place : Place) (left c w : ℕ) (cs : List ℕ) → ends_ahead inside (letter place c) ≡ false
     → w ≡ letter_width (letter place c) → left < w → nat_le (columns_ahead inside (letters place (c ∷ cs))) left ≡ false
-ahead-wide inside place left c w cs on is wide =
-    let more = ahead-more inside place c cs on in
-    grind (arith, nat_tests, more, is, wide)
+ahead-wide inside place left c w cs on is wide = grind (arith, ahead-more)
 
 le_less : (w more left : ℕ) → w ≤ left → nat_le (w + more) left ≡ nat_le more (left - w)
 le_less w more left fits = grind (arith, nat_tests, fits)
@@ -54,9 +52,7 @@ pub ahead-next : (inside : Bool) (place : Place) (left c w : ℕ) (cs : List ℕ
     → w ≡ letter_width (letter place c) → w ≤ left
     → nat_le (columns_ahead (inside_after inside (letter place c)) (letters (place_after place c) cs)) (left - w)
     ≡ nat_le (columns_ahead inside (letters place (c ∷ cs))) left
-ahead-next inside place left c w cs on is fits =
-    let more = columns_ahead (inside_after inside (letter place c)) (letters (place_after place c) cs) in
-    sym (ap (λ (n : ℕ). nat_le n left) (ahead-more inside place c cs on ∙ ap (λ (n : ℕ). n + more) (sym is)) ∙ le_less w more left fits)
+ahead-next inside place left c w cs on is fits = grind (arith, ahead-more, le_less)
 
 -- ---- lines that fit
 
@@ -65,9 +61,7 @@ lines_fit-feed room left l ls feed = rw feed refl
 
 pub lines_fit-next : (room left : ℕ) (l : Letter) (ls : List Letter) → is_feed l ≡ false → letter_width l ≤ left
     → lines_fit room left (l ∷ ls) ≡ lines_fit room (left - letter_width l) ls
-lines_fit-next room left l ls other fits =
-    let fit : nat_le (letter_width l) left ≡ true = grind (arith, nat_tests, fits) in
-    rw (other, fit) refl
+lines_fit-next room left l ls other fits = grind arith
 
 fit_parts : (wide rest : Bool) → (wide && rest) ≡ true → (wide ≡ true) × (rest ≡ true)
 fit_parts true rest is = (refl, is)
@@ -76,10 +70,7 @@ fit_parts false rest is = absurd (false≢true is)
 -- where a line fits, so does its first character, and the others beside it
 pub fit-rest : (room left : ℕ) (l : Letter) (ls : List Letter) → is_feed l ≡ false → lines_fit room left (l ∷ ls) ≡ true
     → (letter_width l ≤ left) × (lines_fit room (left - letter_width l) ls ≡ true)
-fit-rest room left l ls other all =
-    let both = fit_parts (nat_le (letter_width l) left) (lines_fit room (left - letter_width l) ls) (rw other at all) in
-    let fit : letter_width l ≤ left = grind (arith, nat_tests, both.0) in
-    (fit, both.1)
+fit-rest room left l ls other all = grind (arith, fit_parts)
 
 -- ---- what is shown
 
@@ -143,9 +134,7 @@ next-none place all rest c whole cons feed same =
 pub next-more : (place after : Place) (all rest : List ℕ) (c : ℕ) (whole : Option ℕ) → all ≡ c ∷ rest → (c ≡ 10 → ⊥)
     → is_before_word (letter place c) ≡ true → after ≡ place_after place c → next_width (letters place all) ≡ whole
     → next_width (letters after rest) ≡ whole
-next-more place after all rest c whole cons other before is same =
-    ap (λ (p : Place). next_width (letters p rest)) is ∙ sym (next-on place c rest other before)
-    ∙ ap (λ (cs : List ℕ). next_width (letters place cs)) (sym cons) ∙ same
+next-more place after all rest c whole cons other before is same = grind (arith, next-on)
 
 pub next-end : (place : Place) (rest : List ℕ) (whole : Option ℕ) → length rest ≡ 0 → next_width (letters place (chars rest)) ≡ whole → None ≡ whole
 next-end place rest whole none same =
@@ -167,15 +156,11 @@ ahead-none inside place left c w all rest whole cons on is wide same =
 pub ahead-goes : (inside more : Bool) (place after : Place) (left c w : ℕ) (all rest : List ℕ) (whole : Bool) → all ≡ c ∷ rest
     → ends_ahead inside (letter place c) ≡ false → w ≡ letter_width (letter place c) → w ≤ left → more ≡ inside_after inside (letter place c)
     → after ≡ place_after place c → Has inside place left all ≡ whole → Has more after (left - w) rest ≡ whole
-ahead-goes inside more place after left c w all rest whole cons on is fits m p same =
-    ap (λ (b : Bool). Has b after (left - w) rest) m ∙ ap (λ (q : Place). Has (inside_after inside (letter place c)) q (left - w) rest) p
-    ∙ ahead-next inside place left c w rest on is fits ∙ ap (λ (cs : List ℕ). Has inside place left cs) (sym cons) ∙ same
+ahead-goes inside more place after left c w all rest whole cons on is fits m p same = grind (arith, ahead-next)
 
 pub ahead-all : (inside : Bool) (place : Place) (left : ℕ) (rest : List ℕ) (whole : Bool) → length rest ≡ 0
     → Has inside place left (chars rest) ≡ whole → true ≡ whole
-ahead-all inside place left rest whole none same =
-    let zero_fits : nat_le 0 left ≡ true = grind (arith, nat_tests) in
-    sym zero_fits ∙ ap (λ (cs : List ℕ). Has inside place left cs) (sym (ap chars (nil_from_length rest none) ∙ chars-nil)) ∙ same
+ahead-all inside place left rest whole none same = grind (arith, nil_from_length, chars-nil)
 
 abbrev After : ℕ → Place → List ℕ → Option ℕ → Bool
 After room place cs found = unwrap_or (option_map (λ n. lines_fit room n (letters place cs)) found) false
@@ -185,16 +170,12 @@ pub fit-more : (room left later c : ℕ) (place after : Place) (all rest : List 
     → result ≡ Some later
     → ((ls : List Letter) → lines_fit room left (letter place c ∷ ls) ≡ unwrap_or (option_map (λ n. lines_fit room n ls) result) false)
     → after ≡ place_after place c → lines_fit room left (letters place all) ≡ whole → lines_fit room later (letters after rest) ≡ whole
-fit-more room left later c place after all rest whole cons result is decides p same =
-    ap (λ (q : Place). lines_fit room later (letters q rest)) p ∙ ap (After room (place_after place c) rest) (sym is)
-    ∙ sym (decides (letters (place_after place c) rest)) ∙ ap (λ (cs : List ℕ). lines_fit room left (letters place cs)) (sym cons) ∙ same
+fit-more room left later c place after all rest whole cons result is decides p same = grind arith
 
 pub fit-none : (room left c : ℕ) (place : Place) (all rest : List ℕ) (whole : Bool) → all ≡ c ∷ rest → (result : Option ℕ) → result ≡ None
     → ((ls : List Letter) → lines_fit room left (letter place c ∷ ls) ≡ unwrap_or (option_map (λ n. lines_fit room n ls) result) false)
     → lines_fit room left (letters place all) ≡ whole → false ≡ whole
-fit-none room left c place all rest whole cons result is decides same =
-    ap (After room (place_after place c) rest) (sym is) ∙ sym (decides (letters (place_after place c) rest))
-    ∙ ap (λ (cs : List ℕ). lines_fit room left (letters place cs)) (sym cons) ∙ same
+fit-none room left c place all rest whole cons result is decides same = grind arith
 
 pub fit-end : (room left : ℕ) (place : Place) (rest : List ℕ) (whole : Bool) → length rest ≡ 0 → lines_fit room left (letters place (chars rest)) ≡ whole
     → true ≡ whole

@@ -1,9 +1,9 @@
 -- The words of a text that is wrapped.
-use Rattle.snippet_shown.proofs.Common.{◌≡◌, ℕ, ◌+◌, ◌-◌, ◌<◌, ◌≤◌, nat_le, not, Bool, true, false, List, [], ◌∷◌, ◌++◌}
-use Rattle.snippet_shown.proofs.Common.{Option, None, Some, filter, length, refl, sym, ap, ap₂, ◌∙◌, subst, arith, is_some, if◌then◌else◌}
-use Rattle.snippet_shown.proofs.Common.{unwrap_or, onto_first, false≢true, nat_tests, All-cons, All-head, All-nil, All-tail, char_width, Letter, is_blank}
-use Rattle.snippet_shown.proofs.Common.{is_feed, letter_width, at_blank, columns_ahead, ended, in_word, inside_after, kept, next_width, row_start, rows}
-use Rattle.snippet_shown.proofs.Common.{shown_at, AreWithin, columns_of, is_empty, parts_from, words_of, Indentation, Gap, Word, Step}
+use Rattle.snippet_shown.proofs.Common.{◌≡◌, ℕ, ◌+◌, ◌-◌, ◌<◌, ◌≤◌, nat_le, not, Bool, true, false, List, [], ◌∷◌, ◌++◌, Option, None, Some, filter, length}
+use Rattle.snippet_shown.proofs.Common.{refl, sym, ap, ap₂, ◌∙◌, subst, arith, is_some, if◌then◌else◌, unwrap_or, onto_first, false≢true, nat_tests, All-cons}
+use Rattle.snippet_shown.proofs.Common.{All-head, All-nil, All-tail, char_width, Letter, is_blank, is_feed, letter_width, at_blank, columns_ahead, ended}
+use Rattle.snippet_shown.proofs.Common.{in_word, inside_after, kept, next_width, row_start, rows, shown_at, AreWithin, columns_of, is_empty, parts_from}
+use Rattle.snippet_shown.proofs.Common.{words_of, Indentation, Gap, Word, Step}
 use Rattle.snippet_shown.proofs.LawLemmas.{before-blank, before-code, before-word, columns-none, columns-same, either-step, next-feed, next-own}
 use Rattle.snippet_shown.proofs.LawLemmas.{next-same, next_columns, next_within, own-width, row_at}
 use Rattle.snippet_shown.proofs.LineLemmas.{AreLinesWithin, lines_all, onto_within, within_onto}
@@ -43,16 +43,8 @@ onto_some l (part ∷ parts) some = omega arith
 
 some_parts : (ls : List Letter) (b : Bool) → 0 < length (parts_from b ls)
 some_parts [] b = omega arith
-some_parts (l ∷ ls) true =
-    letter-cases (0 < length (parts_from true (l ∷ ls))) l (λ is. omega (arith, ap length (parts-feed true l ls is)))
-    (λ is code. omega (arith, ap length (parts-code true l ls is code), some_parts ls true))
-    (λ is plain blank. omega (arith, ap length (parts-blank true l ls is plain blank)))
-    (λ is plain word. omega (arith, ap length (parts-word true l ls is plain word), onto_some l (parts_from true ls) (some_parts ls true)))
-some_parts (l ∷ ls) false =
-    letter-cases (0 < length (parts_from false (l ∷ ls))) l (λ is. omega (arith, ap length (parts-feed false l ls is)))
-    (λ is code. omega (arith, ap length (parts-code false l ls is code), some_parts ls false))
-    (λ is plain blank. omega (arith, ap length (parts-blank false l ls is plain blank), onto_some l (parts_from false ls) (some_parts ls false)))
-    (λ is plain word. omega (arith, ap length (parts-word false l ls is plain word), onto_some l (parts_from true ls) (some_parts ls true)))
+some_parts (l ∷ ls) true = grind (arith, letter-cases, parts-feed, parts-code, parts-blank, parts-word, onto_some, some_parts ls true)
+some_parts (l ∷ ls) false = grind (arith, letter-cases, parts-feed, parts-code, parts-blank, onto_some, parts-word, some_parts ls false, some_parts ls true)
 
 abbrev worded : List (List Letter) → List (List Letter)
 worded parts = filter (λ word. not (is_empty word)) parts
@@ -82,8 +74,7 @@ worded_within : (room : ℕ) (parts : List (List Letter)) → AreWithin room (wo
 worded_within room [] within = within
 worded_within room ([] ∷ parts) within = All-cons (λ part. columns_of part ≤ room) [] parts (omega arith) (worded_within room parts within)
 worded_within room ((l ∷ part) ∷ parts) within =
-    All-cons (λ p. columns_of p ≤ room) (l ∷ part) parts (All-head (λ p. columns_of p ≤ room) (l ∷ part) (worded parts) within)
-    (worded_within room parts (All-tail (λ p. columns_of p ≤ room) (l ∷ part) (worded parts) within))
+    grind (arith, All-cons, All-head, All-tail, worded_within room parts (All-tail (λ p. columns_of p ≤ room) (l ∷ part) (worded parts) within))
 
 lines_wider : (room b : ℕ) (parts : List (List Letter)) → b ≤ room → AreLinesWithin room b parts → AreWithin room parts
 lines_wider room b [] less within = absurd within
@@ -166,34 +157,22 @@ module _ (room : ℕ) (enough : 4 ≤ room) where
 
   line-words : (ls : List Letter) → HasWords ls → AreWithin room (parts_from false ls)
       → worded (parts_from false (rows room (row_start room ls) ls)) ≡ worded (parts_from false ls)
-  line-words ls rest within =
-      let left = room - next_columns ls in
-      let whole : room ≡ left + next_columns ls = omega (arith, next_within ls, enough) in
-      same-worded (parts_from false (rows room (row_start room ls) ls)) (parts_from false ls)
-      (rest.indented left (subst (λ (n : ℕ). AreLinesWithin room n (parts_from false ls)) whole
-      (lines_all room (parts_from false ls) (some_parts ls false) within)))
+  line-words ls rest within = grind (arith, next_within, same-worded, lines_all, some_parts)
 
   feed-words : (inside : Bool) (l : Letter) (ls : List Letter) → is_feed l ≡ true → HasWords ls → AreWithin room (parts_from false ls)
       → AreSame (parts_from inside (l ∷ rows room (row_start room ls) ls)) ([] ∷ parts_from false ls)
-  feed-words inside l ls is rest within =
-      subst (λ (parts : List (List Letter)). AreSame parts ([] ∷ parts_from false ls)) (sym (parts-feed inside l (rows room (row_start room ls) ls) is))
-      (refl, line-words ls rest within)
+  feed-words inside l ls is rest within = grind (arith, parts-feed, line-words)
 
   ended-words : (l : Letter) (ls : List Letter) (found : Option ℕ) → next_width ls ≡ found → HasWords ls → AreWithin room (parts_from true ls)
       → Has true ([] ∷ parts_from true ls) l ls (ended room found)
   ended-words l ls None is rest within = rest.last is within
-  ended-words l ls (Some w) is rest within =
-      let some : next_columns ls ≡ w = ap (λ (o : Option ℕ). unwrap_or o 0) is in
-      (refl, rest.gap (room - w) (omega (arith, some, next_within ls, enough)) (ap (λ (o : Option ℕ). is_some o) is) within)
+  ended-words l ls (Some w) is rest within = grind (arith, next_within)
 
   -- a character of a word that is kept
   own-words : (inside : Bool) (left : ℕ) (l : Letter) (ls : List Letter) → is_feed l ≡ false → l.code ≡ false → is_blank l ≡ false → HasWords ls
       → AreLinesWithin room left (parts_from true ls)
       → AreSame (parts_from inside (l ∷ rows room (row_at Word left) ls)) (onto_first l (parts_from true ls))
-  own-words inside left l ls is plain word rest within =
-      subst (λ (parts : List (List Letter)). AreSame parts (onto_first l (parts_from true ls)))
-      (sym (parts-word inside l (rows room (row_at Word left) ls) is plain word))
-      (same-onto l (parts_from true (rows room (row_at Word left) ls)) (parts_from true ls) (rest.word left within))
+  own-words inside left l ls is plain word rest within = grind (arith, parts-word, same-onto)
 
   code-words : (inside : Bool) (l : Letter) (xs : List Letter) (parts : List (List Letter)) → is_feed l ≡ false → l.code ≡ true
       → AreSame (parts_from inside xs) parts → AreSame (parts_from inside (l ∷ xs)) parts

@@ -1,9 +1,8 @@
 -- What is shown in place of a text, and what follows of it.
-use Rattle.snippet_shown.proofs.Common.{◌≡◌, ◌∙◌, ℕ, ◌+◌, ◌-◌, ◌<◌, ◌≤◌, nat_lt, Bool, true, false, List, [], ◌∷◌}
-use Rattle.snippet_shown.proofs.Common.{◌++◌, ◌⊎◌, All, inl, inr, refl, sym, ap, subst, arith, chars, encode_utf8_all, if◌then◌else◌, Contains}
-use Rattle.snippet_shown.proofs.Common.{nat_tests, All-cons, All-contains_itself, All-head, All-map, All-nil, All-tail, All-weaker, Letter, first_place, letter}
-use Rattle.snippet_shown.proofs.Common.{letters, letters_of, place_after, row_start, rows, shown_letters, wrapped, lines_fit, IsAmong, IsRewrapped, Place, Row}
-use Rattle.snippet_shown.proofs.Common.{Indentation}
+use Rattle.snippet_shown.proofs.Common.{◌≡◌, ◌∙◌, ℕ, ◌+◌, ◌-◌, ◌<◌, ◌≤◌, nat_lt, Bool, true, false, List, [], ◌∷◌, ◌++◌, ◌⊎◌, All, inl, inr, refl, sym, ap}
+use Rattle.snippet_shown.proofs.Common.{subst, arith, chars, if◌then◌else◌, Contains, nat_tests, All-cons, All-contains_itself, All-head, All-map, All-nil}
+use Rattle.snippet_shown.proofs.Common.{All-tail, All-weaker, Letter, first_place, letters, letters_of, place_after, row_start, rows, shown_letters, wrapped}
+use Rattle.snippet_shown.proofs.Common.{lines_fit, IsAmong, IsRewrapped, Place, Row, Indentation}
 use Rattle.snippet_shown.proofs.GreedyLemmas.{rows-end}
 use Rattle.snippet_shown.proofs.LawLemmas.{among_own, next_columns, next_within, rows-all, rows-fit, rows-kept, rows-same}
 use Rattle.snippet_shown.proofs.LineLemmas.{fit-within, rows-lines, within-fit}
@@ -18,60 +17,34 @@ spelled-letters (c ∷ cs) place = ap (λ (t : List ℕ). c ∷ t) (spelled-lett
 
 -- in a room that is wide enough its rows are shown
 shown-wide : (room : ℕ) (ls : List Letter) → 4 ≤ room → shown_letters room ls ≡ rows room (row_start room ls) ls
-shown-wide room ls enough =
-    let fails : nat_lt room 4 ≡ false = grind (arith, nat_tests, enough) in
-    ap (λ (b : Bool). if b then ls else rows room (row_start room ls) ls) fails
+shown-wide room ls enough = grind arith
 
 -- nothing is written yet
 pub Writes-none : (room : ℕ) (trusted : Bool) (row : Row) (place : Place) (written text : List ℕ) → 4 ≤ room → written ≡ []
     → place ≡ first_place trusted → row ≡ row_start room (letters place (chars text)) → Writes room row place written text (wrapped room trusted (chars text))
-Writes-none room trusted row place written text enough nothing is start =
-    let cs = chars text in
-    record {
-      is = ap (λ (t : List ℕ). t ++ encode_utf8_all (spelled (rows room row (letters place cs)))) nothing
-          ∙ ap (λ (r : Row). encode_utf8_all (spelled (rows room r (letters place cs)))) start
-          ∙ ap (λ (p : Place). encode_utf8_all (spelled (rows room (row_start room (letters p cs)) (letters p cs)))) is
-          ∙ ap (λ (ls : List Letter). encode_utf8_all (spelled ls)) (sym (shown-wide room (letters_of trusted cs) enough));
-    }
+Writes-none room trusted row place written text enough nothing is start = grind (arith, shown-wide)
 
 -- what fits stays
 same-start : (room : ℕ) (ls : List Letter) → 4 ≤ room → lines_fit room room ls ≡ true → rows room (row_start room ls) ls ≡ ls
-same-start room ls enough all =
-    let whole : room ≡ room - next_columns ls + next_columns ls = omega (arith, next_within ls, enough) in
-    rows-same room enough ls Indentation (room - next_columns ls) tt (ap (λ (n : ℕ). lines_fit room n ls) (sym whole) ∙ all)
+same-start room ls enough all = grind (arith, next_within, rows-same)
 
 same_either : (room : ℕ) (ls : List Letter) (small : Bool) → nat_lt room 4 ≡ small → lines_fit room room ls ≡ true
     → (let shown : List Letter = if small then ls else rows room (row_start room ls) ls in shown ≡ ls)
 same_either room ls true is all = refl
-same_either room ls false is all =
-    let enough : 4 ≤ room = grind (arith, nat_tests, is) in
-    same-start room ls enough all
+same_either room ls false is all = grind (arith, same-start)
 
 pub wrapped-same : (room : ℕ) (trusted : Bool) (cs : List ℕ) → lines_fit room room (letters_of trusted cs) ≡ true → wrapped room trusted cs ≡ cs
 wrapped-same room trusted cs all =
     ap spelled (same_either room (letters_of trusted cs) (nat_lt room 4) refl all) ∙ spelled-letters cs (first_place trusted)
 
 pub wrapped-small : (room : ℕ) (trusted : Bool) (cs : List ℕ) → room < 4 → wrapped room trusted cs ≡ cs
-wrapped-small room trusted cs less =
-    let ls = letters_of trusted cs in
-    let holds : nat_lt room 4 ≡ true = grind (arith, nat_tests, less) in
-    ap (λ (b : Bool). spelled (if b then ls else rows room (row_start room ls) ls)) holds ∙ spelled-letters cs (first_place trusted)
+wrapped-small room trusted cs less = grind (arith, spelled-letters)
 
 -- ---- laws
 
 either_laws : (room : ℕ) (ls : List Letter) (small : Bool) → nat_lt room 4 ≡ small
     → IsRewrapped room ls (if small then ls else rows room (row_start room ls) ls)
-either_laws room ls true is =
-    let less : room < 4 = grind (arith, nat_tests, is) in
-    record {
-      kept = refl;
-      words = λ within. refl;
-      rows = λ enough. absurd (omega (arith, less, enough));
-      same = λ within. refl;
-      empty = refl;
-      ends = λ enough. absurd (omega (arith, less, enough));
-      among = among_own ls;
-    }
+either_laws room ls true is = grind (arith, among_own)
 either_laws room ls false is =
     let enough : 4 ≤ room = grind (arith, nat_tests, is) in
     record {
@@ -100,9 +73,7 @@ wrapped-laws room trusted cs =
 
 letters-all : (P : ℕ → Type 0) (cs : List ℕ) (place : Place) → All P cs → All (λ (l : Letter). P l.char) (letters place cs)
 letters-all P [] place all = All-nil (λ (l : Letter). P l.char)
-letters-all P (c ∷ cs) place all =
-    All-cons (λ (l : Letter). P l.char) (letter place c) (letters (place_after place c) cs) (All-head P c cs all)
-    (letters-all P cs (place_after place c) (All-tail P c cs all))
+letters-all P (c ∷ cs) place all = grind (arith, All-cons, All-head, All-tail, letters-all P cs (place_after place c) (All-tail P c cs all))
 
 abbrev IsOf : List ℕ → ℕ → Type 0
 IsOf cs c = (c ≡ 10) ⊎ Contains cs c
