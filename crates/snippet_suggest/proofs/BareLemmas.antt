@@ -1,21 +1,16 @@
 -- Rows that show no line: of a placeholder or a glyph.
-use Rattle.snippet_suggest.proofs.Common.{◌≡◌, ℕ, zero, suc, ◌+◌, ◌-◌, ◌≤◌, true, false, List, [], ◌∷◌, ◌++◌, length, replicate}
-use Rattle.snippet_suggest.proofs.Common.{refl, sym, ap, ◌∙◌, arith, inl, inr, All, subst, list_all, list_any, slice_index_or, cases_lt}
-use Rattle.snippet_suggest.proofs.Common.{get_or-append_right, get_or_append_left, get_or_past, length-append, length-replicate, All-append, All-nil}
-use Rattle.snippet_suggest.proofs.Common.{All-replicate, AllPass-from_list_all, row_text, row_text-text_cells, IsFreeCell, each_fails, free_drawn, free_led}
-use Rattle.snippet_suggest.proofs.Common.{DecorStyle, SuggestionGlyph, ElementStyle, Cell, SPACE, text_cells, suggestion_glyph_of, All-text_cells}
-use Rattle.snippet_suggest.proofs.Common.{length-text_cells, is_listed, put, HasLeft, IsBareRow, IsMarkOrSpace, beside_gutter, is_stroke, IsEdgeRow}
+use Rattle.snippet_suggest.proofs.Common.{◌≡◌, ℕ, zero, suc, ◌+◌, ◌-◌, ◌≤◌, true, false, List, [], ◌∷◌, ◌++◌, length, replicate, refl, sym, ap, ◌∙◌, arith}
+use Rattle.snippet_suggest.proofs.Common.{inl, inr, All, subst, list_all, list_any, slice_index_or, cases_lt, get_or-append_right, get_or_append_left}
+use Rattle.snippet_suggest.proofs.Common.{get_or_past, length-append, length-replicate, All-append, All-nil, All-replicate, AllPass-from_list_all, row_text}
+use Rattle.snippet_suggest.proofs.Common.{row_text-text_cells, each_fails, free_drawn, free_led, DecorStyle, SuggestionGlyph, ElementStyle, Cell, SPACE}
+use Rattle.snippet_suggest.proofs.Common.{text_cells, suggestion_glyph_of, All-text_cells, length-text_cells, is_listed, put, HasLeft, IsBareRow}
+use Rattle.snippet_suggest.proofs.Common.{IsMarkOrSpace, beside_gutter, is_stroke, IsEdgeRow, common_steps}
 use Rattle.snippet_suggest.proofs.GlyphLemmas.{glyph_short, glyph_strokes, glyph_unlisted, is_sign}
 use Rattle.snippet_suggest.proofs.PutRows.{ch_at, put_after, put_before, put_cell, put_free, put_inside}
 
 -- a row with no cells
 pub bare_none : (decor : DecorStyle) (gutter : ℕ) → IsBareRow decor gutter []
-bare_none decor gutter =
-    record {
-      strokes = λ c left. refl;
-      marks = λ c after. inl refl;
-      free = All-nil IsFreeCell;
-    }
+bare_none decor gutter = grind (arith, common_steps, All-nil)
 
 -- it shows nothing at all
 pub stroke_none : (decor : DecorStyle) (gutter : ℕ) → IsEdgeRow decor gutter [] []

@@ -1,16 +1,13 @@
 -- What the rows of a suggestion show, one below the other.
-use Rattle.snippet_suggest.proofs.Common.{◌≡◌, ℕ, ◌+◌, ◌-◌, ◌^◌, ◌<◌, Bool, true, false, if◌then◌else◌, ◌&&◌, All, List, []}
-use Rattle.snippet_suggest.proofs.Common.{◌∷◌, ◌++◌, length, map, ◌∙◌, ◌==◌, arith, subst, sym, cow_str_bytes, AllZip, bytes_eq, cond_both}
-use Rattle.snippet_suggest.proofs.Common.{All-append, All-cons, All-head, All-nil, All-tail, get_or-range_with_len, length-range_with_len, Snippet, Patch, Cell}
-use Rattle.snippet_suggest.proofs.Common.{Addition, NoStyle, Removal, source_lines, line_of, line_of-within, numbered_source, first_start, in_order}
-use Rattle.snippet_suggest.proofs.Common.{last_line_reached, SubstitutionHighlight, DisplaySuggestion, Add, Diff, Plain, Underline, SuggestionLayout}
-use Rattle.snippet_suggest.proofs.Common.{SuggestionStart, SuggestionLine, Gap, Line, end_cells, left_out_cells, on_last, edits_of, emptied_lines, first_end}
-use Rattle.snippet_suggest.proofs.Common.{first_given, given_lines, given_ranges, is_left_out, last_reached, lines_touched, removed_lines, replaced_lines}
-use Rattle.snippet_suggest.proofs.Common.{shown_kind, trimmed_of, IsSuggestible, Begins, Empty, Ends, Offers, Removes, Skips, SuggestionRow, removed_number}
-use Rattle.snippet_suggest.proofs.Common.{rows_of_suggestion, body_cells, suggested_cells, cells_over, marked_edits, new_on, removed_in, suggested_stretches}
-use Rattle.snippet_suggest.proofs.Common.{with_left_out, is_touched, shown_from, IsBareRow, HasGutter, IsRowOfRemoved, IsUnder, NumberFits, Shows, capped_sum}
-use Rattle.snippet_suggest.proofs.Common.{nat_tests}
-use Rattle.std.proofs.Common.{chars}
+use Rattle.snippet_suggest.proofs.Common.{◌≡◌, ℕ, ◌+◌, ◌-◌, ◌^◌, ◌<◌, Bool, true, false, if◌then◌else◌, All, List, [], ◌∷◌, ◌++◌, length, map, ◌==◌, arith}
+use Rattle.snippet_suggest.proofs.Common.{cow_str_bytes, AllZip, cond_both, All-append, All-cons, All-head, All-nil, All-tail, get_or-range_with_len}
+use Rattle.snippet_suggest.proofs.Common.{length-range_with_len, Snippet, Patch, Cell, NoStyle, Removal, source_lines, line_of, line_of-within}
+use Rattle.snippet_suggest.proofs.Common.{numbered_source, first_start, SubstitutionHighlight, DisplaySuggestion, SuggestionLayout, SuggestionStart}
+use Rattle.snippet_suggest.proofs.Common.{SuggestionLine, Gap, Line, end_cells, on_last, emptied_lines, first_given, given_lines, given_ranges, is_left_out}
+use Rattle.snippet_suggest.proofs.Common.{last_reached, lines_touched, removed_lines, replaced_lines, shown_kind, trimmed_of, IsSuggestible, Begins, Empty}
+use Rattle.snippet_suggest.proofs.Common.{Ends, Offers, Removes, Skips, SuggestionRow, removed_number, rows_of_suggestion, body_cells, suggested_cells}
+use Rattle.snippet_suggest.proofs.Common.{cells_over, marked_edits, new_on, removed_in, suggested_stretches, with_left_out, is_touched, shown_from, IsBareRow}
+use Rattle.snippet_suggest.proofs.Common.{HasGutter, IsRowOfRemoved, IsUnder, NumberFits, Shows, capped_sum, nat_tests, common_steps}
 use Rattle.snippet_suggest.proofs.ByKind.{removed_of, row_of_shown, rows_where}
 use Rattle.snippet_suggest.proofs.BareLemmas.{bare_none, stroke_none}
 use Rattle.snippet_suggest.proofs.GutterFits.{numbers_fit}
@@ -43,8 +40,7 @@ module _ (layout : SuggestionLayout) (s : Snippet Patch) (P : SuggestionRow → 
   holds_later (row ∷ rows) all = (All-head (Holds []) row rows all, holds_later rows (All-tail (Holds []) row rows all))
 
   holds_over : (under : List Cell) (rows : List SuggestionRow) → AreEach Holds under rows → AllZip P rows (cells_over (suggested_cells layout s) under rows)
-  holds_over under [] all = tt
-  holds_over under (row ∷ rows) all = (all.0, holds_later rows all.1)
+  holds_over x y z = grind (arith, holds_later)
 
   -- also where the last row takes other roles
   holds_last : (f : List Cell → List Cell) (shown : List SuggestionRow) (rows : List (List Cell))
@@ -58,67 +54,35 @@ module _ (layout : SuggestionLayout) (s : Snippet Patch) (P : SuggestionRow → 
 
   holds_left_out : (lines : List (List ℕ)) (shown : List SuggestionRow) (rows : List (List Cell)) → AllZip P shown rows
       → AllZip P shown (with_left_out layout s lines rows)
-  holds_left_out [] shown rows have = have
-  holds_left_out (line ∷ lines) shown rows have =
-      let test : Bool = is_left_out (shown_kind s) (line ∷ lines) (last_reached s) && is_touched s.fold (given_ranges s) 0 in
-      let gone : List SubstitutionHighlight = if bytes_eq line (last_reached s) then suggested_stretches s
-      (last_line_reached (cow_str_bytes s.source.text) (edits_of s) - first_given s) else [] in
-      let f : List Cell → List Cell = left_out_cells layout.base.gutter line gone (new_on s 0) in
-      let same : (row : List Cell) → map without_role (f row) ≡ map without_role row = λ row.
-      with_same Addition layout.base.gutter (chars line) (new_on s 0) _ ∙ with_same Removal layout.base.gutter (chars line) gone row in
-      cond_both test (on_last f rows) rows (AllZip P shown) (λ gives. holds_last f shown rows same have) (λ stays. have)
+  holds_left_out x y z u = grind (arith, with_same, cond_both, holds_last)
 
   -- so it holds of the rows of a suggestion but the last
   pub body_each : (start : SuggestionStart) (under : List Cell) → AreEach Holds under (rows_of_suggestion start s)
       → AllZip P (rows_of_suggestion start s) (body_cells layout start s under)
   unfolding body_cells
-  body_each start under all =
-      holds_left_out (given_lines s) (rows_of_suggestion start s) (cells_over (suggested_cells layout s) under (rows_of_suggestion start s))
-      (holds_over under (rows_of_suggestion start s) all)
+  body_each start under all = grind (arith, holds_left_out, holds_over)
 
   -- also where it holds of each, whatever it is drawn over
   pub body_all : (start : SuggestionStart) (under : List Cell) → ((u : List Cell) (row : SuggestionRow) → Holds u row)
       → AllZip P (rows_of_suggestion start s) (body_cells layout start s under)
-  body_all start under each = body_each start under (over (rows_of_suggestion start s))
-    where
-      over : (rows : List SuggestionRow) → AreEach Holds under rows
-      over [] = tt
-      over (row ∷ rows) = (each under row, λ i d within. each [] _)
+  body_all start under each = grind (arith, body_each)
 
 -- ---- what the rows of a suggestion show, where the gutter has room
 
 -- the lines that a span touches are lines of the source
 touched_within : (source : List ℕ) (start end : ℕ) → All (λ k. k < length (source_lines source)) (lines_touched source start end)
-touched_within source start end i d inside =
-    let ls = source_lines source in
-    let a : ℕ = line_of ls start in
-    let n : ℕ = line_of ls end + 1 - a in
-    let within : i < n = omega (arith, length-range_with_len a n, inside) in
-    omega (arith, get_or-range_with_len a n i d within, within, line_of-within source end)
+touched_within source start end i d inside = grind (arith, common_steps, length-range_with_len, get_or-range_with_len, line_of-within)
 
 -- the number beside a line that is removed fits
 emptied_within : (s : Snippet Patch) → All (λ k. k < length (source_lines (cow_str_bytes s.source.text))) (emptied_lines s)
-emptied_within s =
-    let source : List ℕ = cow_str_bytes s.source.text in
-    let es = in_order (edits_of s) in
-    cond_both s.fold (lines_touched source (first_start es) (first_end es)) (lines_touched source 0 (length source))
-    (All (λ k. k < length (source_lines source))) (λ folds. touched_within source (first_start es) (first_end es))
-    (λ whole. touched_within source 0 (length source))
+emptied_within s = grind (arith, common_steps, cond_both, touched_within)
 
 none_of_some : (line : List ℕ) (lines : List (List ℕ)) → (length (line ∷ lines) == 0) ≡ false
 none_of_some line lines = grind (arith, nat_tests)
 
 beside_small : (lines : List (List ℕ)) (kind : DisplaySuggestion) (own counted : ℕ → ℕ) (emptied replaced : List ℕ) → All (λ k. own k < 2 ^ 64) emptied
     → ((k : ℕ) → counted k < 2 ^ 64) → All (λ k. (if length lines == 0 then own k else counted k) < 2 ^ 64) (removed_of lines kind emptied replaced)
-beside_small [] kind own counted emptied replaced small few = small
-beside_small (line ∷ lines) Diff own counted emptied replaced small few =
-    subst (λ (b : Bool). All (λ k. (if b then own k else counted k) < 2 ^ 64) replaced) (sym (none_of_some line lines)) (λ i d inside. few _)
-beside_small (line ∷ lines) Underline own counted emptied replaced small few =
-    All-nil (λ k. (if length (line ∷ lines) == 0 then own k else counted k) < 2 ^ 64)
-beside_small (line ∷ lines) Plain own counted emptied replaced small few =
-    All-nil (λ k. (if length (line ∷ lines) == 0 then own k else counted k) < 2 ^ 64)
-beside_small (line ∷ lines) Add own counted emptied replaced small few =
-    All-nil (λ k. (if length (line ∷ lines) == 0 then own k else counted k) < 2 ^ 64)
+beside_small x y z u v w a b = grind (arith, common_steps, none_of_some)
 
 removed_small : (s : Snippet Patch) → IsSuggestible s → All (λ k. removed_number s k < 2 ^ 64) (removed_lines s)
 removed_small s can =
@@ -158,13 +122,7 @@ module _ (layout : SuggestionLayout) (s : Snippet Patch) where
 
   rows_show : (under : List Cell) (rows : List SuggestionRow) → AreEach Fits under rows
       → AreEach (λ u row. IsShown row (suggested_cells layout s u row)) under rows
-  rows_show under [] fits = tt
-  rows_show under (row ∷ rows) fits = (row_shows under row fits.0, later rows fits.1)
-    where
-      later : (rows : List SuggestionRow) → All (Fits []) rows → All (λ row. IsShown row (suggested_cells layout s [] row)) rows
-      later [] fits = All-nil (λ row. IsShown row (suggested_cells layout s [] row))
-      later (row ∷ rows) fits = All-cons (λ row. IsShown row (suggested_cells layout s [] row)) row rows (row_shows [] row (All-head (Fits []) row rows fits))
-          (later rows (All-tail (Fits []) row rows fits))
+  rows_show x y z = grind (arith, common_steps, row_shows, All-tail)
 
   abbrev NoCells : IsBareRow layout.base.decor layout.base.gutter []
   NoCells = bare_none layout.base.decor layout.base.gutter
@@ -200,18 +158,7 @@ module _ (layout : SuggestionLayout) (s : Snippet Patch) where
       → IsUnder layout.base.decor layout.base.gutter start under → AreEach Fits under removed → All (Fits []) removed → All (Fits []) shown
       → (0 < length lines → NumberFits layout (s.line_start + first_given s) (Line 0))
       → AreEach Fits under (rows_where lines kind (Begins start) removed (changed_rows touched left removed) shown)
-  fit_where [] Diff touched left start under removed shown begun over fit rooms one = (begun, fit)
-  fit_where [] Underline touched left start under removed shown begun over fit rooms one = over
-  fit_where [] Plain touched left start under removed shown begun over fit rooms one = over
-  fit_where [] Add touched left start under removed shown begun over fit rooms one = over
-  fit_where (line ∷ lines) Diff touched left start under removed shown begun over fit rooms one =
-      (begun, changed_fit touched left removed fit (one (omega arith)))
-  fit_where (line ∷ lines) Underline touched left start under removed shown begun over fit rooms one =
-      (begun, rooms)
-  fit_where (line ∷ lines) Plain touched left start under removed shown begun over fit rooms one =
-      (begun, rooms)
-  fit_where (line ∷ lines) Add touched left start under removed shown begun over fit rooms one =
-      (begun, rooms)
+  fit_where x y z u v w a b c d e f g = grind (arith, common_steps, changed_fit)
 
   -- the rows of a suggestion show what they are to show, each, where the gutter has room for the number that it counts
   pub body_shows : (start : SuggestionStart) (under : List Cell) → IsSuggestible s → HasGutter layout s

@@ -140,6 +140,7 @@ pub use Rattle.std.proofs.lemmas.List.Sums.{sum_by-cons, count_by_more_no, count
 pub use Rattle.std.proofs.lemmas.Result.{on_ok_weaker}
 pub use Rattle.std.proofs.lemmas.Slice.Eq.{bytes_eq-Decides}
 pub use Rattle.std.proofs.lemmas.Str.{chars-nil, encodes-chars, IsCharBoundary-end, IsCharBoundary-start, IsUtf8-past_char, chars_past_char}
+pub use Rattle.std.proofs.lemmas.Grind.{common_steps}
 pub use Rattle.std.specs.Char.{is_ascii_alphanumeric, is_whitespace, encode_utf8}
 pub use Rattle.std.specs.Cow.{cow_str_bytes}
 pub use Rattle.std.specs.Fmt.{decimal}

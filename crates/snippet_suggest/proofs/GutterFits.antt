@@ -1,12 +1,11 @@
 -- Why the gutter that has room for the number that a suggestion counts has room for the number of each line that it gives.
-use Rattle.snippet_suggest.proofs.Common.{◌≡◌, ℕ, ◌+◌, ◌<◌, ◌≤◌, ◌^◌, nat_le, ◌&&◌, Bool, true, false, if◌then◌else◌, List}
-use Rattle.snippet_suggest.proofs.Common.{[], ◌∷◌, All, length, map, refl, sym, ap, ◌∙◌, arith, subst, ◌==◌, cow_str_bytes, list_any, list_all}
-use Rattle.snippet_suggest.proofs.Common.{cond-true, cond_both, nat_tests, length-map, All-map, Snippet, Patch, lines_of, source_lines, newline_count}
-use Rattle.snippet_suggest.proofs.Common.{last_byte, number_width, shown_number, LineNumbers, line_of, IsSpan, length-source_lines, length-shown_number}
-use Rattle.snippet_suggest.proofs.Common.{number_width_monotone, line_of-mono, line_of-within, Edit, edit_of, in_order, trimmed_edit, first_start}
-use Rattle.snippet_suggest.proofs.Common.{trimmed_edit-shrunk, DisplaySuggestion, Underline, Diff, Plain, Add, SuggestionLayout, Line, counted_line, edits_of}
-use Rattle.snippet_suggest.proofs.Common.{first_end, first_given, given_lines, given_text, shown_kind, trimmed_of, kind_of, takes_away, IsSuggestible}
-use Rattle.snippet_suggest.proofs.Common.{HasGutter, NumberFits, capped_sum, bytes_eq, trim}
+use Rattle.snippet_suggest.proofs.Common.{◌≡◌, ℕ, ◌+◌, ◌<◌, ◌≤◌, ◌^◌, nat_le, ◌&&◌, Bool, true, if◌then◌else◌, List, [], ◌∷◌, All, length, map, refl, sym}
+use Rattle.snippet_suggest.proofs.Common.{arith, subst, ◌==◌, cow_str_bytes, list_any, list_all, cond-true, cond_both, nat_tests, length-map, All-map}
+use Rattle.snippet_suggest.proofs.Common.{Snippet, Patch, lines_of, source_lines, newline_count, last_byte, number_width, shown_number, LineNumbers, line_of}
+use Rattle.snippet_suggest.proofs.Common.{IsSpan, length-source_lines, length-shown_number, number_width_monotone, line_of-mono, line_of-within, Edit}
+use Rattle.snippet_suggest.proofs.Common.{edit_of, in_order, trimmed_edit, first_start, trimmed_edit-shrunk, DisplaySuggestion, Underline, Diff, Plain, Add}
+use Rattle.snippet_suggest.proofs.Common.{SuggestionLayout, Line, counted_line, edits_of, first_end, first_given, given_lines, given_text, shown_kind}
+use Rattle.snippet_suggest.proofs.Common.{trimmed_of, kind_of, takes_away, IsSuggestible, HasGutter, NumberFits, capped_sum, bytes_eq, trim, common_steps}
 use Rattle.snippet_suggest.proofs.ByKind.{counted_folded}
 use Rattle.snippet_suggest.proofs.SpanLemmas.{spans_in_order}
 
@@ -16,12 +15,7 @@ kind_by few takes replaces adds =
     if few && takes then Diff else if replaces then (if adds then Add else Plain) else if few then Underline else Plain
 
 few_by : (few takes replaces adds : Bool) (kind : DisplaySuggestion) → kind_by few takes replaces adds ≡ kind → counted_folded kind 0 0 1 ≡ 0 → few ≡ true
-few_by true takes replaces adds kind is one = refl
-few_by false takes true true kind is one = let same : counted_folded Add 0 0 1 ≡ 0 = ap (λ k. counted_folded k 0 0 1) is ∙ one in absurd (omega (arith, same))
-few_by false takes true false kind is one = let same : counted_folded Plain 0 0 1 ≡ 0 = ap (λ k. counted_folded k 0 0 1) is
-    ∙ one in absurd (omega (arith, same))
-few_by false takes false adds kind is one = let same : counted_folded Plain 0 0 1 ≡ 0 = ap (λ k. counted_folded k 0 0 1) is
-    ∙ one in absurd (omega (arith, same))
+few_by x y z u v w a = grind (arith, common_steps)
 
 -- in a diff, and as one line with marks, at most one line is given
 pub one_given : (source : List ℕ) (ts : List Edit) (text : List ℕ) → counted_folded (kind_of source ts text) 0 0 1 ≡ 0 → length (lines_of text) ≤ 1

@@ -1,10 +1,9 @@
 -- What follows for a suggestion that is prepared.
-use Rattle.snippet_suggest.proofs.Common.{◌≡◌, ℕ, ◌+◌, ◌<◌, ◌≤◌, List, [], ◌∷◌, All, length, map, refl, sym, ap, ◌∙◌, arith}
-use Rattle.snippet_suggest.proofs.Common.{subst, if◌then◌else◌, cow_str_bytes, All-map, source_lines, text_at, line_of, IsSpan, LineInfo, table_entry}
-use Rattle.snippet_suggest.proofs.Common.{touched_entries, end_from, TrimmedPatch, Edit, edit_of, in_order, trimmed_edits, AreApart, edit_bounds}
-use Rattle.snippet_suggest.proofs.Common.{original_bounds_of, trimmed_edit_of, first_start, trimmed-apart, apart-in_order, ordered-spans, none_given}
-use Rattle.snippet_suggest.proofs.Common.{PreparedSuggestion, edits_of, first_end, first_given, last_reached, last_removed, IsPrepared, first_original}
-use Rattle.snippet_suggest.proofs.Common.{first_original_end}
+use Rattle.snippet_suggest.proofs.Common.{◌≡◌, ℕ, ◌+◌, ◌<◌, ◌≤◌, List, [], ◌∷◌, All, length, map, refl, sym, ap, ◌∙◌, arith, subst, if◌then◌else◌}
+use Rattle.snippet_suggest.proofs.Common.{cow_str_bytes, All-map, source_lines, line_of, IsSpan, LineInfo, table_entry, touched_entries, end_from}
+use Rattle.snippet_suggest.proofs.Common.{TrimmedPatch, Edit, edit_of, in_order, trimmed_edits, AreApart, edit_bounds, original_bounds_of, trimmed_edit_of}
+use Rattle.snippet_suggest.proofs.Common.{first_start, trimmed-apart, apart-in_order, ordered-spans, none_given, PreparedSuggestion, edits_of, first_end}
+use Rattle.snippet_suggest.proofs.Common.{first_given, last_reached, last_removed, IsPrepared, first_original, first_original_end, common_steps}
 use Rattle.snippet_suggest.proofs.ReachLemmas.{reached, touched_last}
 use Rattle.snippet_suggest.proofs.SpanLemmas.{original_spans, trimmed_spans}
 use Rattle.snippet_suggest.proofs.PreparedLemmas.{first_original-start}
@@ -47,21 +46,10 @@ known_apart p is =
 pub known_reached : (p : PreparedSuggestion) → IsPrepared p → (infos : List LineInfo) (start end : ℕ) → start ≤ end
     → end ≡ end_from 0 (map trimmed_edit_of p.splice.patches.items) → map table_entry infos ≡ touched_entries p.map start end
     → last_removed infos ≡ last_reached p.snippet.now
-known_reached p is infos start end ordered ends are =
-    let source : List ℕ = cow_str_bytes p.snippet.now.source.text in
-    let es : List Edit = edits_of p.snippet.now in
-    let text : p.map.text ≡ source = ap (λ m. m.text) is.lines in
-    touched_last p.map infos start end ordered are ∙ ap (λ t. text_at (source_lines t) (line_of (source_lines t) end)) text
-    ∙ ap (λ n. text_at (source_lines source) (line_of (source_lines source) n)) (ends ∙ ap (end_from 0) is.edits)
-    ∙ ap (text_at (source_lines source)) (sym (reached source es (known_apart p is)))
+known_reached p is infos start end ordered ends are = grind (arith, common_steps, touched_last, reached, known_apart)
 
 first_end-of : (ts : List TrimmedPatch) (es : List Edit) → map original_bounds_of ts ≡ map edit_bounds es → first_original_end ts ≡ first_end es
-first_end-of [] [] same = refl
-first_end-of [] (e ∷ es) same = absurd (cc)
-first_end-of (t ∷ ts) [] same = absurd (cc)
-first_end-of (t ∷ ts) (e ∷ es) same =
-    let pair : ◌≡◌ {A = ℕ × ℕ} (original_bounds_of t) (edit_bounds e) = cc in
-    ap (λ b. b.1) pair
+first_end-of x y z = grind (arith, common_steps)
 
 -- the first patch of a prepared suggestion starts where its first edit does
 pub known_first_start : (p : PreparedSuggestion) → IsPrepared p → first_original p.splice.patches.items ≡ first_start (in_order (edits_of p.snippet.now))
@@ -76,9 +64,4 @@ known_first_end p is =
 pub known_first : (p : PreparedSuggestion) → IsPrepared p
     → p.map.first + (if p.snippet.now.fold then line_of (source_lines p.map.text) (first_original p.splice.patches.items) else 0)
     ≡ p.snippet.now.line_start + first_given p.snippet.now
-known_first p is =
-    let s = p.snippet.now in
-    let trimmed = p.splice.patches.items in
-    ap (λ m. m.first + (if s.fold then line_of (source_lines m.text) (first_original trimmed) else 0)) is.lines
-    ∙ ap (λ b. s.line_start + (if s.fold then line_of (source_lines (cow_str_bytes s.source.text)) b else 0))
-    (first_original-start trimmed (in_order (edits_of s)) is.originals)
+known_first p is = grind (arith, common_steps, first_original-start)

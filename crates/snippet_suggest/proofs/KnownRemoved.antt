@@ -1,11 +1,11 @@
 -- Which lines a suggestion that is prepared shows as removed, and their texts.
-use Rattle.snippet_suggest.proofs.Common.{◌==◌, ◌≡◌, ℕ, zero, suc, ◌+◌, ◌-◌, ◌≤◌, Bool, true, false, if◌then◌else◌, List, []}
-use Rattle.snippet_suggest.proofs.Common.{◌∷◌, length, map, take, refl, sym, ap, ◌∙◌, arith, cow_str_bytes, range_with_len, slice_index_or}
-use Rattle.snippet_suggest.proofs.Common.{bytes_eq, length-map, take-map, length-range_with_len, source_lines, text_at, line_of, LineInfo, table_entry}
-use Rattle.snippet_suggest.proofs.Common.{touched_entries, end_from, in_order, trimmed_edit_of, first_start, PreparedSuggestion, Diff, edits_of, emptied_lines}
-use Rattle.snippet_suggest.proofs.Common.{first_end, first_given, given_lines, last_reached, lines_touched, removed_lines, replaced_lines, shown_kind}
-use Rattle.snippet_suggest.proofs.Common.{trimmed_of, Removes, SuggestionRow, texts_of_source, last_removed, texts_at, unless_stays, counted_from, numbered_at}
-use Rattle.snippet_suggest.proofs.Common.{removed_from, IsPrepared, first_original, first_original_end, is_touched, capped_sum}
+use Rattle.snippet_suggest.proofs.Common.{◌==◌, ◌≡◌, ℕ, zero, suc, ◌+◌, ◌-◌, ◌≤◌, Bool, true, if◌then◌else◌, List, [], ◌∷◌, length, map, take, refl, sym, ap}
+use Rattle.snippet_suggest.proofs.Common.{◌∙◌, arith, cow_str_bytes, range_with_len, bytes_eq, length-map, take-map, length-range_with_len, source_lines}
+use Rattle.snippet_suggest.proofs.Common.{text_at, line_of, LineInfo, table_entry, touched_entries, end_from, trimmed_edit_of, first_start}
+use Rattle.snippet_suggest.proofs.Common.{PreparedSuggestion, Diff, emptied_lines, first_given, given_lines, last_reached, lines_touched, removed_lines}
+use Rattle.snippet_suggest.proofs.Common.{replaced_lines, shown_kind, trimmed_of, Removes, SuggestionRow, texts_of_source, last_removed, texts_at}
+use Rattle.snippet_suggest.proofs.Common.{unless_stays, counted_from, numbered_at, removed_from, IsPrepared, first_original, first_original_end, is_touched}
+use Rattle.snippet_suggest.proofs.Common.{capped_sum, common_steps, rules}
 use Rattle.snippet_suggest.proofs.ByKind.{removed_of}
 use Rattle.snippet_suggest.proofs.KnownLemmas.{known_first_end, known_first_start}
 use Rattle.snippet_suggest.proofs.ReachLemmas.{touched_numbered, touched_texts}
@@ -14,31 +14,19 @@ use Rattle.snippet_suggest.proofs.OrderLaws.{removed_row}
 -- the texts of the lines that a span touches are those of the source
 touched_source : (p : PreparedSuggestion) → IsPrepared p → (infos : List LineInfo) (start end : ℕ) → map table_entry infos ≡ touched_entries p.map start end
     → texts_at infos ≡ texts_of_source p.snippet.now (lines_touched (cow_str_bytes p.snippet.now.source.text) start end)
-touched_source p is infos start end are =
-    let text : p.map.text ≡ cow_str_bytes p.snippet.now.source.text = ap (λ m. m.text) is.lines in
-    touched_texts p.map infos start end are ∙ ap (λ (t : List ℕ). map (text_at (source_lines t)) (lines_touched t start end)) text
+touched_source p is infos start end are = grind (arith, touched_texts)
 
 -- those of the first patch's span, or of the whole source
 touched_either : (folds : Bool) (source : List ℕ) (start end size : ℕ)
     → lines_touched source (if folds then start else 0) (if folds then end else size)
     ≡ (if folds then lines_touched source start end else lines_touched source 0 size)
-touched_either true source start end size = refl
-touched_either false source start end size = refl
+touched_either x y z u v = search rules
 
 known_emptied : (p : PreparedSuggestion) → IsPrepared p → (start end : ℕ)
     → start ≡ (if p.snippet.now.fold then first_original p.splice.patches.items else 0)
     → end ≡ (if p.snippet.now.fold then first_original_end p.splice.patches.items else length p.map.text)
     → lines_touched (cow_str_bytes p.snippet.now.source.text) start end ≡ emptied_lines p.snippet.now
-known_emptied p is start end starts ends =
-    let s = p.snippet.now in
-    let source : List ℕ = cow_str_bytes s.source.text in
-    let first : ℕ = first_start (in_order (edits_of s)) in
-    let last : ℕ = first_end (in_order (edits_of s)) in
-    let from : start ≡ (if s.fold then first else 0) = starts ∙ ap (λ (n : ℕ). if s.fold then n else 0) (known_first_start p is) in
-    let to : end ≡ (if s.fold then last else length source) = ends ∙ ap (λ (n : ℕ). if s.fold then n else length p.map.text) (known_first_end p is)
-    ∙ ap (λ m. if s.fold then last else length m.text) is.lines in
-    ap (λ (n : ℕ). lines_touched source n end) from ∙ ap (λ (n : ℕ). lines_touched source (if s.fold then first else 0) n) to
-    ∙ touched_either s.fold source first last (length source)
+known_emptied p is start end starts ends = grind (arith, common_steps, known_first_start, known_first_end, touched_either)
 
 -- the rows of lines that are removed, where these stand one after the other in the source
 range_removed : (f : ℕ → ℕ × List ℕ) (a n : ℕ) → removed_from a (map f (range_with_len a n)) ≡ map (λ k. Removes k (f k).0 (f k).1) (range_with_len a n)
@@ -82,9 +70,7 @@ known_emptied_rows p is infos start end none starts ends are =
 
 -- the texts of some lines, without the last if that stays
 unless_stays-map : (stays : Bool) (f : ℕ → List ℕ) (ks : List ℕ) → unless_stays stays (map f ks) ≡ map f (unless_stays stays ks)
-unless_stays-map true f ks =
-    ap (λ (n : ℕ). take (n - 1) (map f ks)) (length-map ks f) ∙ take-map f (length ks - 1) ks
-unless_stays-map false f ks = refl
+unless_stays-map x y z = grind (arith, length-map, take-map)
 
 -- so many numbers that follow on one another, without the last if that stays
 take_range : (a n k : ℕ) → k ≤ n → take k (range_with_len a n) ≡ range_with_len a k
@@ -94,30 +80,20 @@ take_range a (suc n) (suc k) fits = ap (λ ks. a ∷ ks) (take_range (a + 1) n k
 
 -- a range without its last where that stays is a shorter range
 pub unless_range : (stays : Bool) (a n : ℕ) → unless_stays stays (range_with_len a n) ≡ range_with_len a (if stays then n - 1 else n)
-unless_range true a n =
-    ap (λ (k : ℕ). take (k - 1) (range_with_len a n)) (length-range_with_len a n) ∙ take_range a n (n - 1) (omega arith)
-unless_range false a n = refl
+unless_range x y z = grind (arith, length-range_with_len, take_range)
 
 -- where one line is given and a patch touches it, those from the first trimmed patch's start to the last one's end are removed,
 -- without the last if that stays
 removes_replaced : (p : PreparedSuggestion) → IsPrepared p → (line : List ℕ) → p.kind ≡ Diff → given_lines p.snippet.now ≡ line ∷ []
     → removed_lines p.snippet.now ≡ replaced_lines p.snippet.now
-removes_replaced p is line diff one =
-    let s = p.snippet.now in
-    ap (λ (ls : List (List ℕ)). removed_of ls (shown_kind s) (emptied_lines s) (replaced_lines s)) one
-    ∙ ap (λ k. removed_of (line ∷ []) k (emptied_lines s) (replaced_lines s)) (sym is.kind ∙ diff)
+removes_replaced p is line diff one = search rules
 
 -- lines are replaced where the given one is touched: those from the first edit to the last, but one that stays
 pub replaced_touched : (p : PreparedSuggestion) → IsPrepared p → (line : List ℕ) → given_lines p.snippet.now ≡ line ∷ []
     → true ≡ is_touched p.snippet.now.fold p.splice.ranges.items 0
     → replaced_lines p.snippet.now ≡ unless_stays (bytes_eq line (last_reached p.snippet.now))
     (lines_touched (cow_str_bytes p.snippet.now.source.text) (first_start (trimmed_of p.snippet.now)) (end_from 0 (trimmed_of p.snippet.now)))
-replaced_touched p is line one touches =
-    let s = p.snippet.now in
-    let ks : List ℕ = lines_touched (cow_str_bytes s.source.text) (first_start (trimmed_of s)) (end_from 0 (trimmed_of s)) in
-    ap (λ t. if t then unless_stays (bytes_eq (slice_index_or (given_lines s) 0 []) (last_reached s)) ks else [])
-    (ap (λ rs. is_touched s.fold rs 0) (sym is.ranges) ∙ sym touches)
-    ∙ ap (λ (ls : List (List ℕ)). unless_stays (bytes_eq (slice_index_or ls 0 []) (last_reached s)) ks) one
+replaced_touched p is line one touches = grind (arith, common_steps)
 
 -- those from the first trimmed patch's start to the last one's end
 pub known_replaced : (p : PreparedSuggestion) → IsPrepared p → (line : List ℕ) (infos : List LineInfo) (start end : ℕ)

@@ -1,38 +1,25 @@
 -- Marks as values: what the patches before one move, and the cells that the marks take.
-use Rattle.snippet_suggest.proofs.Common.{◌≡◌, ℕ, suc, ◌+◌, ◌-◌, ◌^◌, ◌<◌, ◌≤◌, leb, All, List, [], ◌∷◌, ◌++◌, length}
-use Rattle.snippet_suggest.proofs.Common.{min, replicate, take, get_or, refl, sym, ap, ◌∙◌, arith, inl, inr, cases_Bool, nat_tests, sum_by-append}
-use Rattle.snippet_suggest.proofs.Common.{ElementStyle, Addition, Cell, SPACE, text_cells, unlinked_cell, written, length-text_cells, cells_written}
-use Rattle.snippet_suggest.proofs.Common.{cells_written_last, Source, Edit, capped, SuggestionLayout, PatchColumns, put, length-replicate, map-append, places}
-use Rattle.snippet_suggest.proofs.Common.{same_lists, take_more, edit_columns, left_of, patch_mark_end, mark_glyph_of, mark_start, with_mark, with_marks}
+use Rattle.snippet_suggest.proofs.Common.{◌≡◌, ℕ, suc, ◌+◌, ◌-◌, ◌^◌, ◌<◌, ◌≤◌, All, List, [], ◌∷◌, ◌++◌, length, min, replicate, take, get_or, refl, sym, ap}
+use Rattle.snippet_suggest.proofs.Common.{◌∙◌, arith, nat_tests, sum_by-append, ElementStyle, Addition, Cell, SPACE, text_cells, unlinked_cell, written}
+use Rattle.snippet_suggest.proofs.Common.{length-text_cells, cells_written, cells_written_last, Source, Edit, capped, SuggestionLayout, PatchColumns, put}
+use Rattle.snippet_suggest.proofs.Common.{length-replicate, map-append, places, same_lists, take_more, edit_columns, left_of, patch_mark_end, mark_glyph_of}
+use Rattle.snippet_suggest.proofs.Common.{mark_start, with_mark, with_marks, common_steps, rules}
 use Rattle.std.proofs.Common.{sum_by}
 use Rattle.snippet_suggest.proofs.PutLemmas.{put_none}
 
 -- ---- what patches move
 
 left_more : (cs : List PatchColumns) (c : PatchColumns) → capped (sum_by (λ c. c.end) (cs ++ c ∷ [])) ≡ capped (capped (sum_by (λ c. c.end) cs) + c.end)
-left_more cs c =
-    let f : PatchColumns → ℕ = λ d. d.end in
-    let all : sum_by f (cs ++ c ∷ []) ≡ sum_by f cs + (0 + c.end) = sum_by-append f cs (c ∷ []) in
-    omega (arith, all)
+left_more cs c = grind (arith, sum_by-append)
 
 -- those that end at a column or left of it, one more
 pub left_yes : (start : ℕ) (cs : List PatchColumns) (c : PatchColumns) → c.end ≤ start → left_of start (cs ++ c ∷ []) ≡ left_of start cs ++ c ∷ []
 left_yes start [] c low = grind (arith, nat_tests)
-left_yes start (d ∷ cs) c low =
-    let rest = left_yes start cs c low in
-    elim (cases_Bool (leb d.end start)) [
-      | inl held ↦ grind (arith, nat_tests)
-      | inr other ↦ grind (arith, nat_tests)
-    ]
+left_yes start (d ∷ cs) c low = grind (arith, common_steps, left_yes start cs c low)
 
 pub left_no : (start : ℕ) (cs : List PatchColumns) (c : PatchColumns) → start < c.end → left_of start (cs ++ c ∷ []) ≡ left_of start cs
 left_no start [] c high = grind (arith, nat_tests)
-left_no start (d ∷ cs) c high =
-    let rest = left_no start cs c high in
-    elim (cases_Bool (leb d.end start)) [
-      | inl held ↦ grind (arith, nat_tests)
-      | inr other ↦ grind (arith, nat_tests)
-    ]
+left_no start (d ∷ cs) c high = grind (arith, common_steps, left_no start cs c high)
 
 -- one more text that ends at the start or left of it is one more of those left of it
 pub left_next : (start : ℕ) (cs : List PatchColumns) (i : ℕ) (d : PatchColumns) → i < length cs → (get_or cs i d).end ≤ start
@@ -64,9 +51,7 @@ written_twice row at xs y =
 put_push : (role : ElementStyle) (cs : List ℕ) (c at : ℕ) (row : List Cell)
     → written SPACE (put role cs at row) (at + length cs) (text_cells role (c ∷ [])) ≡ put role (cs ++ c ∷ []) at row
 unfolding put
-put_push role [] c at row =
-    let here : at + 0 ≡ at = omega arith in
-    ap (λ n. written SPACE row n (text_cells role (c ∷ []))) here
+put_push role [] c at row = search rules
 put_push role (d ∷ cs) c at row =
     let xs : List Cell = text_cells role (d ∷ cs) in
     let long : length (d ∷ cs) ≡ length xs = sym (length-text_cells role (d ∷ cs)) in
@@ -80,30 +65,21 @@ replicate_push n c = same_lists _ _ (grind (arith, places)) (λ k d h. grind (ar
 -- so many marks are there
 pub marks_begun : (mark at n : ℕ) (above : List (List Cell)) (last : List Cell) (now : List (List Cell)) → n ≡ 0 → now ≡ above ++ last ∷ []
     → now ≡ above ++ put Addition (replicate n mark) at last ∷ []
-marks_begun mark at n above last now none is =
-    is ∙ ap (λ (row : List Cell). above ++ row ∷ []) (sym (ap (λ k. put Addition (replicate k mark) at last) none ∙ put_none Addition at last))
+marks_begun mark at n above last now none is = grind (arith, replicate, put_none)
 
 -- with one more cell written the marks are one more
 pub marks_next : (mark at cell n m r : ℕ) (above : List (List Cell)) (last : List Cell) (now new : List (List Cell)) → r ≡ length above
     → cell ≡ at + n → m ≡ n + 1 → now ≡ above ++ put Addition (replicate n mark) at last ∷ []
     → new ≡ cells_written now r cell (text_cells Addition (mark ∷ [])) → new ≡ above ++ put Addition (replicate m mark) at last ∷ []
 marks_next mark at cell n m r above last now new here cell_is m_is is writes =
-    let row : List Cell = put Addition (replicate n mark) at last in
-    let one : List Cell = text_cells Addition (mark ∷ []) in
-    let there : cell ≡ at + length (replicate n mark) = omega (arith, cell_is, length-replicate n mark) in
-    writes ∙ ap (λ (rows : List (List Cell)). cells_written rows r cell one) is ∙ ap (λ k. cells_written (above ++ row ∷ []) k cell one) here
-    ∙ cells_written_last above row cell one ∙ ap (λ k. above ++ written SPACE row k one ∷ []) there
-    ∙ ap (λ (now : List Cell). above ++ now ∷ [])
-    (put_push Addition (replicate n mark) mark at last
-    ∙ ap (λ cs. put Addition cs at last) (replicate_push n mark ∙ ap (λ k. replicate k mark) (sym m_is)))
+    grind (arith, common_steps, replicate, length-replicate, cells_written_last, put_push, replicate_push)
 
 -- once as many marks stand as the text has columns, the row has its marks
 pub marks_done : (layout : SuggestionLayout) (mark start end n : ℕ) (above : List (List Cell)) (last : List Cell) (now : List (List Cell))
     → n ≡ min end (2 ^ 60) - start → now ≡ above ++ put Addition (replicate n mark) (layout.base.gutter + 3 + start) last ∷ []
     → now ≡ above ++ with_mark layout mark start end last ∷ []
 unfolding with_mark
-marks_done layout mark start end n above last now n_is is =
-    is ∙ ap (λ k. above ++ put Addition (replicate k mark) (layout.base.gutter + 3 + start) last ∷ []) n_is
+marks_done layout mark start end n above last now n_is is = grind (arith, replicate)
 
 -- ---- the marks of some edits
 
@@ -131,22 +107,9 @@ pub marked_next : (layout : SuggestionLayout) (s : Source) (earlier later : List
     → end ≡ patch_mark_end earlier (edit_columns s e) e.text → new ≡ above ++ with_mark layout mark start end so_far.row ∷ []
     → Marked layout s later es all above new
 marked_next layout s earlier later e left es all above now new mark start end so_far first more mark_is start_is end_is adds =
-    let row : List Cell = so_far.row in
-    let c : PatchColumns = edit_columns s e in
-    let Drawn : ℕ → ℕ → ℕ → List Cell = λ m i j. with_mark layout m i j row in
-    let row_is : Drawn mark start end ≡ Drawn (mark_glyph_of layout.base.decor s.text e) (mark_start earlier c e.text) (patch_mark_end earlier c e.text) =
-    ap (λ m. Drawn m start end) mark_is ∙ ap (λ i. Drawn (mark_glyph_of layout.base.decor s.text e) i end) start_is
-    ∙ ap (Drawn (mark_glyph_of layout.base.decor s.text e) (mark_start earlier c e.text)) end_is in
-    record {
-      row = Drawn mark start end;
-      is = adds;
-      whole = ap (λ cs. with_marks layout s cs es (Drawn mark start end)) more ∙ ap (with_marks layout s (earlier ++ c ∷ []) es) row_is
-          ∙ sym (marks-cons layout s earlier e es row) ∙ ap (λ ds. with_marks layout s earlier ds row) (sym first) ∙ so_far.whole;
-    }
+    grind (arith, common_steps, marks-cons)
 
 -- once no edit is left the row has all marks
 pub marked_done : (layout : SuggestionLayout) (s : Source) (earlier : List PatchColumns) (left : List Edit) (all : List Cell) (above now : List (List Cell))
     → left ≡ [] → Marked layout s earlier left all above now → now ≡ above ++ all ∷ []
-marked_done layout s earlier left all above now none drawn =
-    drawn.is ∙ ap (λ (row : List Cell). above ++ row ∷ []) (sym (marks-nil layout s earlier drawn.row)
-    ∙ ap (λ ds. with_marks layout s earlier ds drawn.row) (sym none) ∙ drawn.whole)
+marked_done layout s earlier left all above now none drawn = grind (arith, marks-nil)

@@ -1,12 +1,11 @@
 -- What the rows of a suggestion show in order: by cases, and which lines they offer and show as removed.
-use Rattle.snippet_suggest.proofs.Common.{◌≡◌, ◌≢◌, ℕ, ◌≤◌, Bool, true, false, if◌then◌else◌, List, [], ◌∷◌, ◌++◌, All}
-use Rattle.snippet_suggest.proofs.Common.{length, map, refl, sym, ap, ◌∙◌, arith, cow_str_bytes, append-nil, length-map, All-append, All-cons, All-nil}
-use Rattle.snippet_suggest.proofs.Common.{filter_map-append, Snippet, Patch, lines_of, source_lines, text_at, LineRange, DisplaySuggestion, Add, Diff, Plain}
-use Rattle.snippet_suggest.proofs.Common.{Underline, SuggestionStart, SuggestionLine, Gap, Line, emptied_lines, given_lines, given_ranges, given_text}
-use Rattle.snippet_suggest.proofs.Common.{is_left_out, last_reached, removed_lines, replaced_lines, shown_kind, trimmed_of, Begins, Empty, Ends, Offers}
-use Rattle.snippet_suggest.proofs.Common.{Removes, Skips, SuggestionRow, removed_number, rows_of_suggestion, is_touched, shown_from, numbers_given, numbers_of}
-use Rattle.snippet_suggest.proofs.Common.{line_taken, lines_taken, number_offered, numbers_offered, numbers_shown}
-use Rattle.snippet_suggest.proofs.ByKind.{counted_folded, removed_of, row_of_shown, rows_where}
+use Rattle.snippet_suggest.proofs.Common.{◌≡◌, ◌≢◌, ℕ, ◌≤◌, Bool, true, false, if◌then◌else◌, List, [], ◌∷◌, ◌++◌, All, length, map, refl, ap, ◌∙◌, arith}
+use Rattle.snippet_suggest.proofs.Common.{cow_str_bytes, append-nil, length-map, All-append, All-cons, All-nil, filter_map-append, Snippet, Patch}
+use Rattle.snippet_suggest.proofs.Common.{source_lines, text_at, LineRange, DisplaySuggestion, Diff, SuggestionStart, SuggestionLine, Gap, Line}
+use Rattle.snippet_suggest.proofs.Common.{emptied_lines, given_lines, given_ranges, is_left_out, last_reached, removed_lines, replaced_lines, shown_kind}
+use Rattle.snippet_suggest.proofs.Common.{Begins, Empty, Ends, Offers, Removes, Skips, SuggestionRow, removed_number, rows_of_suggestion, is_touched}
+use Rattle.snippet_suggest.proofs.Common.{shown_from, numbers_given, numbers_of, lines_taken, numbers_offered, numbers_shown, common_steps, rules}
+use Rattle.snippet_suggest.proofs.ByKind.{removed_of, row_of_shown, rows_where}
 use Rattle.snippet_suggest.proofs.GutterFits.{one_given}
 use Rattle.snippet_suggest.proofs.KnownNumbers.{diff_numbers, none_numbers}
 
@@ -15,24 +14,15 @@ use Rattle.snippet_suggest.proofs.KnownNumbers.{diff_numbers, none_numbers}
 -- where no line is given, and where some are, the rows of any kind but a diff
 none_where : (kind : DisplaySuggestion) (begin : SuggestionRow) (removed changed shown : List SuggestionRow) → kind ≢ Diff
     → rows_where [] kind begin removed changed shown ≡ removed
-none_where Diff begin removed changed shown other = absurd (other refl)
-none_where Underline begin removed changed shown other = refl
-none_where Plain begin removed changed shown other = refl
-none_where Add begin removed changed shown other = refl
+none_where x y z u v w = search rules
 
 some_where : (line : List ℕ) (lines : List (List ℕ)) (kind : DisplaySuggestion) (begin : SuggestionRow) (removed changed shown : List SuggestionRow)
     → kind ≢ Diff → rows_where (line ∷ lines) kind begin removed changed shown ≡ begin ∷ shown
-some_where line lines Diff begin removed changed shown other = absurd (other refl)
-some_where line lines Underline begin removed changed shown other = refl
-some_where line lines Plain begin removed changed shown other = refl
-some_where line lines Add begin removed changed shown other = refl
+some_where x y z u v w a b = grind (arith)
 
 -- no line is left out but of a diff
 pub none_left_out : (kind : DisplaySuggestion) (lines : List (List ℕ)) (last : List ℕ) → kind ≢ Diff → is_left_out kind lines last ≡ false
-none_left_out Diff lines last other = absurd (other refl)
-none_left_out Underline lines last other = refl
-none_left_out Plain lines last other = refl
-none_left_out Add lines last other = refl
+none_left_out x y z u = search rules
 
 -- the row of line i of the source, as removed
 abbrev pub removed_row : Snippet Patch → ℕ → SuggestionRow
@@ -61,9 +51,7 @@ module _ (start : SuggestionStart) (s : Snippet Patch) where
 
   by_case : (lines : List (List ℕ)) (kind : DisplaySuggestion) → given_lines s ≡ lines → shown_kind s ≡ kind
       → rows_of_suggestion start s ≡ rows_where lines kind (Begins start) taken in_diff offered
-  by_case lines kind lines_are kind_is =
-      ap (λ ls. rows_where ls (shown_kind s) (Begins start) taken in_diff offered) lines_are
-      ∙ ap (λ k. rows_where lines k (Begins start) taken in_diff offered) kind_is
+  by_case lines kind lines_are kind_is = search rules
 
   -- where no line is given
   pub rows_none_diff : given_lines s ≡ [] → shown_kind s ≡ Diff → rows_of_suggestion start s ≡ Begins start ∷ map (removed_row s) (removed_lines s)
@@ -77,17 +65,12 @@ module _ (start : SuggestionStart) (s : Snippet Patch) where
   pub rows_diff : (line : List ℕ) (lines : List (List ℕ)) (touched left : Bool) → given_lines s ≡ line ∷ lines → shown_kind s ≡ Diff
       → is_touched s.fold (given_ranges s) 0 ≡ touched → is_left_out Diff (line ∷ lines) (last_reached s) ≡ left
       → rows_of_suggestion start s ≡ Begins start ∷ changed_rows touched left (map (removed_row s) (removed_lines s))
-  rows_diff line lines touched left some diff touches leaves =
-      let left_is : left_out ≡ left = ap (λ k. is_left_out k (given_lines s) (last_reached s)) diff ∙ ap (λ ls. is_left_out Diff ls (last_reached s)) some
-      ∙ leaves in
-      by_case (line ∷ lines) Diff some diff ∙ ap (λ t. Begins start ∷ changed_rows t left_out taken) touches
-      ∙ ap (λ l. Begins start ∷ changed_rows touched l taken) left_is
+  rows_diff line lines touched left some diff touches leaves = grind (arith, by_case)
 
   -- in another kind
   pub rows_others : (line : List ℕ) (lines : List (List ℕ)) → given_lines s ≡ line ∷ lines → shown_kind s ≢ Diff
       → rows_of_suggestion start s ≡ Begins start ∷ map row_of_shown (shown_from (is_touched s.fold (given_ranges s)) 0 0 (length (given_lines s)))
-  rows_others line lines some other =
-      by_case (line ∷ lines) (shown_kind s) some refl ∙ some_where line lines (shown_kind s) (Begins start) taken in_diff offered other
+  rows_others line lines some other = grind (arith, by_case, some_where)
 
 -- ---- laws
 
@@ -112,15 +95,11 @@ removed_take s (i ∷ is) = ap (λ ks. i ∷ ks) (removed_take s is)
 -- the rows of a diff
 changed_offer : (touched left : Bool) (removed : List SuggestionRow) → numbers_offered removed ≡ []
     → numbers_offered (changed_rows touched left removed) ≡ (if touched then (if left then [] else 0 ∷ []) else [])
-changed_offer true true removed none = filter_map-append number_offered removed [] ∙ ap (λ ks. ks ++ []) none
-changed_offer true false removed none = filter_map-append number_offered removed (Offers 0 ∷ []) ∙ ap (λ ks. ks ++ 0 ∷ []) none
-changed_offer false left removed none = refl
+changed_offer x y z u = grind (arith, filter_map-append)
 
 changed_take : (touched left : Bool) (removed : List SuggestionRow) (ks : List ℕ) → lines_taken removed ≡ ks → (touched ≡ false → ks ≡ [])
     → lines_taken (changed_rows touched left removed) ≡ ks
-changed_take true true removed ks taken untouched = filter_map-append line_taken removed [] ∙ append-nil (lines_taken removed) ∙ taken
-changed_take true false removed ks taken untouched = filter_map-append line_taken removed (Offers 0 ∷ []) ∙ append-nil (lines_taken removed) ∙ taken
-changed_take false left removed ks taken untouched = sym (untouched refl)
+changed_take x y z u v w = grind (arith, filter_map-append, append-nil)
 
 -- a line is offered for each number that is given, in order
 offered_where : (kind : DisplaySuggestion) (lines : List (List ℕ)) (folds : Bool) (ranges : List LineRange) (last : List ℕ) (start : SuggestionStart)
@@ -128,29 +107,10 @@ offered_where : (kind : DisplaySuggestion) (lines : List (List ℕ)) (folds : Bo
     → numbers_offered (rows_where lines kind (Begins start)
     removed (changed_rows (is_touched folds ranges 0) (is_left_out kind lines last) removed)
     (map row_of_shown (shown_from (is_touched folds ranges) 0 0 (length lines)))) ≡ numbers_of kind folds ranges lines last
-offered_where Diff [] folds ranges last start removed none few = none ∙ sym (none_numbers Diff folds ranges last)
-offered_where Underline [] folds ranges last start removed none few = none ∙ sym (none_numbers Underline folds ranges last)
-offered_where Plain [] folds ranges last start removed none few = none ∙ sym (none_numbers Plain folds ranges last)
-offered_where Add [] folds ranges last start removed none few = none ∙ sym (none_numbers Add folds ranges last)
-offered_where Diff (line ∷ []) folds ranges last start removed none few =
-    changed_offer (is_touched folds ranges 0) (is_left_out Diff (line ∷ []) last) removed none
-    ∙ sym (diff_numbers folds ranges line last (is_touched folds ranges 0) refl)
-offered_where Diff (line ∷ other ∷ lines) folds ranges last start removed none few = absurd (omega (arith, few refl))
-offered_where Underline (line ∷ lines) folds ranges last start removed none few =
-    shown_offer (shown_from (is_touched folds ranges) 0 0 (length (line ∷ lines)))
-offered_where Plain (line ∷ lines) folds ranges last start removed none few =
-    shown_offer (shown_from (is_touched folds ranges) 0 0 (length (line ∷ lines)))
-offered_where Add (line ∷ lines) folds ranges last start removed none few =
-    shown_offer (shown_from (is_touched folds ranges) 0 0 (length (line ∷ lines)))
+offered_where x y z u v w a b c = grind (arith, common_steps, none_numbers, changed_offer, diff_numbers, shown_offer)
 
 few_in_diff : (s : Snippet Patch) → shown_kind s ≡ Diff → length (given_lines s) ≤ 1
-few_in_diff s diff =
-    omega (
-      arith,
-      one_given (cow_str_bytes s.source.text) (trimmed_of s) (given_text s) (ap (λ k. counted_folded k 0 0 1) diff),
-      length-map
-          (lines_of (given_text s)) (λ l. l.0),
-    )
+few_in_diff s diff = grind (arith, common_steps, one_given, length-map)
 
 -- the rows of a suggestion offer the numbers that are given, in order
 pub rows-offer : (start : SuggestionStart) (s : Snippet Patch) → numbers_offered (rows_of_suggestion start s) ≡ numbers_given s
@@ -164,19 +124,10 @@ taken_where : (kind : DisplaySuggestion) (lines : List (List ℕ)) (touched left
     → (touched ≡ false → replaced ≡ []) → lines_taken
     (rows_where lines kind (Begins start) removed (changed_rows touched left removed) (map row_of_shown shown))
     ≡ removed_of lines kind emptied replaced
-taken_where Diff [] touched left start removed shown emptied replaced taken untouched = taken
-taken_where Underline [] touched left start removed shown emptied replaced taken untouched = taken
-taken_where Plain [] touched left start removed shown emptied replaced taken untouched = taken
-taken_where Add [] touched left start removed shown emptied replaced taken untouched = taken
-taken_where Diff (line ∷ lines) touched left start removed shown emptied replaced taken untouched =
-    changed_take touched left removed replaced taken untouched
-taken_where Underline (line ∷ lines) touched left start removed shown emptied replaced taken untouched = shown_take shown
-taken_where Plain (line ∷ lines) touched left start removed shown emptied replaced taken untouched = shown_take shown
-taken_where Add (line ∷ lines) touched left start removed shown emptied replaced taken untouched = shown_take shown
+taken_where x y z u v w a b c d e = grind (arith, common_steps, changed_take, shown_take)
 
 none_untouched : (touched : Bool) (ks : List ℕ) → touched ≡ false → ◌≡◌ {A = List ℕ} (if touched then ks else []) []
-none_untouched true ks untouched = absurd (cc)
-none_untouched false ks untouched = refl
+none_untouched x y z = grind (arith)
 
 -- the rows of a suggestion show as removed the lines that are removed, in order
 pub rows-take : (start : SuggestionStart) (s : Snippet Patch) → lines_taken (rows_of_suggestion start s) ≡ removed_lines s
@@ -214,14 +165,7 @@ changed_own s false left removed own = All-cons (IsRowOf s) Empty [] tt (All-nil
 
 own_where : (s : Snippet Patch) (lines : List (List ℕ)) (kind : DisplaySuggestion) (start : SuggestionStart) (removed changed shown : List SuggestionRow)
     → All (IsRowOf s) removed → All (IsRowOf s) changed → All (IsRowOf s) shown → All (IsRowOf s) (rows_where lines kind (Begins start) removed changed shown)
-own_where s [] Diff start removed changed shown r c o = All-cons (IsRowOf s) (Begins start) removed tt r
-own_where s [] Underline start removed changed shown r c o = r
-own_where s [] Plain start removed changed shown r c o = r
-own_where s [] Add start removed changed shown r c o = r
-own_where s (line ∷ lines) Diff start removed changed shown r c o = All-cons (IsRowOf s) (Begins start) changed tt c
-own_where s (line ∷ lines) Underline start removed changed shown r c o = All-cons (IsRowOf s) (Begins start) shown tt o
-own_where s (line ∷ lines) Plain start removed changed shown r c o = All-cons (IsRowOf s) (Begins start) shown tt o
-own_where s (line ∷ lines) Add start removed changed shown r c o = All-cons (IsRowOf s) (Begins start) shown tt o
+own_where x y z u v w a b c d = grind (arith, common_steps)
 
 -- each row of a suggestion is one that a row of it may be
 pub rows-own : (start : SuggestionStart) (s : Snippet Patch) → All (IsRowOf s) (rows_of_suggestion start s)

@@ -1,11 +1,10 @@
 -- A line that is put into a row part by part, where some of it has a role.
-use Rattle.snippet_suggest.proofs.Common.{◌≡◌, ℕ, zero, suc, ◌+◌, ◌-◌, ◌≤◌, ◌<◌, ◌==◌, true, List, [], ◌∷◌, ◌++◌}
-use Rattle.snippet_suggest.proofs.Common.{length, map, max, take, drop, replicate, get_or, refl, sym, All, ap, ◌∙◌, arith, count_by, subst, nat_tests}
-use Rattle.snippet_suggest.proofs.Common.{append-nil, get_or-drop, get_or-take, length-append, length-drop, length-map, length-take, places, same_lists}
-use Rattle.snippet_suggest.proofs.Common.{take_all, drop_more, take_more, IsCharBoundary, max_usize, ElementStyle, NoStyle, Cell, SPACE, text_cells}
-use Rattle.snippet_suggest.proofs.Common.{unlinked_cell, written, length-text_cells, length-written, text_cells-append, norm, IsPlain, norm-unlisted}
-use Rattle.snippet_suggest.proofs.Common.{chars-plain, list_any-plain, changed_within, restyled, SubstitutionHighlight, put, stretch_cell, with_stretches}
-use Rattle.snippet_suggest.proofs.Common.{AreInOrder}
+use Rattle.snippet_suggest.proofs.Common.{◌≡◌, ℕ, zero, suc, ◌+◌, ◌-◌, ◌≤◌, ◌<◌, ◌==◌, true, List, [], ◌∷◌, ◌++◌, length, map, max, take, drop, replicate}
+use Rattle.snippet_suggest.proofs.Common.{get_or, refl, sym, All, ap, ◌∙◌, arith, count_by, nat_tests, append-nil, get_or-drop, get_or-take, length-append}
+use Rattle.snippet_suggest.proofs.Common.{length-drop, length-map, length-take, places, same_lists, take_all, drop_more, take_more, IsCharBoundary, max_usize}
+use Rattle.snippet_suggest.proofs.Common.{ElementStyle, NoStyle, Cell, SPACE, text_cells, unlinked_cell, written, length-text_cells, length-written}
+use Rattle.snippet_suggest.proofs.Common.{text_cells-append, norm, IsPlain, norm-unlisted, chars-plain, list_any-plain, changed_within, restyled}
+use Rattle.snippet_suggest.proofs.Common.{SubstitutionHighlight, put, stretch_cell, with_stretches, AreInOrder, common_steps}
 use Rattle.std.proofs.Common.{chars}
 use Rattle.snippet_suggest.proofs.StretchRows.{empty_stretch, with_append, with_none}
 
@@ -78,9 +77,7 @@ put_append role (x ∷ xs) (y ∷ ys) at row =
 put_restyled : (role : ElementStyle) (cs : List ℕ) (at : ℕ) (row : List Cell)
     → changed_within (restyled role true) at (at + length cs) (put NoStyle cs at row) ≡ put role cs at row
 unfolding put
-put_restyled role [] at row =
-    let same : at + 0 ≡ at = omega arith in
-    ap (λ n. changed_within (restyled role true) at n row) same ∙ empty_stretch (restyled role true) at row
+put_restyled role [] at row = grind (arith, empty_stretch)
 put_restyled role (c ∷ cs) at row =
     let f = restyled role true in
     let cells = text_cells NoStyle (c ∷ cs) in
@@ -156,17 +153,10 @@ pub plain_border : (line : List ℕ) (k : ℕ) → All IsPlain line → k ≤ le
 plain_border line k all within = (within, λ inside high. let low : get_or line k 0 < 127 = (all k 0 inside).1 in absurd (omega (arith, low, high)))
 
 pub plain_part : (line : List ℕ) (from count : ℕ) → All IsPlain line → chars (take count (drop from line)) ≡ take count (drop from line)
-plain_part line from count all =
-    let part = take count (drop from line) in
-    chars-plain part (λ j d h.
-    let few : j < count = omega (arith, h, length-take count (drop from line)) in
-    let within : from + j < length line = omega (arith, h, length-take count (drop from line), length-drop from line) in
-    subst IsPlain (sym (get_or-take count (drop from line) j d few ∙ get_or-drop from line j d)) (all (from + j) d within))
+plain_part line from count all = grind (arith, common_steps, chars-plain, length-take, length-drop, get_or-take, get_or-drop)
 
 pub plain_rest : (line : List ℕ) (from : ℕ) → All IsPlain line → chars (drop from line) ≡ drop from line
-plain_rest line from all =
-    chars-plain (drop from line) (λ j d h.
-    subst IsPlain (sym (get_or-drop from line j d)) (all (from + j) d (omega (arith, h, length-drop from line))))
+plain_rest line from all = grind (arith, chars-plain, get_or-drop, length-drop)
 
 norm-plain_line : (line : List ℕ) → All IsPlain line → norm (chars line) ≡ line
 norm-plain_line line all = norm-unlisted (chars line) (list_any-plain line all) ∙ chars-plain line all
@@ -187,9 +177,7 @@ pub record NextInOrder (end at : ℕ) (s : SubstitutionHighlight) (ss : List Sub
 
 pub next_in_order : (end at : ℕ) (ss : List SubstitutionHighlight) (i : ℕ) (d : SubstitutionHighlight) → i < length ss → AreInOrder end at (drop i ss)
     → NextInOrder end at (get_or ss i d) (drop (i + 1) ss)
-next_in_order end at ss i d within order =
-    let next = subst (AreInOrder end at) (drop_more ss i d within) order in
-    record { low = next.0; high = next.1; inside = in_order_within end (get_or ss i d).end (drop (i + 1) ss) next.2; rest = next.2 }
+next_in_order end at ss i d within order = grind (arith, drop_more, in_order_within)
 
 -- ---- the line
 
@@ -204,13 +192,7 @@ pub record ArePut (role : ElementStyle) (g : ℕ) (line : List ℕ) (ss : List S
 -- none were
 pub put_none_yet : (role : ElementStyle) (g : ℕ) (line : List ℕ) (ss : List SubstitutionHighlight) (above : List (List Cell)) (last : List Cell)
     (rows : List (List Cell)) → rows ≡ above ++ last ∷ [] → ArePut role g line (take 0 ss) 0 above last rows
-put_none_yet role g line ss above last rows is =
-    let same : g + 3 + 0 ≡ g + 3 = omega arith in
-    record {
-      row = last;
-      is = is;
-      left = ap (λ n. put NoStyle line n last) same ∙ sym (with_none role g line (put NoStyle line (g + 3) last));
-    }
+put_none_yet role g line ss above last rows is = grind (arith, common_steps, with_none)
 
 -- one more was
 pub put_one_more : (role : ElementStyle) (g : ℕ) (line : List ℕ) (ss : List SubstitutionHighlight) (i : ℕ) (d : SubstitutionHighlight) (at : ℕ)
@@ -248,7 +230,4 @@ pub put_all : (role : ElementStyle) (g : ℕ) (line : List ℕ) (ss : List Subst
     (old rows : List (List Cell)) (p : ArePut role g line (take i ss) at above last old) → length ss ≤ i → All IsPlain line
     → rows ≡ above ++ put NoStyle (drop at line) (g + 3 + at) p.row ∷ []
     → rows ≡ above ++ with_stretches role g (chars line) ss (put NoStyle (norm (chars line)) (g + 3) last) ∷ []
-put_all role g line ss i at above last old rows p done all is =
-    is ∙ ap (λ (r : List Cell). above ++ r ∷ []) (p.left ∙ ap (λ t. with_stretches role g line t (put NoStyle line (g + 3) last)) (take_all i ss done)
-    ∙ ap (λ t. with_stretches role g line ss (put NoStyle t (g + 3) last)) (sym (norm-plain_line line all))
-    ∙ ap (λ t. with_stretches role g t ss (put NoStyle (norm (chars line)) (g + 3) last)) (sym (chars-plain line all)))
+put_all role g line ss i at above last old rows p done all is = grind (arith, take_all, norm-plain_line, chars-plain)

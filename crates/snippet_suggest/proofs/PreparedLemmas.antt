@@ -7,15 +7,11 @@ use Rattle.snippet_suggest.proofs.Common.{DisplaySuggestion, counted_line, edits
 use Rattle.snippet_suggest.proofs.Common.{numbered_source, IsSuggestible, first_original}
 use Rattle.snippet_lines.specs.Lines.{Line}
 use Rattle.snippet_suggest.proofs.ByKind.{counted_folded}
+use Rattle.snippet_suggest.proofs.Common.{common_steps}
 
 -- the first of the trimmed patches started where the first edit does
 pub first_original-start : (ts : List TrimmedPatch) (os : List Edit) → map original_bounds_of ts ≡ map edit_bounds os → first_original ts ≡ first_start os
-first_original-start [] [] same = refl
-first_original-start [] (o ∷ os) same = absurd (cc)
-first_original-start (t ∷ ts) [] same = absurd (cc)
-first_original-start (t ∷ ts) (o ∷ os) same =
-    let pair : ◌≡◌ {A = ℕ × ℕ} (original_bounds_of t) (edit_bounds o) = cc in
-    ap (λ p. p.0) pair
+first_original-start x y z = grind (arith, common_steps)
 
 -- where the first of them starts and ends
 pub first_original-of : (ts : List TrimmedPatch) (t : TrimmedPatch) → slice_get ts 0 ≡ Some t → t.original_span.start ≡ first_original ts

@@ -1,13 +1,12 @@
 -- Rows as values: what the texts that are put into them make of them.
-use Rattle.snippet_suggest.proofs.Common.{◌≡◌, ◌≢◌, ℕ, ◌+◌, ◌-◌, ◌<◌, ◌≤◌, Bool, List, [], ◌∷◌, ◌++◌, length}
-use Rattle.snippet_suggest.proofs.Common.{replicate, refl, sym, ap, ◌∙◌, arith, append_assoc, append-nil, chars-nil, encodes-chars, IsUtf8, DecorStyle}
-use Rattle.snippet_suggest.proofs.Common.{Ascii, Unicode, ElementStyle, Addition, LineNumber, NoStyle, Removal, Cell, SPACE, text_cells, written}
-use Rattle.snippet_suggest.proofs.Common.{placeholder_of, removed_sign_of, length-chars_le, length-text_cells, cells_written, row_at, cells_written_below}
-use Rattle.snippet_suggest.proofs.Common.{cells_written_last, norm, width_of, shown_number, SuggestionGlyph, SuggestionLayout, SubstitutionHighlight}
-use Rattle.snippet_suggest.proofs.Common.{DisplaySuggestion, Diff, Next, Opening, Path, begin_cells, end_cells, gap_cells, line_cells, offered_cells, put}
-use Rattle.snippet_suggest.proofs.Common.{removed_cells, opened_cells, lines_shown, row_shown, sign_of, with_stretches, SuggestedText, Line, line_stretches}
-use Rattle.snippet_suggest.proofs.Common.{slice_index_or, end_glyph, get_or_past, length-map, places, same_lists, suggestion_glyph_of, suggestion_role_of}
-use Rattle.snippet_suggest.proofs.Common.{capped_sum}
+use Rattle.snippet_suggest.proofs.Common.{◌≡◌, ◌≢◌, ℕ, ◌+◌, ◌-◌, ◌<◌, ◌≤◌, Bool, List, [], ◌∷◌, ◌++◌, length, replicate, refl, sym, ap, ◌∙◌, arith}
+use Rattle.snippet_suggest.proofs.Common.{append_assoc, append-nil, chars-nil, encodes-chars, IsUtf8, DecorStyle, ElementStyle, Addition, LineNumber, NoStyle}
+use Rattle.snippet_suggest.proofs.Common.{Removal, Cell, SPACE, text_cells, written, placeholder_of, removed_sign_of, length-chars_le, length-text_cells}
+use Rattle.snippet_suggest.proofs.Common.{cells_written, row_at, cells_written_below, cells_written_last, norm, width_of, shown_number, SuggestionGlyph}
+use Rattle.snippet_suggest.proofs.Common.{SuggestionLayout, SubstitutionHighlight, DisplaySuggestion, Diff, Next, Opening, Path, begin_cells, end_cells}
+use Rattle.snippet_suggest.proofs.Common.{gap_cells, line_cells, offered_cells, put, removed_cells, opened_cells, lines_shown, row_shown, sign_of}
+use Rattle.snippet_suggest.proofs.Common.{with_stretches, SuggestedText, Line, line_stretches, slice_index_or, end_glyph, get_or_past, length-map, places}
+use Rattle.snippet_suggest.proofs.Common.{same_lists, suggestion_glyph_of, suggestion_role_of, capped_sum, common_steps, rules}
 use Rattle.std.proofs.Common.{chars}
 use lib.Utf8.{encodes}
 use Rattle.snippet_style.specs.declared.glyphs.SuggestionGlyph.TheVariants as sign
@@ -24,31 +23,25 @@ put_none role at row = refl
 
 pub put_some : (role : ElementStyle) (cs : List ℕ) (at : ℕ) (row : List Cell) → cs ≢ [] → put role cs at row ≡ written SPACE row at (text_cells role cs)
 unfolding put
-put_some role [] at row some = absurd (some refl)
-put_some role (c ∷ cs) at row some = refl
+put_some x y z u v = search rules
 
 -- what a grid has where the rows below some are one row, or none
 pub over : (above tail : List (List Cell)) (at : ℕ) (cells : List Cell) → length tail ≤ 1
     → cells_written (above ++ tail) (length above) at cells ≡ above ++ written SPACE (row_at tail 0) at cells ∷ []
-over above [] at cells few = ap (λ (rows : List (List Cell)). cells_written rows (length above) at cells) (append-nil above)
-    ∙ cells_written_below above at cells
+over above [] at cells few = simp (append-nil, cells_written_below)
 over above (row ∷ []) at cells few = cells_written_last above row at cells
 over above (row ∷ next ∷ tail) at cells few = absurd (omega arith)
 
 -- a text that isn't empty was put there
 pub put_begun : (role : ElementStyle) (cs : List ℕ) (at r : ℕ) (above tail old new : List (List Cell)) → cs ≢ [] → r ≡ length above → old ≡ above ++ tail
     → length tail ≤ 1 → new ≡ cells_written old r at (text_cells role cs) → new ≡ above ++ put role cs at (row_at tail 0) ∷ []
-put_begun role cs at r above tail old new some here is few writes =
-    let cells = text_cells role cs in
-    writes ∙ ap (λ n. cells_written old n at cells) here ∙ ap (λ (rows : List (List Cell)). cells_written rows (length above) at cells) is
-    ∙ over above tail at cells few ∙ ap (λ (row : List Cell). above ++ row ∷ []) (sym (put_some role cs at (row_at tail 0) some))
+put_begun role cs at r above tail old new some here is few writes = grind (arith, over, put_some)
 
 -- a text that may be empty was put into the last row
 pub put_more : (role : ElementStyle) (bytes : List ℕ) (at r : ℕ) (above : List (List Cell)) (row : List Cell) (old new : List (List Cell))
     → IsUtf8 bytes → r ≡ length above → old ≡ above ++ row ∷ [] → (0 < length bytes → new ≡ cells_written old r at (text_cells role (chars bytes)))
     → (bytes ≡ [] → new ≡ old) → new ≡ above ++ put role (chars bytes) at row ∷ []
-put_more role [] at r above row old new text here is writes stays =
-    stays refl ∙ is ∙ ap (λ (now : List Cell). above ++ now ∷ []) (sym (ap (λ (cs : List ℕ). put role cs at row) chars-nil ∙ put_none role at row))
+put_more role [] at r above row old new text here is writes stays = grind (arith, chars-nil, put_none)
 put_more role (b ∷ bs) at r above row old new text here is writes stays =
     put_begun role (chars (b ∷ bs)) at r above (row ∷ []) old new (chars_some b bs text) here is (omega arith) (writes (omega arith))
 
@@ -62,13 +55,7 @@ pub record IsOver (above : List (List Cell)) (row : List Cell) (rows : List (Lis
 pub put_over : (role : ElementStyle) (bytes : List ℕ) (at r : ℕ) (above tail old new : List (List Cell)) → IsUtf8 bytes → r ≡ length above
     → old ≡ above ++ tail → length tail ≤ 1 → (0 < length bytes → new ≡ cells_written old r at (text_cells role (chars bytes)))
     → (bytes ≡ [] → new ≡ old) → IsOver above (put role (chars bytes) at (row_at tail 0)) new
-put_over role [] at r above tail old new text here is few writes stays =
-    record {
-      tail = tail;
-      few = few;
-      row_is = sym (ap (λ (cs : List ℕ). put role cs at (row_at tail 0)) chars-nil ∙ put_none role at (row_at tail 0));
-      is = stays refl ∙ is;
-    }
+put_over role [] at r above tail old new text here is few writes stays = grind (arith, common_steps, chars-nil, put_none)
 put_over role (b ∷ bs) at r above tail old new text here is few writes stays =
     record {
       tail = put role (chars (b ∷ bs)) at (row_at tail 0) ∷ [];
@@ -79,26 +66,10 @@ put_over role (b ∷ bs) at r above tail old new text here is few writes stays =
 
 -- each glyph has characters
 pub glyph_some : (decor : DecorStyle) (glyph : SuggestionGlyph) → suggestion_glyph_of decor glyph ≢ []
-glyph_some Ascii sign.Opening = λ none. cc
-glyph_some Ascii sign.Next = λ none. cc
-glyph_some Ascii sign.Leading = λ none. cc
-glyph_some Ascii sign.Closing = λ none. cc
-glyph_some Ascii sign.Kept = λ none. cc
-glyph_some Ascii sign.Alone = λ none. cc
-glyph_some Ascii sign.Changed = λ none. cc
-glyph_some Ascii sign.Added = λ none. cc
-glyph_some Unicode sign.Opening = λ none. cc
-glyph_some Unicode sign.Next = λ none. cc
-glyph_some Unicode sign.Leading = λ none. cc
-glyph_some Unicode sign.Closing = λ none. cc
-glyph_some Unicode sign.Kept = λ none. cc
-glyph_some Unicode sign.Alone = λ none. cc
-glyph_some Unicode sign.Changed = λ none. cc
-glyph_some Unicode sign.Added = λ none. cc
+glyph_some x y = grind (arith, common_steps)
 
 pub placeholder_some : (decor : DecorStyle) → placeholder_of decor ≢ []
-placeholder_some Ascii = λ none. cc
-placeholder_some Unicode = λ none. cc
+placeholder_some x = grind (arith)
 
 -- two texts that are put into an empty row, the first of them left of the other
 swapped : (new first : List Cell) (at : ℕ) → length first ≤ at
@@ -109,10 +80,7 @@ swapped new first at few =
 -- it is the same in which order they are put
 put_swap : (role other : ElementStyle) (cs ds : List ℕ) (at : ℕ) → length ds ≤ at → put role cs at (put other ds 0 []) ≡ put other ds 0 (put role cs at [])
 unfolding put
-put_swap role other [] ds at few = refl
-put_swap role other (c ∷ cs) [] at few = refl
-put_swap role other (c ∷ cs) (d ∷ ds) at few =
-    swapped (text_cells role (c ∷ cs)) (text_cells other (d ∷ ds)) at (omega (arith, few, length-text_cells other (d ∷ ds)))
+put_swap x y z u v w = grind (arith, swapped, length-text_cells)
 
 -- what stands left of a line was drawn, from left to right
 pub begun_in_order : (layout : SuggestionLayout) (glyph : SuggestionGlyph) (number : ℕ) (role : ElementStyle)
@@ -214,25 +182,14 @@ pub offered_is : (layout : SuggestionLayout) (kind : DisplaySuggestion) (glyph :
     → line ≡ text → ss ≡ new → with_stretches Addition layout.base.gutter (chars line) ss (line_cells layout glyph number line)
     ≡ offered_cells layout kind counted numbered text new
 unfolding offered_cells
-offered_is layout kind glyph count counted number numbered line text ss new sign counts numbers lines stretches =
-    let Row : List ℕ → List SubstitutionHighlight → SuggestionGlyph → ℕ → List Cell = λ t es g n.
-    with_stretches Addition layout.base.gutter (chars t) es (line_cells layout g n t) in
-    let signed : glyph ≡ sign_of kind counted text new = sign ∙ ap (λ n. sign_of kind n line ss) counts ∙ ap (λ t. sign_of kind counted t ss) lines
-    ∙ ap (sign_of kind counted text) stretches in
-    ap (λ t. Row t ss glyph number) lines ∙ ap (λ es. Row text es glyph number) stretches ∙ ap (λ g. Row text new g number) signed
-    ∙ ap (Row text new (sign_of kind counted text new)) numbers
+offered_is layout kind glyph count counted number numbered line text ss new sign counts numbers lines stretches = grind (arith, common_steps)
 
 -- the row of a line of a text
 pub shown_is : (layout : SuggestionLayout) (text : SuggestedText) (k : ℕ) (glyph : SuggestionGlyph) (number : ℕ) (line : List ℕ)
     (new : List SubstitutionHighlight) → glyph ≡ sign_of text.kind (length text.lines.now) line new → number ≡ capped_sum text.first k
     → line ≡ slice_index_or (lines_shown text) k [] → new ≡ line_stretches text.stretches.now k
     → with_stretches Addition layout.base.gutter (chars line) new (line_cells layout glyph number line) ≡ row_shown layout text (Line k)
-shown_is layout text k glyph number line new sign numbers lines stretches =
-    let count : ℕ = length text.lines.now in
-    offered_is layout text.kind glyph count count number (capped_sum text.first k) line (slice_index_or (lines_shown text) k []) new
-    (line_stretches text.stretches.now k) sign refl numbers lines stretches
-    ∙ ap (λ n. offered_cells layout text.kind n (capped_sum text.first k) (slice_index_or (lines_shown text) k []) (line_stretches text.stretches.now k))
-    (sym (length-map text.lines.now (λ l. l.now)))
+shown_is layout text k glyph number line new sign numbers lines stretches = grind (arith, common_steps, offered_is, length-map)
 
 -- writing so many rows below all
 skipped_written : (rows : List (List Cell)) (skipped at : ℕ) (cells : List Cell)
@@ -248,20 +205,13 @@ skipped_written rows skipped at cells =
 pub glyph_below : (role : ElementStyle) (decor : DecorStyle) (glyph : SuggestionGlyph) (cs : List ℕ) (at r skipped : ℕ) (old new : List (List Cell))
     → cs ≡ suggestion_glyph_of decor glyph → r ≡ length old + skipped → new ≡ cells_written old r at (text_cells role cs)
     → new ≡ (old ++ replicate skipped []) ++ put role (suggestion_glyph_of decor glyph) at [] ∷ []
-glyph_below role decor glyph cs at r skipped old new is here writes =
-    let cells = text_cells role (suggestion_glyph_of decor glyph) in
-    writes ∙ ap (λ (t : List ℕ). cells_written old r at (text_cells role t)) is ∙ ap (λ n. cells_written old n at cells) here
-    ∙ skipped_written old skipped at cells ∙ sym (append_assoc old (replicate skipped []) (written SPACE [] at cells ∷ []))
-    ∙ ap (λ (row : List Cell). (old ++ replicate skipped []) ++ row ∷ [])
-    (sym (put_some role (suggestion_glyph_of decor glyph) at [] (glyph_some decor glyph)))
+glyph_below role decor glyph cs at r skipped old new is here writes = grind (arith, skipped_written, append_assoc, replicate, put_some, glyph_some)
 
 -- a glyph that is written over the first row below is put there
 pub glyph_over : (role : ElementStyle) (decor : DecorStyle) (glyph : SuggestionGlyph) (cs : List ℕ) (at r : ℕ) (above tail old new : List (List Cell))
     → cs ≡ suggestion_glyph_of decor glyph → r ≡ length above → old ≡ above ++ tail → length tail ≤ 1 → new ≡ cells_written old r at (text_cells role cs)
     → new ≡ above ++ put role (suggestion_glyph_of decor glyph) at (row_at tail 0) ∷ []
-glyph_over role decor glyph cs at r above tail old new is here old_is few writes =
-    put_begun role (suggestion_glyph_of decor glyph) at r above tail old new (glyph_some decor glyph) here old_is few
-    (writes ∙ ap (λ (t : List ℕ). cells_written old r at (text_cells role t)) is)
+glyph_over role decor glyph cs at r above tail old new is here old_is few writes = grind (arith, put_begun, glyph_some)
 
 -- what a suggestion begins and ends with
 pub begin_opening : (layout : SuggestionLayout) (under : List Cell)

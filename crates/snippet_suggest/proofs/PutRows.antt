@@ -1,10 +1,10 @@
 -- What a row holds once characters were put into it.
-use Rattle.snippet_suggest.proofs.Common.{◌≡◌, ◌≢◌, ℕ, zero, suc, ◌+◌, ◌-◌, ◌<◌, ◌≤◌, false, All, List, [], ◌∷◌, ◌++◌}
-use Rattle.snippet_suggest.proofs.Common.{length, take, drop, replicate, refl, sym, ap, ◌∙◌, arith, inl, inr, subst, slice_index_or, cases_lt, append-nil}
-use Rattle.snippet_suggest.proofs.Common.{drop_all, get_or_past, places, same_lists, take_at, ElementStyle, Cell, SPACE, text_cells, unlinked_cell, written}
-use Rattle.snippet_suggest.proofs.Common.{All-text_cells, drop-written, length-text_cells, length-written, slice_index_or-written_after}
-use Rattle.snippet_suggest.proofs.Common.{slice_index_or-written_before, slice_index_or-written_inside, written-nil, row_text, row_text-text_cells, free_drawn}
-use Rattle.snippet_suggest.proofs.Common.{free_written, IsFree, is_listed, put}
+use Rattle.snippet_suggest.proofs.Common.{◌≡◌, ◌≢◌, ℕ, zero, suc, ◌+◌, ◌-◌, ◌<◌, ◌≤◌, false, All, List, [], ◌∷◌, ◌++◌, length, take, drop, replicate, refl}
+use Rattle.snippet_suggest.proofs.Common.{sym, arith, inl, inr, subst, slice_index_or, cases_lt, append-nil, drop_all, get_or_past, places, same_lists}
+use Rattle.snippet_suggest.proofs.Common.{take_at, ElementStyle, Cell, SPACE, text_cells, unlinked_cell, written, All-text_cells, drop-written}
+use Rattle.snippet_suggest.proofs.Common.{length-text_cells, length-written, slice_index_or-written_after, slice_index_or-written_before}
+use Rattle.snippet_suggest.proofs.Common.{slice_index_or-written_inside, written-nil, row_text, row_text-text_cells, free_drawn, free_written, IsFree}
+use Rattle.snippet_suggest.proofs.Common.{is_listed, put, common_steps}
 
 -- the character of a cell
 pub ch_at : (row : List Cell) (c : ℕ) → (slice_index_or row c SPACE).ch ≡ slice_index_or (row_text row) c 32
@@ -40,35 +40,23 @@ put_cell P role (x ∷ cs) at c row there all = cell_after_write P row at c (tex
 pub put_before : (role : ElementStyle) (cs : List ℕ) (at c : ℕ) (row : List Cell) → c < at
     → slice_index_or (put role cs at row) c SPACE ≡ slice_index_or row c SPACE
 unfolding put
-put_before role [] at c row left = refl
-put_before role (x ∷ cs) at c row left = slice_index_or-written_before SPACE row at (text_cells role (x ∷ cs)) c left
+put_before x y z u v w = grind (arith, slice_index_or-written_before)
 
 pub put_after : (role : ElementStyle) (cs : List ℕ) (at c : ℕ) (row : List Cell) → at + length cs ≤ c
     → slice_index_or (put role cs at row) c SPACE ≡ slice_index_or row c SPACE
 unfolding put
-put_after role [] at c row right = refl
-put_after role (x ∷ cs) at c row right =
-    slice_index_or-written_after SPACE row at (text_cells role (x ∷ cs)) c SPACE (omega (arith, length-text_cells role (x ∷ cs), right))
+put_after x y z u v w = grind (arith, slice_index_or-written_after, length-text_cells)
 
 -- each of them stands where it was put
 pub put_inside : (role : ElementStyle) (cs : List ℕ) (at c k : ℕ) (row : List Cell) → c ≡ at + k → k < length cs
     → (slice_index_or (put role cs at row) c SPACE).ch ≡ slice_index_or cs k 32
 unfolding put
-put_inside role [] at c k row here within = absurd (omega (arith, within))
-put_inside role (x ∷ cs) at c k row here within =
-    let cells : List Cell = text_cells role (x ∷ cs) in
-    ap (λ n. (slice_index_or (put role (x ∷ cs) at row) n SPACE).ch) here
-    ∙ ap (λ (cell : Cell). cell.ch) (slice_index_or-written_inside SPACE row at cells k SPACE (omega (arith, length-text_cells role (x ∷ cs), within)))
-    ∙ ch_at cells k ∙ ap (λ t. slice_index_or t k 32) (row_text-text_cells role (x ∷ cs))
+put_inside x y z u v w a b = grind (arith, common_steps, slice_index_or-written_inside, length-text_cells, ch_at, row_text-text_cells)
 
 -- in a row with no cells spaces stand before and after them
 pub put_alone : (role : ElementStyle) (cs : List ℕ) (at c k : ℕ) → c ≡ at + k
     → (slice_index_or (put role cs at []) c SPACE).ch ≡ slice_index_or cs k 32
-put_alone role cs at c k here =
-    elim (cases_lt k (length cs)) [
-      | inl within ↦ put_inside role cs at c k [] here within
-      | inr past ↦ ap (λ (cell : Cell). cell.ch) (put_after role cs at c [] (omega (arith, here, past))) ∙ sym (get_or_past cs k 32 past)
-    ]
+put_alone role cs at c k here = grind (arith, put_inside, put_after, get_or_past)
 
 -- a row holds no listed character and no link, where it held none, and none of them is listed
 pub put_free : (role : ElementStyle) (cs : List ℕ) (at : ℕ) (row : List Cell) → IsFree row → All (λ c. is_listed c ≡ false) cs → IsFree (put role cs at row)
@@ -80,24 +68,19 @@ put_free role (x ∷ cs) at row free unlisted = free_written row at (text_cells 
 pub put_within : (role : ElementStyle) (cs : List ℕ) (at width : ℕ) (row : List Cell) → length row ≤ width → at + length cs ≤ width
     → length (put role cs at row) ≤ width
 unfolding put
-put_within role [] at width row short fits = short
-put_within role (x ∷ cs) at width row short fits =
-    omega (arith, length-written SPACE row at (text_cells role (x ∷ cs)), length-text_cells role (x ∷ cs), short, fits)
+put_within x y z u v w a = grind (arith, length-written, length-text_cells)
 
 pub put_grows : (role : ElementStyle) (cs : List ℕ) (at : ℕ) (row : List Cell) → length row ≤ length (put role cs at row)
 unfolding put
-put_grows role [] at row = omega arith
-put_grows role (x ∷ cs) at row = omega (arith, length-written SPACE row at (text_cells role (x ∷ cs)))
+put_grows x y z u = grind (arith, length-written)
 
 pub put_long : (role : ElementStyle) (cs : List ℕ) (at : ℕ) (row : List Cell) → cs ≢ [] → at + length cs ≤ length (put role cs at row)
 unfolding put
-put_long role [] at row some = absurd (some refl)
-put_long role (x ∷ cs) at row some = omega (arith, length-written SPACE row at (text_cells role (x ∷ cs)), length-text_cells role (x ∷ cs))
+put_long x y z u v = grind (arith, length-written, length-text_cells)
 
 pub put_covers : (role : ElementStyle) (cs : List ℕ) (row : List Cell) → length cs ≤ length (put role cs 0 row)
 unfolding put
-put_covers role [] row = omega arith
-put_covers role (x ∷ cs) row = omega (arith, length-written SPACE row 0 (text_cells role (x ∷ cs)), length-text_cells role (x ∷ cs))
+put_covers x y z = grind (arith, length-written, length-text_cells)
 
 -- what stands before them
 pub put_take : (role : ElementStyle) (cs : List ℕ) (at n : ℕ) (row : List Cell) → n ≤ at → n ≤ length row → take n (put role cs at row) ≡ take n row
@@ -109,23 +92,14 @@ put_take role (x ∷ cs) at n row left within =
 -- they stand there
 pub put_stands : (role : ElementStyle) (cs : List ℕ) (at : ℕ) (row : List Cell) → row_text (take (length cs) (drop at (put role cs at row))) ≡ cs
 unfolding put
-put_stands role [] at row = refl
-put_stands role (x ∷ cs) at row =
-    let cells : List Cell = text_cells role (x ∷ cs) in
-    ap (λ (t : List Cell). row_text (take (length (x ∷ cs)) t)) (drop-written SPACE row at cells)
-    ∙ ap row_text (take_at cells (drop (at + length cells) row) (length (x ∷ cs)) (length-text_cells role (x ∷ cs))) ∙ row_text-text_cells role (x ∷ cs)
+put_stands x y z u = grind (arith, drop-written, take_at, length-text_cells, row_text-text_cells)
 
 -- to the end of a row that was no longer
 pub put_ends : (role : ElementStyle) (cs : List ℕ) (at : ℕ) (row : List Cell) → length row ≤ at → row_text (drop at (put role cs at row)) ≡ cs
 unfolding put
-put_ends role [] at row short = ap row_text (drop_all at row short)
-put_ends role (x ∷ cs) at row short =
-    let cells : List Cell = text_cells role (x ∷ cs) in
-    let none : drop (at + length cells) row ≡ [] = drop_all (at + length cells) row (omega (arith, short)) in
-    ap row_text (drop-written SPACE row at cells ∙ ap (λ t. cells ++ t) none ∙ append-nil cells) ∙ row_text-text_cells role (x ∷ cs)
+put_ends x y z u v = grind (arith, drop_all, drop-written, append-nil, row_text-text_cells)
 
 -- a row that is begun by them alone
 pub put_begun : (role : ElementStyle) (cs : List ℕ) (at : ℕ) → cs ≢ [] → put role cs at [] ≡ replicate at SPACE ++ text_cells role cs
 unfolding put
-put_begun role [] at some = absurd (some refl)
-put_begun role (x ∷ cs) at some = written-nil at (text_cells role (x ∷ cs))
+put_begun x y z u = grind (arith, written-nil)

@@ -50,8 +50,7 @@ same_ch c xs ys same = ap (λ (p : ℕ × Option (List ℕ)). p.0) (same_cell xs
 
 -- what holds of a cell's character holds of the other's
 pub same_char : (P : ℕ → Type 0) (xs ys : List Cell) (c : ℕ) → AreSame xs ys → P (get_or ys c SPACE).ch → P (get_or xs c SPACE).ch
-same_char P xs ys c same =
-    subst P (ap (λ (p : ℕ × Option (List ℕ)). p.0) (sym (same_cell xs ys c same)))
+same_char P xs ys c same = grind (arith, same_cell)
 
 same_length : (xs ys : List Cell) → AreSame xs ys → length xs ≡ length ys
 same_length xs ys same = sym (length-map xs without_role) ∙ ap length same ∙ length-map ys without_role

@@ -1,8 +1,8 @@
 -- The lines that are shown ascend, and each touched line is among them.
-use Rattle.snippet_suggest.proofs.Common.{◌≡◌, ℕ, zero, suc, ◌+◌, ◌-◌, ◌<◌, ◌≤◌, nat_le, Bool, true, false, List, [], ◌∷◌}
-use Rattle.snippet_suggest.proofs.Common.{◌++◌, if◌then◌else◌, refl, sym, ap, ◌∙◌, arith, subst, All, Contains, inl, inr, map, nat_tests}
-use Rattle.snippet_suggest.proofs.Common.{filter_map-append, All-cons, All-nil, Contains-append_right, cases_eq, append-nil, SuggestionLayout, SuggestionLine}
-use Rattle.snippet_suggest.proofs.Common.{Line, Gap, shown_run, shown_from, number_of, numbers_shown, AreRising, NumberFits, range_with_len}
+use Rattle.snippet_suggest.proofs.Common.{◌≡◌, ℕ, zero, suc, ◌+◌, ◌-◌, ◌<◌, ◌≤◌, nat_le, Bool, true, false, List, [], ◌∷◌, ◌++◌, if◌then◌else◌, refl, sym}
+use Rattle.snippet_suggest.proofs.Common.{arith, subst, All, Contains, inl, inr, map, filter_map-append, All-cons, All-nil, Contains-append_right, cases_eq}
+use Rattle.snippet_suggest.proofs.Common.{append-nil, SuggestionLayout, SuggestionLine, Line, Gap, shown_run, shown_from, number_of, numbers_shown, AreRising}
+use Rattle.snippet_suggest.proofs.Common.{NumberFits, range_with_len, rules}
 
 -- the bounds of ascending numbers, and two such lists joined
 pub rising_bound : (from to : ℕ) (ks : List ℕ) → AreRising from to ks → from ≤ to
@@ -24,10 +24,7 @@ rising_lines from (suc n) to is = (omega arith, rising_lines (from + 1) n to (om
 
 rising_run_by : (from to : ℕ) (few : Bool) → nat_le (to - from) 3 ≡ few → from ≤ to
     → AreRising from to (numbers_shown (if few then map Line (range_with_len from (to - from)) else Line from ∷ Gap ∷ Line (to - 1) ∷ []))
-rising_run_by from to true is ordered = rising_lines from (to - from) to (omega (arith, ordered))
-rising_run_by from to false is ordered =
-    let many : 3 < to - from = grind (arith, nat_tests) in
-    (omega arith, (omega (arith, many), omega (arith, many)))
+rising_run_by x y z u v = grind (arith, rising_lines)
 
 rising_run : (from to : ℕ) → from ≤ to → AreRising from to (numbers_shown (shown_run from to))
 rising_run from to ordered = rising_run_by from to (nat_le (to - from) 3) refl ordered
@@ -63,10 +60,8 @@ rooms_of : (layout : SuggestionLayout) (first low count : ℕ) (shown : List Sug
     → ((k : ℕ) → k < count → NumberFits layout first (Line k)) → All (NumberFits layout first) shown
 rooms_of layout first low count [] rising rooms = All-nil (NumberFits layout first)
 rooms_of layout first low count (Line k ∷ shown) rising rooms =
-    All-cons (NumberFits layout first) (Line k) shown (rooms k (omega (arith, rising_bound (k + 1) count (numbers_shown shown) rising.1)))
-    (rooms_of layout first (k + 1) count shown rising.1 rooms)
-rooms_of layout first low count (Gap ∷ shown) rising rooms =
-    All-cons (NumberFits layout first) Gap shown tt (rooms_of layout first low count shown rising rooms)
+    grind (arith, All-cons, rising_bound, rooms_of layout first (k + 1) count shown rising.1 rooms)
+rooms_of layout first low count (Gap ∷ shown) rising rooms = grind (arith, All-cons, rooms_of layout first low count shown rising rooms)
 
 -- the numbers of shown lines fit the gutter where those of all lines do
 pub rooms_shown : (layout : SuggestionLayout) (first count : ℕ) (touched : ℕ → Bool) → ((k : ℕ) → k < count → NumberFits layout first (Line k))
@@ -77,9 +72,7 @@ rooms_shown layout first count touched rooms =
 -- at the end nothing is still to come
 pub shown_all : (touched : ℕ → Bool) (shown all : List SuggestionLine) (after line count : ℕ) → count ≤ line
     → shown ++ shown_from touched after line (count - line) ≡ all → shown ≡ all
-shown_all touched shown all after line count past whole =
-    let none : count - line ≡ 0 = omega (arith, past) in
-    sym (append-nil shown) ∙ sym (ap (λ n. shown ++ shown_from touched after line n) none) ∙ whole
+shown_all touched shown all after line count past whole = grind (arith, append-nil)
 
 -- each touched line is among them
 touched_from_by : (touched : ℕ → Bool) (from k left j : ℕ) (is : Bool) → touched k ≡ is → k ≤ j → j < k + suc left → touched j ≡ true
@@ -96,11 +89,7 @@ touched_from_by touched from k left j true is low high holds later =
     ] in
     subst (λ (ks : List ℕ). Contains ks j) (sym (filter_map-append number_of (shown_run from k) (Line k ∷ rest)))
     (Contains-append_right (numbers_shown (shown_run from k)) (numbers_shown (Line k ∷ rest)) j here)
-touched_from_by touched from k left j false is low high holds later =
-    elim (cases_eq j k) [
-      | inl same ↦ absurd (grind (arith, holds, ap touched same, is))
-      | inr other ↦ later from (omega (arith, low, other))
-    ]
+touched_from_by touched from k left j false is low high holds later = search rules
 
 touched_from : (touched : ℕ → Bool) (from k left j : ℕ) → k ≤ j → j < k + left → touched j ≡ true → Contains (numbers_shown (shown_from touched from k left)) j
 touched_from touched from k zero j low high holds = absurd (omega (arith, low, high))

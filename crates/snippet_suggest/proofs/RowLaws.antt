@@ -1,15 +1,14 @@
 -- What each row of a suggestion shows, by the cells that it holds.
-use Rattle.snippet_suggest.proofs.Common.{◌≡◌, ℕ, ◌+◌, ◌-◌, ◌^◌, ◌<◌, ◌≤◌, Bool, true, false, ◌==◌, ◌&&◌}
-use Rattle.snippet_suggest.proofs.Common.{if◌then◌else◌, min, nat_le, All, List, [], ◌∷◌, ◌++◌, length, map, replicate, refl, sym, ap}
-use Rattle.snippet_suggest.proofs.Common.{◌∙◌, arith, inl, inr, subst, is_ascii_alphanumeric, list_all, list_any, slice_index_or, All-replicate}
-use Rattle.snippet_suggest.proofs.Common.{DecorStyle, Ascii, Unicode, SuggestionGlyph, ElementStyle, Addition, LineNumber, NoStyle, Removal, Cell, SPACE}
-use Rattle.snippet_suggest.proofs.Common.{added_mark_of, changed_mark_of, placeholder_of, removed_sign_of, suggestion_glyph_of, suggestion_role_of}
+use Rattle.snippet_suggest.proofs.Common.{◌≡◌, ℕ, ◌+◌, ◌-◌, ◌^◌, ◌<◌, ◌≤◌, Bool, true, false, if◌then◌else◌, min, nat_le, All, List, [], ◌∷◌, ◌++◌, length}
+use Rattle.snippet_suggest.proofs.Common.{map, replicate, refl, sym, ap, ◌∙◌, arith, inl, inr, subst, is_ascii_alphanumeric, list_all, list_any}
+use Rattle.snippet_suggest.proofs.Common.{slice_index_or, All-replicate, DecorStyle, Ascii, Unicode, SuggestionGlyph, ElementStyle, Addition, LineNumber}
+use Rattle.snippet_suggest.proofs.Common.{NoStyle, Removal, Cell, SPACE, placeholder_of, removed_sign_of, suggestion_glyph_of, suggestion_role_of}
 use Rattle.snippet_suggest.proofs.Common.{changed_within, restyled, separator_cell, row_text, is_listed, norm, width_of, list_any-norm, Source, shown_number}
-use Rattle.snippet_suggest.proofs.Common.{shown_number_unlisted, each_fails, Edit, SubstitutionHighlight, DisplaySuggestion, Add, Diff, Plain, Underline}
-use Rattle.snippet_suggest.proofs.Common.{SuggestionLayout, SuggestionStart, Next, Opening, Path, PatchColumns, begin_cells, end_cells, gap_cells, line_cells}
-use Rattle.snippet_suggest.proofs.Common.{offered_cells, put, removed_cells, sign_alone, sign_among, sign_of, stretch_cell, with_stretches, max_column}
-use Rattle.snippet_suggest.proofs.Common.{adds_text, edit_columns, mark_glyph_of, mark_start, patch_mark_end, with_mark, with_marks, IsBareRow, IsMarkOrSpace}
-use Rattle.snippet_suggest.proofs.Common.{IsSign, begin_glyph, beside_gutter, end_glyph, gap_left, is_stroke, IsEdgeRow, IsLineRow, IsRowOfRemoved, IsUnder}
+use Rattle.snippet_suggest.proofs.Common.{shown_number_unlisted, each_fails, Edit, SubstitutionHighlight, DisplaySuggestion, SuggestionLayout}
+use Rattle.snippet_suggest.proofs.Common.{SuggestionStart, Next, Opening, Path, PatchColumns, begin_cells, end_cells, gap_cells, line_cells, offered_cells}
+use Rattle.snippet_suggest.proofs.Common.{put, removed_cells, sign_alone, sign_among, sign_of, stretch_cell, with_stretches, max_column, edit_columns}
+use Rattle.snippet_suggest.proofs.Common.{mark_glyph_of, mark_start, patch_mark_end, with_mark, with_marks, IsBareRow, IsMarkOrSpace, IsSign, begin_glyph}
+use Rattle.snippet_suggest.proofs.Common.{beside_gutter, end_glyph, gap_left, is_stroke, IsEdgeRow, IsLineRow, IsRowOfRemoved, IsUnder, common_steps, rules}
 use Rattle.std.proofs.Common.{chars}
 use Rattle.snippet_style.specs.declared.glyphs.SuggestionGlyph.TheVariants as sign
 use Rattle.snippet_suggest.proofs.BareLemmas.{stroke_blank, stroke_led, stroke_none, stroke_put}
@@ -74,24 +73,13 @@ line_shows layout glyph number line is small fits =
 
 -- each sign is one that stands beside a line
 alone_is : (kind : DisplaySuggestion) → is_sign (sign_alone kind) ≡ true
-alone_is Underline = refl
-alone_is Diff = refl
-alone_is Plain = refl
-alone_is Add = refl
-
-touched_is : (whole none : Bool) → is_sign (if whole then sign.Added else if none then sign.Kept else sign.Changed) ≡ true
-touched_is true none = refl
-touched_is false true = refl
-touched_is false false = refl
+alone_is x = grind (arith)
 
 among_is : (line : List ℕ) (ss : List SubstitutionHighlight) → is_sign (sign_among line ss) ≡ true
-among_is line [] = refl
-among_is line (s ∷ []) = touched_is (s.start == 0 && s.end == length line) (s.start == 0 && s.end == 0)
-among_is line (s ∷ t ∷ ss) = refl
+among_is x y = search rules
 
 either_is : (one : Bool) (a b : SuggestionGlyph) → is_sign a ≡ true → is_sign b ≡ true → is_sign (if one then a else b) ≡ true
-either_is true a b is other = is
-either_is false a b is other = other
+either_is x y z u v = grind (arith)
 
 sign_is : (kind : DisplaySuggestion) (count : ℕ) (line : List ℕ) (ss : List SubstitutionHighlight) → is_sign (sign_of kind count line ss) ≡ true
 unfolding sign_of
@@ -204,10 +192,7 @@ glyph_alone layout glyph other =
 
 -- the glyph that joins a suggestion to the one before is as long as what that ends with
 next_covers : (decor : DecorStyle) (follows : Bool) → length (end_glyph decor follows) ≤ length (suggestion_glyph_of decor sign.Next)
-next_covers Ascii true = omega arith
-next_covers Ascii false = omega arith
-next_covers Unicode true = omega arith
-next_covers Unicode false = omega arith
+next_covers x y = grind (arith)
 
 -- the row that a suggestion begins with
 pub begin_shows : (layout : SuggestionLayout) (start : SuggestionStart) (under : List Cell) → IsUnder layout.base.decor layout.base.gutter start under
@@ -225,10 +210,7 @@ begin_shows layout Path under is = is
 -- what a suggestion stands over shows no line
 pub under_bare : (layout : SuggestionLayout) (start : SuggestionStart) (under : List Cell) → IsUnder layout.base.decor layout.base.gutter start under
     → IsBareRow layout.base.decor layout.base.gutter under
-under_bare layout Opening under none =
-    subst (IsBareRow layout.base.decor layout.base.gutter) (sym none) (stroke_none layout.base.decor layout.base.gutter).bare
-under_bare layout Next under is = is.1.bare
-under_bare layout Path under is = is.bare
+under_bare x y z u = search rules
 
 -- the row that it ends with
 pub end_shows : (layout : SuggestionLayout) (follows : Bool)
@@ -239,19 +221,7 @@ end_shows layout false = glyph_alone layout sign.Closing refl
 
 -- no mark is listed
 mark_unlisted : (decor : DecorStyle) (ch : ℕ) → IsMarkOrSpace decor ch → is_listed ch ≡ false
-mark_unlisted decor ch is =
-    elim is [
-      | inl space ↦ ap is_listed space
-      | inr mark ↦
-          elim mark [
-            | inl plus ↦ ap is_listed plus
-            | inr changed ↦ ap is_listed changed ∙ changed_unlisted decor
-          ]
-    ]
-  where
-    changed_unlisted : (decor : DecorStyle) → is_listed (changed_mark_of decor) ≡ false
-    changed_unlisted Ascii = refl
-    changed_unlisted Unicode = refl
+mark_unlisted decor ch is = grind (arith, common_steps)
 
 -- marks leave what stands left of the lines
 mark_shows : (layout : SuggestionLayout) (mark start end : ℕ) (left : List ℕ) (row : List Cell) → IsMarkOrSpace layout.base.decor mark
@@ -278,11 +248,7 @@ mark_shows layout mark start end left row is edge =
 
 -- each mark is one
 mark_is : (decor : DecorStyle) (source : List ℕ) (e : Edit) → IsMarkOrSpace decor (mark_glyph_of decor source e)
-mark_is decor source e = by_test (adds_text source e)
-  where
-    by_test : (adds : Bool) → IsMarkOrSpace decor (if adds then added_mark_of decor else changed_mark_of decor)
-    by_test true = inr (inl refl)
-    by_test false = inr (inr refl)
+mark_is decor source e = grind (arith)
 
 -- so do those of all edits
 pub marks_show : (layout : SuggestionLayout) (s : Source) (earlier : List PatchColumns) (es : List Edit) (left : List ℕ) (row : List Cell)

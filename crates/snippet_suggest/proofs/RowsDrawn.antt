@@ -1,14 +1,13 @@
 -- Rows that are drawn one below the other, as values.
-use Rattle.snippet_suggest.proofs.Common.{◌≡◌, ℕ, ◌+◌, ◌-◌, ◌<◌, ◌≤◌, Bool, true, false, List, [], ◌∷◌, ◌++◌, length, map}
-use Rattle.snippet_suggest.proofs.Common.{take, drop, get_or, refl, sym, ap, ◌∙◌, ◌||◌, arith, append_assoc, bytes_eq, cond-false, cond-true, or-true}
-use Rattle.snippet_suggest.proofs.Common.{Cell, NoStyle, Removal, row_at, LineInfo, SuggestionLayout, left_out_cells, offered_cells, on_last, removed_cells}
-use Rattle.snippet_suggest.proofs.Common.{with_stretches, SubstitutionHighlight, Diff, is_left_out, is_blank_text, diff_cells, emptied_cells, gone_of}
-use Rattle.snippet_suggest.proofs.Common.{taken_cells, last_removed, unless_stays, numbered_at, append-nil, drop_all, drop_more, length-map, length-take}
-use Rattle.snippet_suggest.proofs.Common.{map-append, take_all, take_more, capped_sum}
+use Rattle.snippet_suggest.proofs.Common.{◌≡◌, ℕ, ◌+◌, ◌-◌, ◌<◌, ◌≤◌, Bool, true, false, List, [], ◌∷◌, ◌++◌, length, map, take, drop, get_or, refl, sym, ap}
+use Rattle.snippet_suggest.proofs.Common.{◌∙◌, ◌||◌, arith, append_assoc, bytes_eq, cond-false, cond-true, or-true, Cell, NoStyle, Removal, row_at, LineInfo}
+use Rattle.snippet_suggest.proofs.Common.{SuggestionLayout, left_out_cells, offered_cells, on_last, removed_cells, with_stretches, SubstitutionHighlight}
+use Rattle.snippet_suggest.proofs.Common.{Diff, is_left_out, is_blank_text, diff_cells, emptied_cells, gone_of, taken_cells, last_removed, unless_stays}
+use Rattle.snippet_suggest.proofs.Common.{numbered_at, append-nil, drop_all, drop_more, length-map, length-take, map-append, take_all, take_more, capped_sum}
+use Rattle.snippet_suggest.proofs.Common.{common_steps}
 use Rattle.std.proofs.Common.{chars}
 use mir.Val.{bool_byte}
 use Rattle.std.proofs.Math.ListN.{get_or-map}
-use Rattle.std.proofs.lemmas.List.{get_or-map as mapped}
 use Rattle.snippet_suggest.proofs.StretchRows.{with_none}
 
 -- one row more for each of some items
@@ -59,24 +58,7 @@ pub emptied_more : (layout : SuggestionLayout) (above : List (List Cell)) (under
     (at count next : ℕ) (now new : List (List Cell)) (drawn : Emptied layout above under lines at count now) → count < length lines
     → new ≡ (above ++ drawn.rows) ++ removed_cells layout Removal (get_or lines count d).0 (get_or lines count d).1 (row_at drawn.tail 0) ∷ []
     → next ≡ length new → Emptied layout above under lines next (count + 1) new
-emptied_more layout above under lines d at count next now new drawn within adds below =
-    let line : ℕ × List ℕ = get_or lines count d in
-    let row : List Cell = removed_cells layout Removal line.0 line.1 (row_at drawn.tail 0) in
-    let rows : List (List Cell) = drawn.rows ++ row ∷ [] in
-    let is : new ≡ above ++ rows = adds ∙ append_assoc above drawn.rows (row ∷ []) in
-    let later : List (List Cell) = emptied_cells layout (drop (count + 1) lines) [] in
-    let cut : emptied_cells layout (drop count lines) (row_at drawn.tail 0)
-    ≡ row ∷ later = ap (λ ls. emptied_cells layout ls (row_at drawn.tail 0)) (drop_more lines count d within)
-    ∙ emptied-cons layout line (drop (count + 1) lines) (row_at drawn.tail 0) in
-    record {
-      rows = rows;
-      tail = [];
-      few = omega arith;
-      here = below ∙ ap length is;
-      stands = is ∙ sym (append-nil (above ++ rows));
-      whole = append_assoc drawn.rows (row ∷ []) later ∙ ap (λ rs. drawn.rows ++ rs) (sym cut) ∙ drawn.whole;
-      after = λ some. refl;
-    }
+emptied_more layout above under lines d at count next now new drawn within adds below = grind (arith, append_assoc, drop_more, emptied-cons, append-nil)
 
 -- the next of some lines of the source
 pub emptied_next : (layout : SuggestionLayout) (above : List (List Cell)) (under : List Cell) (infos : List LineInfo) (d : LineInfo)
@@ -92,19 +74,13 @@ emptied_next layout above under infos d at count next now new drawn within adds 
 
 -- no more lines are numbered than there are
 pub numbered_all : (infos : List LineInfo) (count : ℕ) → length infos ≤ count → length (numbered_at infos) ≤ count
-numbered_all infos count all =
-    let f : LineInfo → ℕ × List ℕ = λ info. (info.line_index, info.line.now) in
-    omega (arith, all, length-map infos f)
+numbered_all infos count all = grind (arith, length-map)
 
 -- once no emptied line is left all are added
 pub emptied_done : (layout : SuggestionLayout) (above : List (List Cell)) (under : List Cell) (lines : List (ℕ × List ℕ)) (at count : ℕ)
     (now : List (List Cell)) → 0 < count → length lines ≤ count → Emptied layout above under lines at count now → now ≡ above
     ++ emptied_cells layout lines under
-emptied_done layout above under lines at count now some all drawn =
-    let none : emptied_cells layout (drop count lines) (row_at drawn.tail 0)
-    ≡ [] = ap (λ ls. emptied_cells layout ls (row_at drawn.tail 0)) (drop_all count lines all) ∙ emptied-nil layout (row_at drawn.tail 0) in
-    let rows : drawn.rows ≡ emptied_cells layout lines under = sym (append-nil drawn.rows) ∙ ap (λ rs. drawn.rows ++ rs) (sym none) ∙ drawn.whole in
-    drawn.stands ∙ ap (λ tail. (above ++ drawn.rows) ++ tail) (drawn.after some) ∙ append-nil (above ++ drawn.rows) ∙ ap (λ rs. above ++ rs) rows
+emptied_done layout above under lines at count now some all drawn = grind (arith, drop_all, emptied-nil, append-nil)
 
 -- ---- a diff
 
@@ -117,14 +93,7 @@ taken-append layout first replaced k [] info =
     let here : k ≡ k + 0 = omega arith in
     ap (λ n. with_stretches Removal layout.base.gutter (chars info.line.now) (replaced (info.line_index - first))
     (removed_cells layout NoStyle (capped_sum first n) info.line.now []) ∷ []) here
-taken-append layout first replaced k (one ∷ infos) info =
-    let here : k + 1 + length infos ≡ k + length (one ∷ infos) = omega arith in
-    let Row : ℕ → List Cell = λ n. with_stretches Removal layout.base.gutter (chars info.line.now) (replaced (info.line_index - first))
-    (removed_cells layout NoStyle (capped_sum first n) info.line.now []) in
-    let top : List Cell = with_stretches Removal layout.base.gutter (chars one.line.now) (replaced (one.line_index - first))
-    (removed_cells layout NoStyle (capped_sum first k) one.line.now []) in
-    ap (λ rows. top ∷ rows) (taken-append layout first replaced (k + 1) infos info)
-    ∙ ap (λ n. top ∷ (taken_cells layout first replaced (k + 1) infos ++ Row n ∷ [])) here
+taken-append layout first replaced k (one ∷ infos) info = grind (arith, common_steps, taken-append layout first replaced (k + 1) infos info)
 
 -- before any removed line is taken no row is added
 pub taken_none : (layout : SuggestionLayout) (first : ℕ) (replaced : ℕ → List SubstitutionHighlight) (infos : List LineInfo) (old : List (List Cell))
@@ -140,18 +109,7 @@ pub taken_next : (layout : SuggestionLayout) (first : ℕ) (replaced : ℕ → L
     ss (removed_cells layout NoStyle number (get_or infos i d).line.now []) ∷ []
     → new ≡ old ++ taken_cells layout first replaced 0 (take (i + 1) infos)
 taken_next layout first replaced infos i number d ss old now new within number_is ss_is is adds =
-    let info : LineInfo = get_or infos i d in
-    let front : List (List Cell) = taken_cells layout first replaced 0 (take i infos) in
-    let Row : ℕ → List SubstitutionHighlight → List Cell = λ n es. with_stretches Removal layout.base.gutter (chars info.line.now) es
-    (removed_cells layout NoStyle n info.line.now []) in
-    let count : i ≡ 0 + length (take i infos) = omega (arith, length-take i infos, within) in
-    let row : Row number ss ≡ Row (capped_sum first (0 + length (take i infos))) (replaced (info.line_index - first)) = ap (λ n.
-    Row n ss) (number_is ∙ ap (capped_sum first) count) ∙ ap (Row (capped_sum first (0 + length (take i infos)))) ss_is in
-    let more : taken_cells layout first replaced 0 (take (i + 1) infos) ≡ front ++ Row (capped_sum first (0 + length (take i infos)))
-    (replaced (info.line_index - first)) ∷ [] =
-    ap (taken_cells layout first replaced 0) (take_more infos i d within) ∙ taken-append layout first replaced 0 (take i infos) info in
-    adds ∙ ap (λ rows. rows ++ Row number ss ∷ []) is ∙ append_assoc old front (Row number ss ∷ []) ∙ ap (λ r. old ++ (front ++ r ∷ [])) row
-    ∙ ap (λ rows. old ++ rows) (sym more)
+    grind (arith, common_steps, length-take, take_more, taken-append, append_assoc)
 
 -- the last of some rows
 pub record LastOf (rows : List (List Cell)) : Type 0 where
@@ -180,13 +138,7 @@ pub diff_left : (layout : SuggestionLayout) (first : ℕ) (infos : List LineInfo
     → on_last (left_out_cells layout.base.gutter line (gone_of stays first replaced infos) added)
     (last ∷ taken_cells layout first replaced 0 (unless_stays stays infos)) ≡ diff_cells layout first infos replaced line added last
 unfolding diff_cells
-diff_left layout first infos replaced line added last stays is left =
-    let Rows : Bool → List (List Cell) = λ b. on_last (left_out_cells layout.base.gutter line (gone_of b first replaced infos) added)
-    (last ∷ taken_cells layout first replaced 0 (unless_stays b infos)) in
-    let real : Bool = bytes_eq line (last_removed infos) in
-    let rows : List (List Cell) = last ∷ taken_cells layout first replaced 0 (unless_stays real infos) in
-    ap Rows is ∙ sym (cond-true (is_left_out Diff (line ∷ []) (last_removed infos)) (Rows real)
-    (rows ++ offered_cells layout Diff 1 first line added ∷ []) left)
+diff_left layout first infos replaced line added last stays is left = grind (arith, common_steps, cond-true)
 
 -- where the added line isn't left out, a diff is its beginning, the removed lines and the added one
 pub diff_shown : (layout : SuggestionLayout) (first : ℕ) (infos : List LineInfo) (replaced : ℕ → List SubstitutionHighlight) (line : List ℕ)
@@ -195,13 +147,7 @@ pub diff_shown : (layout : SuggestionLayout) (first : ℕ) (infos : List LineInf
     → (last ∷ taken_cells layout first replaced 0 (unless_stays stays infos)) ++ offered_cells layout Diff 1 first line added ∷ []
     ≡ diff_cells layout first infos replaced line added last
 unfolding diff_cells
-diff_shown layout first infos replaced line added last stays is shown =
-    let Rows : Bool → List (List Cell) = λ b. last ∷ taken_cells layout first replaced 0 (unless_stays b infos) in
-    let real : Bool = bytes_eq line (last_removed infos) in
-    ap (λ b. Rows b ++ offered_cells layout Diff 1 first line added ∷ []) is
-    ∙ sym (cond-false (is_left_out Diff (line ∷ []) (last_removed infos))
-    (on_last (left_out_cells layout.base.gutter line (gone_of real first replaced infos) added) (Rows real))
-    (Rows real ++ offered_cells layout Diff 1 first line added ∷ []) shown)
+diff_shown layout first infos replaced line added last stays is shown = grind (arith, common_steps, cond-false)
 
 -- a line that is the last that is reached isn't shown
 pub stays_left : (line last : List ℕ) → bytes_eq line last ≡ true → is_left_out Diff (line ∷ []) last ≡ true
@@ -209,24 +155,16 @@ stays_left line last same = ap (λ b. is_blank_text line || b) same ∙ or-true 
 
 -- the lines that are drawn, where the last may stay
 pub left_infos : (infos : List LineInfo) (count : ℕ) (stays : Bool) → count ≡ length infos - bool_byte stays → take count infos ≡ unless_stays stays infos
-left_infos infos count true is = ap (λ n. take n infos) is
-left_infos infos count false is = take_all count infos (omega (arith, is))
+left_infos x y z u = grind (arith, take_all)
 
 -- where the last line goes too, no stretch is given to another row
 pub none_gone : (gutter : ℕ) (line : List ℕ) (stays : Bool) (first : ℕ) (replaced : ℕ → List SubstitutionHighlight) (infos : List LineInfo) (row : List Cell)
     → stays ≡ false → with_stretches Removal gutter (chars line) (gone_of stays first replaced infos) row ≡ row
-none_gone gutter line stays first replaced infos row goes =
-    ap (λ b. with_stretches Removal gutter (chars line) (gone_of b first replaced infos) row) goes ∙ with_none Removal gutter (chars line) row
+none_gone gutter line stays first replaced infos row goes = grind (arith, with_none)
 
 -- and those of the line that stays are
 pub some_gone : (gutter : ℕ) (line : List ℕ) (stays : Bool) (first : ℕ) (replaced : ℕ → List SubstitutionHighlight) (infos : List LineInfo)
     (row : List Cell) (count : ℕ) (d : LineInfo) (ss : List SubstitutionHighlight) → stays ≡ true → count ≡ length infos - bool_byte stays
     → count < length infos → ss ≡ replaced ((get_or infos count d).line_index - first)
     → with_stretches Removal gutter (chars line) ss row ≡ with_stretches Removal gutter (chars line) (gone_of stays first replaced infos) row
-some_gone gutter line stays first replaced infos row count d ss keeps counts within is =
-    let index : LineInfo → ℕ = λ info. info.line_index in
-    let last : length infos - 1 ≡ count = sym (counts ∙ ap (λ b. length infos - bool_byte b) keeps) in
-    let same : get_or (map index infos) (length infos - 1) 0 ≡ (get_or infos count d).line_index = ap (λ n. get_or (map index infos) n 0) last
-    ∙ mapped index infos count d 0 within in
-    let gone : gone_of stays first replaced infos ≡ ss = ap (λ b. gone_of b first replaced infos) keeps ∙ ap (λ n. replaced (n - first)) same ∙ sym is in
-    ap (λ es. with_stretches Removal gutter (chars line) es row) (sym gone)
+some_gone gutter line stays first replaced infos row count d ss keeps counts within is = grind (arith, common_steps, bool_byte)

@@ -1,59 +1,22 @@
 -- Spans of a source that are taken.
-use Rattle.snippet_suggest.proofs.Common.{◌≡◌, ℕ, ◌+◌, ◌-◌, ◌≤◌, min, ◌&&◌, ltb, leb, Option, Some, None, List, [], ◌∷◌, All}
-use Rattle.snippet_suggest.proofs.Common.{drop, get_or, length, map, inl, inr, refl, sym, ◌∙◌, arith, subst, slice_range, IsCharBoundary, IsUtf8}
-use Rattle.snippet_suggest.proofs.Common.{and_parts, cases_lt, cond_both, leb-true, get_or-drop, get_or-take, length-drop, length-take-le, All-head, All-map}
-use Rattle.snippet_suggest.proofs.Common.{All-tail, IsCharBoundary-end, IsCharBoundary-start, IsSpan, IsSpanBorder, All-put_in, All-unmapped, TrimmedPatch}
-use Rattle.snippet_suggest.proofs.Common.{Edit, in_order, precedes, shrunk, trimmed_edit, trimmed_edits, edit_bounds, original_bounds_of, trimmed_edit_of}
-use Rattle.snippet_suggest.proofs.Common.{sandwich, sandwich-sandwiched}
+use Rattle.snippet_suggest.proofs.Common.{◌≡◌, ℕ, ◌+◌, ◌-◌, ◌≤◌, min, ◌&&◌, ltb, leb, Option, Some, None, List, [], ◌∷◌, All, drop, get_or, length, map, inl}
+use Rattle.snippet_suggest.proofs.Common.{refl, sym, arith, subst, slice_range, IsCharBoundary, IsUtf8, and_parts, cond_both, leb-true, get_or-drop}
+use Rattle.snippet_suggest.proofs.Common.{get_or-take, length-drop, length-take-le, All-head, All-map, All-tail, IsCharBoundary-end, IsCharBoundary-start}
+use Rattle.snippet_suggest.proofs.Common.{IsSpan, IsSpanBorder, All-put_in, All-unmapped, TrimmedPatch, Edit, in_order, precedes, shrunk, trimmed_edit}
+use Rattle.snippet_suggest.proofs.Common.{trimmed_edits, edit_bounds, original_bounds_of, trimmed_edit_of, sandwich, sandwich-sandwiched, common_steps}
 
 -- that of the whole source
 pub whole_span : (source text : List ℕ) → IsUtf8 text → text ≡ source → IsSpan source 0 (length text)
-whole_span source text valid is =
-    subst (λ s. IsSpan s 0 (length text)) is (record {
-      ordered = omega arith;
-      within = omega arith;
-      from = inl (IsCharBoundary-start text valid);
-      to = inl (IsCharBoundary-end text);
-    })
+whole_span source text valid is = grind (arith, common_steps, IsCharBoundary-start, IsCharBoundary-end)
 
 -- from the start of one to the end of another, or to that end alone
 pub joined_span : (source : List ℕ) (a b c d from : ℕ) → from ≡ min a d → IsSpan source a b → IsSpan source c d → IsSpan source from d
-joined_span source a b c d from is first last =
-    elim (cases_lt d a) [
-      | inl past ↦ let at : d ≡ from = omega arith in record {
-        ordered = omega arith;
-        within = last.within;
-        from = subst
-            (IsSpanBorder source) at last.to;
-        to = last.to;
-      }
-      | inr before ↦ let at : a ≡ from = omega arith in record {
-        ordered = omega arith;
-        within = last.within;
-        from = subst
-            (IsSpanBorder source) at first.from;
-        to = last.to;
-      }
-    ]
+joined_span source a b c d from is first last = grind (arith, common_steps)
 
 -- a part of a source may be cut where the source may
 border_inside : (source : List ℕ) (start end before : ℕ) → start ≤ end → end ≤ length source → IsSpanBorder source end
     → IsCharBoundary (slice_range source start end) before → IsCharBoundary source (start + before)
-border_inside source start end before ordered within to border =
-    let part : List ℕ = slice_range source start end in
-    let size : length part ≡ end - start = length-take-le (end - start) (drop start source) (omega (arith, length-drop start source)) in
-    elim (cases_lt before (length part)) [
-      | inl inside ↦
-          let same : get_or part before 0 ≡ get_or source (start + before) 0 = get_or-take (end - start) (drop start source) before 0 (omega arith)
-          ∙ get_or-drop start source before 0 in
-          (omega arith, λ left high. let lead : 192 ≤ get_or part before 0 = border.1 inside (omega arith) in omega arith)
-      | inr past ↦
-          let at : end ≡ start + before = omega (arith, border.0) in
-          elim to [
-            | inl boundary ↦ subst (IsCharBoundary source) at boundary
-            | inr after ↦ absurd (omega arith)
-          ]
-    ]
+border_inside source start end before ordered within to border = grind (arith, common_steps, length-take-le, length-drop, get_or-take, get_or-drop)
 
 -- a trimmed edit's span is taken where the untrimmed one's is
 edit_span : (source : List ℕ) (e : Edit) → IsSpan source e.start e.end → IsSpan source (trimmed_edit source e).start (trimmed_edit source e).end

@@ -1,9 +1,9 @@
 -- The stretches of a line that take a role, one after another, and the walk that counts the tabs before them.
-use Rattle.snippet_suggest.proofs.Common.{◌≡◌, ℕ, ◌+◌, ◌-◌, ◌^◌, ◌<◌, ◌≤◌, eqb, Bool, true, List, [], ◌∷◌, ◌++◌, length}
-use Rattle.snippet_suggest.proofs.Common.{min, take, drop, get_or, refl, sym, ap, ◌∙◌, arith, inl, inr, subst, count_by, cases_Bool, count_by_more_no}
-use Rattle.snippet_suggest.proofs.Common.{count_by_more_yes, IsUtf8-past_char, chars-nil, chars_past_char, IsUtf8, chars_rest, encode_utf8, ElementStyle, Cell}
-use Rattle.snippet_suggest.proofs.Common.{changed_within, restyled, cells_restyled, SubstitutionHighlight, capped, TabCursor, stretch_cell, with_stretches}
-use Rattle.snippet_suggest.proofs.Common.{IsCursor, length-drop, places, same_lists, take_all, take_more, set, get_or_at, length-append, changed_within_one}
+use Rattle.snippet_suggest.proofs.Common.{◌≡◌, ℕ, ◌+◌, ◌-◌, ◌^◌, ◌<◌, ◌≤◌, eqb, true, List, [], ◌∷◌, ◌++◌, length, min, take, drop, get_or, refl, sym, ap}
+use Rattle.snippet_suggest.proofs.Common.{◌∙◌, arith, subst, count_by, count_by_more_no, count_by_more_yes, IsUtf8-past_char, chars-nil, chars_past_char}
+use Rattle.snippet_suggest.proofs.Common.{IsUtf8, chars_rest, encode_utf8, ElementStyle, Cell, changed_within, restyled, cells_restyled}
+use Rattle.snippet_suggest.proofs.Common.{SubstitutionHighlight, capped, TabCursor, stretch_cell, with_stretches, IsCursor, length-drop, places, same_lists}
+use Rattle.snippet_suggest.proofs.Common.{take_all, take_more, set, get_or_at, length-append, changed_within_one, common_steps}
 use Rattle.std.proofs.Common.{chars}
 use mir.Val.{bool_byte}
 
@@ -26,14 +26,7 @@ changed_last f above row =
 
 -- it begins before the line
 pub cursor_begins : (t : TabCursor) → IsUtf8 t.line.now → chars_rest t.rest ≡ t.line.now → t.passed ≡ 0 → t.tabs ≡ 0 → IsCursor t
-cursor_begins t text rest none zeros =
-    record {
-      text = text;
-      left_text = subst IsUtf8 (sym rest) text;
-      within = omega (arith, none);
-      left = ap chars rest ∙ sym (ap (λ n. drop n (chars t.line.now)) none);
-      counted = zeros ∙ sym (ap (λ n. capped (count_by (λ c. eqb c 9) (take n (chars t.line.now)))) none);
-    }
+cursor_begins t text rest none zeros = grind (arith, common_steps, count_by)
 
 -- the character that it comes to
 first_left : (cs left : List ℕ) (n c : ℕ) → c ∷ left ≡ drop n cs → (n < length cs) × (get_or cs n 0 ≡ c) × (left ≡ drop (n + 1) cs)
@@ -48,18 +41,7 @@ first_left cs left n c is =
 -- one tab more, or none
 one_more : (cs : List ℕ) (n c tabs more now : ℕ) → n < length cs → get_or cs n 0 ≡ c → tabs ≡ capped (count_by (λ d. eqb d 9) (take n cs))
     → more ≡ bool_byte (eqb c 9) → now ≡ min (tabs + more) (2 ^ 64 - 1) → now ≡ capped (count_by (λ d. eqb d 9) (take (n + 1) cs))
-one_more cs n c tabs more now within at counted adds sums =
-    let p : ℕ → Bool = λ d. eqb d 9 in
-    elim (cases_Bool (eqb c 9)) [
-      | inl tab ↦
-          let one : more ≡ 1 = adds ∙ ap bool_byte tab in
-          let all : count_by p (take (n + 1) cs) ≡ count_by p (take n cs) + 1 = count_by_more_yes p cs n 0 within (ap p at ∙ tab) in
-          sums ∙ omega (arith, counted, one, all)
-      | inr other ↦
-          let none : more ≡ 0 = adds ∙ ap bool_byte other in
-          let all : count_by p (take (n + 1) cs) ≡ count_by p (take n cs) = count_by_more_no p cs n 0 within (ap p at ∙ other) in
-          sums ∙ omega (arith, counted, none, all)
-    ]
+one_more cs n c tabs more now within at counted adds sums = grind (arith, common_steps, bool_byte, count_by, count_by_more_yes, count_by_more_no)
 
 -- a cursor that passes one more character counts it where it is a tab
 pub cursor_next : (t now : TabCursor) (c more : ℕ) → IsCursor t → now.line.now ≡ t.line.now → chars_rest t.rest ≡ encode_utf8 c ++ chars_rest now.rest
@@ -80,23 +62,12 @@ cursor_next t now c more at line rest passed adds sums =
 
 -- what it counted before a character that it has come to, or at the line's end
 pub cursor_there : (t : TabCursor) (k : ℕ) → IsCursor t → t.passed ≡ k → t.tabs ≡ capped (count_by (λ c. eqb c 9) (take k (chars t.line.now)))
-cursor_there t k at there =
-    at.counted ∙ ap (λ n. capped (count_by (λ c. eqb c 9) (take n (chars t.line.now)))) there
+cursor_there t k at there = grind (arith, count_by)
 
 -- a cursor at the end has counted all tabs
 pub cursor_ended : (t : TabCursor) (k : ℕ) → IsCursor t → t.passed ≤ k → length (chars_rest t.rest) ≡ 0
     → t.tabs ≡ capped (count_by (λ c. eqb c 9) (take k (chars t.line.now)))
-cursor_ended t k at few ended =
-    let cs : List ℕ = chars t.line.now in
-    let none : chars_rest t.rest ≡ [] = empty (chars_rest t.rest) ended in
-    let left : drop t.passed cs ≡ [] = sym at.left ∙ ap chars none ∙ chars-nil in
-    let long : length cs - t.passed ≡ 0 = sym (length-drop t.passed cs) ∙ ap length left in
-    let all : take t.passed cs ≡ take k cs = take_all t.passed cs (omega (arith, long)) ∙ sym (take_all k cs (omega (arith, long, few))) in
-    at.counted ∙ ap (λ ds. capped (count_by (λ c. eqb c 9) ds)) all
-  where
-    empty : (xs : List ℕ) → length xs ≡ 0 → xs ≡ []
-    empty [] is = refl
-    empty (x ∷ xs) is = absurd (omega (arith, is))
+cursor_ended t k at few ended = grind (arith, common_steps, chars-nil, length-drop, take_all, count_by)
 
 -- ---- the stretches
 
@@ -122,8 +93,7 @@ empty_stretch f at row = same_lists _ _ (grind (arith, places)) (λ k d h. grind
 -- so far, and one more
 pub painted_begun : (role : ElementStyle) (gutter : ℕ) (cs : List ℕ) (ss : List SubstitutionHighlight) (above : List (List Cell)) (last : List Cell)
     (now : List (List Cell)) → now ≡ above ++ last ∷ [] → now ≡ above ++ with_stretches role gutter cs (take 0 ss) last ∷ []
-painted_begun role gutter cs ss above last now is =
-    is ∙ ap (λ (row : List Cell). above ++ row ∷ []) (sym (with_none role gutter cs last))
+painted_begun role gutter cs ss above last now is = grind (arith, with_none)
 
 -- with one more stretch painted the stretches so far are painted
 pub painted_next : (role : ElementStyle) (gutter : ℕ) (cs : List ℕ) (ss : List SubstitutionHighlight) (i : ℕ) (d : SubstitutionHighlight)
@@ -132,26 +102,11 @@ pub painted_next : (role : ElementStyle) (gutter : ℕ) (cs : List ℕ) (ss : Li
     → end ≡ stretch_cell gutter cs (get_or ss i d).end → new ≡ cells_restyled now row start end role true
     → new ≡ above ++ with_stretches role gutter cs (take (i + 1) ss) last ∷ []
 painted_next role gutter cs ss i d above last now new row start end within here is starts ends paints =
-    let so_far : List Cell = with_stretches role gutter cs (take i ss) last in
-    let f : ℕ → ℕ → List Cell → List Cell = λ from to. changed_within (restyled role true) from to in
-    let s : SubstitutionHighlight = get_or ss i d in
-    paints ∙ ap (λ (rows : List (List Cell)). changed_within (f start end) row (row + 1) rows) is
-    ∙ ap (λ r. changed_within (f start end) r (r + 1) (above ++ so_far ∷ [])) here ∙ changed_last (f start end) above so_far
-    ∙ ap (λ n. above ++ f n end so_far ∷ []) starts ∙ ap (λ n. above ++ f (stretch_cell gutter cs s.start) n so_far ∷ []) ends
-    ∙ ap (λ (r : List Cell). above ++ r ∷ []) (sym (with_append role gutter cs (take i ss) s last))
-    ∙ ap (λ (t : List SubstitutionHighlight). above ++ with_stretches role gutter cs t last ∷ []) (sym (take_more ss i d within))
+    grind (arith, common_steps, changed_last, with_append, take_more)
 
 -- an empty stretch is passed, and paints nothing
 pub passed_next : (role : ElementStyle) (gutter : ℕ) (cs : List ℕ) (ss : List SubstitutionHighlight) (i : ℕ) (d : SubstitutionHighlight)
     (above : List (List Cell)) (last : List Cell) (now : List (List Cell)) → i < length ss
     → now ≡ above ++ with_stretches role gutter cs (take i ss) last ∷ [] → (get_or ss i d).start ≡ (get_or ss i d).end
     → now ≡ above ++ with_stretches role gutter cs (take (i + 1) ss) last ∷ []
-passed_next role gutter cs ss i d above last now within is empty =
-    let so_far : List Cell = with_stretches role gutter cs (take i ss) last in
-    let s : SubstitutionHighlight = get_or ss i d in
-    let f : ℕ → ℕ → List Cell → List Cell = λ from to. changed_within (restyled role true) from to in
-    let stays : f (stretch_cell gutter cs s.start) (stretch_cell gutter cs s.end) so_far
-    ≡ so_far = ap (λ k. f (stretch_cell gutter cs s.start) (stretch_cell gutter cs k) so_far) (sym empty)
-    ∙ empty_stretch (restyled role true) (stretch_cell gutter cs s.start) so_far in
-    is ∙ ap (λ (r : List Cell). above ++ r ∷ []) (sym stays ∙ sym (with_append role gutter cs (take i ss) s last))
-    ∙ ap (λ (t : List SubstitutionHighlight). above ++ with_stretches role gutter cs t last ∷ []) (sym (take_more ss i d within))
+passed_next role gutter cs ss i d above last now within is empty = grind (arith, common_steps, empty_stretch, with_append, take_more)

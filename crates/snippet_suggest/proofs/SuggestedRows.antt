@@ -1,16 +1,15 @@
 -- What is drawn of a suggestion is its value.
-use Rattle.snippet_suggest.proofs.Common.{◌≡◌, ◌≢◌, ℕ, zero, suc, ◌+◌, ◌-◌, ◌^◌, ◌<◌, ◌≤◌, Bool, true, false, List, []}
-use Rattle.snippet_suggest.proofs.Common.{◌∷◌, ◌++◌, length, map, get_or, refl, sym, ap, ◌∙◌, ◌&&◌, arith, append_assoc, take, inl, inr}
-use Rattle.snippet_suggest.proofs.Common.{if◌then◌else◌, append-nil, length-map, map-append, take-map, get_or-map-range_with_len, length-range_with_len}
-use Rattle.snippet_suggest.proofs.Common.{cow_str_bytes, cases_Bool, cond-false, cond-true, range_with_len, bytes_eq, Snippet, Patch, LineInfo, Cell, NoStyle}
-use Rattle.snippet_suggest.proofs.Common.{Removal, Edit, last_line_reached, SubstitutionHighlight, DisplaySuggestion, Add, Diff, Plain, Underline}
-use Rattle.snippet_suggest.proofs.Common.{SuggestionLayout, SuggestionStart, Next, Opening, Path, SuggestionLine, Gap, Line, begin_cells, end_cells}
-use Rattle.snippet_suggest.proofs.Common.{left_out_cells, offered_cells, on_last, removed_cells, with_stretches, edits_of, first_given, given_lines}
-use Rattle.snippet_suggest.proofs.Common.{given_ranges, is_left_out, last_reached, shown_kind, trimmed_of, numbered_source, Begins, Empty, Ends, Offers}
-use Rattle.snippet_suggest.proofs.Common.{Removes, SuggestionRow, rows_of_suggestion, is_touched, body_cells, suggested_cells, cells_over, marked_edits, new_on}
-use Rattle.snippet_suggest.proofs.Common.{removed_in, suggested_stretches, rows_shared, suggestion_cells, suggestion_row, diff_cells, emptied_cells, gone_of}
-use Rattle.snippet_suggest.proofs.Common.{taken_cells, last_removed, unless_stays, counted_from, numbered_at, removed_from, with_left_out, with_marks}
-use Rattle.snippet_suggest.proofs.Common.{capped_sum, and-false}
+use Rattle.snippet_suggest.proofs.Common.{◌≡◌, ◌≢◌, ℕ, zero, suc, ◌+◌, ◌-◌, ◌^◌, ◌<◌, ◌≤◌, Bool, true, false, List, [], ◌∷◌, ◌++◌, length, map, get_or, refl}
+use Rattle.snippet_suggest.proofs.Common.{sym, ap, ◌∙◌, ◌&&◌, arith, append_assoc, take, inl, inr, if◌then◌else◌, append-nil, length-map, map-append}
+use Rattle.snippet_suggest.proofs.Common.{take-map, get_or-map-range_with_len, length-range_with_len, cow_str_bytes, cases_Bool, cond-false, cond-true}
+use Rattle.snippet_suggest.proofs.Common.{range_with_len, bytes_eq, Snippet, Patch, LineInfo, Cell, NoStyle, Removal, last_line_reached}
+use Rattle.snippet_suggest.proofs.Common.{SubstitutionHighlight, DisplaySuggestion, Diff, Underline, SuggestionLayout, SuggestionStart, SuggestionLine, Gap}
+use Rattle.snippet_suggest.proofs.Common.{Line, begin_cells, end_cells, left_out_cells, offered_cells, on_last, removed_cells, with_stretches, edits_of}
+use Rattle.snippet_suggest.proofs.Common.{first_given, given_lines, given_ranges, is_left_out, last_reached, shown_kind, trimmed_of, numbered_source, Begins}
+use Rattle.snippet_suggest.proofs.Common.{Empty, Ends, Offers, Removes, SuggestionRow, rows_of_suggestion, is_touched, body_cells, suggested_cells}
+use Rattle.snippet_suggest.proofs.Common.{cells_over, new_on, suggested_stretches, rows_shared, suggestion_cells, suggestion_row, diff_cells, emptied_cells}
+use Rattle.snippet_suggest.proofs.Common.{gone_of, taken_cells, last_removed, unless_stays, counted_from, numbered_at, removed_from, with_marks, capped_sum}
+use Rattle.snippet_suggest.proofs.Common.{and-false, common_steps, rules}
 use Rattle.std.proofs.Common.{chars}
 use Rattle.std.proofs.Math.ListN.{get_or-map}
 use Rattle.snippet_suggest.proofs.ByKind.{row_of_shown}
@@ -34,68 +33,51 @@ pub rows_of_same_stretches : (layout : SuggestionLayout) (kind : DisplaySuggesti
     (shown : List SuggestionLine) → ((k : ℕ) → f k ≡ g k) → map (suggestion_row layout kind first lines f) shown
     ≡ map (suggestion_row layout kind first lines g) shown
 rows_of_same_stretches layout kind first lines f g [] same = refl
-rows_of_same_stretches layout kind first lines f g (Line k ∷ shown) same =
-    let Row : List SubstitutionHighlight → List Cell = λ ss. suggestion_row layout kind first lines (λ n. ss) (Line k) in
-    ap (λ ss. Row ss ∷ map (suggestion_row layout kind first lines f) shown) (same k)
-    ∙ ap (λ rows. Row (g k) ∷ rows) (rows_of_same_stretches layout kind first lines f g shown same)
-rows_of_same_stretches layout kind first lines f g (Gap ∷ shown) same =
-    ap (λ rows. suggestion_row layout kind first lines g Gap ∷ rows) (rows_of_same_stretches layout kind first lines f g shown same)
+rows_of_same_stretches layout kind first lines f g (Line k ∷ shown) same = search rules
+rows_of_same_stretches layout kind first lines f g (Gap ∷ shown) same = simp (rows_of_same_stretches layout kind first lines f g shown same)
 
 pub shown_is : (layout : SuggestionLayout) (s : Snippet Patch) (shown : List SuggestionLine)
     → map (suggested_cells layout s []) (map row_of_shown shown) ≡ map (suggestion_row layout (shown_kind s) (s.line_start + first_given s) (given_lines s)
     (new_on s)) shown
 unfolding suggested_cells
 shown_is layout s [] = refl
-shown_is layout s (Line k ∷ shown) =
-    ap (λ rows. suggestion_row layout (shown_kind s) (s.line_start + first_given s) (given_lines s) (new_on s) (Line k) ∷ rows) (shown_is layout s shown)
-shown_is layout s (Gap ∷ shown) =
-    ap (λ rows. suggestion_row layout (shown_kind s) (s.line_start + first_given s) (given_lines s) (new_on s) Gap ∷ rows) (shown_is layout s shown)
+shown_is layout s (Line k ∷ shown) = grind (arith, shown_is layout s shown)
+shown_is layout s (Gap ∷ shown) = simp (shown_is layout s shown)
 
 -- ---- where no line is given
 
 removed_none : (layout : SuggestionLayout) (s : Snippet Patch) (under : List Cell) (i number : ℕ) (text : List ℕ) → given_lines s ≡ []
     → suggested_cells layout s under (Removes i number text) ≡ removed_cells layout Removal number text under
 unfolding suggested_cells
-removed_none layout s under i number text none =
-    ap (λ (ls : List (List ℕ)). removed_in layout ls (suggested_stretches s (i - first_given s)) number text under) none
+removed_none layout s under i number text none = search rules
 
 emptied_later : (layout : SuggestionLayout) (s : Snippet Patch) (i : ℕ) (lines : List (ℕ × List ℕ)) → given_lines s ≡ []
     → map (suggested_cells layout s []) (removed_from i lines) ≡ emptied_cells layout lines []
 unfolding emptied_cells
 emptied_later layout s i [] none = refl
-emptied_later layout s i (line ∷ lines) none =
-    ap (λ row. row ∷ map (suggested_cells layout s []) (removed_from (i + 1) lines)) (removed_none layout s [] i line.0 line.1 none)
-    ∙ ap (λ rows. removed_cells layout Removal line.0 line.1 [] ∷ rows) (emptied_later layout s (i + 1) lines none)
+emptied_later layout s i (line ∷ lines) none = grind (arith, removed_none, emptied_later layout s (i + 1) lines none)
 
 emptied_over : (layout : SuggestionLayout) (s : Snippet Patch) (under : List Cell) (i : ℕ) (lines : List (ℕ × List ℕ)) → given_lines s ≡ []
     → cells_over (suggested_cells layout s) under (removed_from i lines) ≡ emptied_cells layout lines under
 unfolding emptied_cells
 emptied_over layout s under i [] none = refl
-emptied_over layout s under i (line ∷ lines) none =
-    ap (λ row. row ∷ map (suggested_cells layout s []) (removed_from (i + 1) lines)) (removed_none layout s under i line.0 line.1 none)
-    ∙ ap (λ rows. removed_cells layout Removal line.0 line.1 under ∷ rows) (emptied_later layout s (i + 1) lines none)
+emptied_over layout s under i (line ∷ lines) none = grind (arith, removed_none, emptied_later)
 
 body_none : (layout : SuggestionLayout) (start : SuggestionStart) (s : Snippet Patch) (under : List Cell) (rows : List SuggestionRow) → given_lines s ≡ []
     → rows_of_suggestion start s ≡ rows → body_cells layout start s under ≡ cells_over (suggested_cells layout s) under rows
 unfolding body_cells
-body_none layout start s under rows none is =
-    ap (λ (ls : List (List ℕ)). with_left_out layout s ls (cells_over (suggested_cells layout s) under (rows_of_suggestion start s))) none
-    ∙ ap (cells_over (suggested_cells layout s) under) is
+body_none layout start s under rows none is = grind (arith)
 
 -- where no line is given, the rows of emptied lines are those of the suggestion
 pub body_emptied : (layout : SuggestionLayout) (start : SuggestionStart) (s : Snippet Patch) (under : List Cell) (i : ℕ) (lines : List (ℕ × List ℕ))
     → given_lines s ≡ [] → rows_of_suggestion start s ≡ removed_from i lines → emptied_cells layout lines under ≡ body_cells layout start s under
-body_emptied layout start s under i lines none is =
-    sym (body_none layout start s under (removed_from i lines) none is ∙ emptied_over layout s under i lines none)
+body_emptied layout start s under i lines none is = grind (arith, body_none, emptied_over)
 
 -- where a diff gives no line, its beginning and the rows of emptied lines are those of the suggestion
 pub body_emptied_diff : (layout : SuggestionLayout) (start : SuggestionStart) (s : Snippet Patch) (under : List Cell) (i : ℕ)
     (lines : List (ℕ × List ℕ)) → given_lines s ≡ [] → rows_of_suggestion start s ≡ Begins start ∷ removed_from i lines
     → begin_cells layout start under ∷ emptied_cells layout lines [] ≡ body_cells layout start s under
-body_emptied_diff layout start s under i lines none is =
-    sym (body_none layout start s under (Begins start ∷ removed_from i lines) none is
-    ∙ ap (λ row. row ∷ map (suggested_cells layout s []) (removed_from i lines)) (begins_is layout s under start)
-    ∙ ap (λ rows. begin_cells layout start under ∷ rows) (emptied_later layout s i lines none))
+body_emptied_diff layout start s under i lines none is = grind (arith, body_none, begins_is, emptied_later)
 
 -- ---- where lines are given, and aren't shown as a diff
 
@@ -105,11 +87,7 @@ body_plain : (layout : SuggestionLayout) (start : SuggestionStart) (s : Snippet 
     → (is_left_out (shown_kind s) (line ∷ lines) (last_reached s) && is_touched s.fold (given_ranges s) 0) ≡ false
     → rows_of_suggestion start s ≡ rows → body_cells layout start s under ≡ cells_over (suggested_cells layout s) under rows
 unfolding body_cells
-body_plain layout start s under line lines rows some stays is =
-    let all : List (List Cell) = cells_over (suggested_cells layout s) under (rows_of_suggestion start s) in
-    ap (λ (ls : List (List ℕ)). with_left_out layout s ls all) some
-    ∙ cond-false (is_left_out (shown_kind s) (line ∷ lines) (last_reached s) && is_touched s.fold (given_ranges s) 0) _ all stays
-    ∙ ap (cells_over (suggested_cells layout s) under) is
+body_plain layout start s under line lines rows some stays is = grind (arith, cond-false)
 
 -- where lines are given, and no diff is shown, the beginning and the rows of the shown lines are the suggestion's
 pub body_shown : (layout : SuggestionLayout) (start : SuggestionStart) (s : Snippet Patch) (under : List Cell) (line : List ℕ) (lines : List (List ℕ))
@@ -142,8 +120,7 @@ removed_some : (layout : SuggestionLayout) (s : Snippet Patch) (under : List Cel
     → given_lines s ≡ line ∷ [] → suggested_cells layout s under (Removes i number text) ≡ with_stretches Removal layout.base.gutter (chars text)
     (suggested_stretches s (i - first_given s)) (removed_cells layout NoStyle number text under)
 unfolding suggested_cells
-removed_some layout s under line i number text one =
-    ap (λ (ls : List (List ℕ)). removed_in layout ls (suggested_stretches s (i - first_given s)) number text under) one
+removed_some layout s under line i number text one = grind (arith)
 
 pub taken_rows : (layout : SuggestionLayout) (s : Snippet Patch) (line : List ℕ) (replaced : ℕ → List SubstitutionHighlight) (infos : List LineInfo)
     (f : ℕ → List ℕ) (a m k : ℕ) → given_lines s ≡ line ∷ [] → ((j : ℕ) → replaced j ≡ suggested_stretches s j)
@@ -173,9 +150,7 @@ taken_rows layout s line replaced (info ∷ infos) f a (suc m) k one same are =
 
 -- a suggestion shares at most one row
 pub shared_few : (start : SuggestionStart) (n : ℕ) → n ≡ rows_shared start → n ≤ 1
-shared_few Opening n is = omega (arith, is)
-shared_few Next n is = omega (arith, is)
-shared_few Path n is = omega (arith, is)
+shared_few x y z = grind (arith)
 
 -- ---- a diff that a patch touches
 
@@ -192,10 +167,7 @@ own_numbers (info ∷ infos) = ap (λ ks. info.line_index ∷ ks) (own_numbers i
 own_index : (infos : List LineInfo)
     → get_or (map (λ (info : LineInfo). info.line_index) infos) (length infos - 1) 0
     ≡ get_or (map (λ (l : ℕ × List ℕ). l.0) (numbered_at infos)) (length (numbered_at infos) - 1) 0
-own_index infos =
-    let g : LineInfo → ℕ × List ℕ = λ info. (info.line_index, info.line.now) in
-    let ks : List ℕ = map (λ (l : ℕ × List ℕ). l.0) (numbered_at infos) in
-    ap (λ (ns : List ℕ). get_or ns (length infos - 1) 0) (own_numbers infos) ∙ ap (λ (n : ℕ). get_or ks (n - 1) 0) (sym (length-map infos g))
+own_index infos = grind (arith, own_numbers, length-map)
 
 last_index : (base : ℕ) (f : ℕ → List ℕ) (a n : ℕ) → 0 < n
     → let ls : List (ℕ × List ℕ) = map {B = ℕ × List ℕ} (λ j. (base + j, f j)) (range_with_len a n) in get_or (map (λ (l : ℕ × List ℕ). l.0) ls)
@@ -264,33 +236,14 @@ module _ (layout : SuggestionLayout) (s : Snippet Patch) (line : List ℕ) (f : 
   -- the row of the line in their place
   offered_is : suggested_cells layout s [] (Offers 0) ≡ offered_cells layout Diff 1 first line (new_on s 0)
   unfolding suggested_cells
-  offered_is =
-      let number : capped_sum first 0 ≡ first = omega (arith, known.small) in
-      ap (λ (ls : List (List ℕ)). offered_cells layout (shown_kind s) (length ls) (capped_sum first 0) (get_or ls 0 []) (new_on s 0)) known.one
-      ∙ ap (λ k. offered_cells layout k 1 (capped_sum first 0) line (new_on s 0)) known.diff
-      ∙ ap (λ m. offered_cells layout Diff 1 m line (new_on s 0)) number
+  offered_is = grind (arith)
 
   -- where the line isn't shown, and where it is
   body_left : (start : SuggestionStart) (under : List Cell) → left ≡ true → rows_of_suggestion start s ≡ Begins start ∷ changed_rows true left removed
       → on_last (left_out_cells layout.base.gutter line (gone_of stays first replaced infos) (new_on s 0))
       (begin_cells layout start under ∷ taken_cells layout first replaced 0 (unless_stays stays infos)) ≡ body_cells layout start s under
   unfolding body_cells
-  body_left start under leaves rows =
-      let all : List (List Cell) = cells_over (suggested_cells layout s) under (rows_of_suggestion start s) in
-      let Painted : List SubstitutionHighlight → List (List Cell) → List (List Cell) = λ ss rs.
-      on_last (left_out_cells layout.base.gutter line ss (new_on s 0)) rs in
-      let test : (is_left_out (shown_kind s) (line ∷ []) (last_reached s) && is_touched s.fold (given_ranges s) 0) ≡ true =
-      ap (λ k. is_left_out k (line ∷ []) (last_reached s) && is_touched s.fold (given_ranges s) 0) known.diff
-      ∙ ap (λ (t : Bool). left && t) known.touched ∙ ap (λ (l : Bool). l && true) leaves in
-      let body : with_left_out layout s (given_lines s) all ≡ Painted gone all = ap (λ (ls : List (List ℕ)). with_left_out layout s ls all) known.one
-      ∙ cond-true _ (Painted gone all) all test in
-      let shown : all ≡ begin_cells layout start under ∷ taken_cells layout first replaced 0 (unless_stays stays infos) =
-      ap (cells_over (suggested_cells layout s) under)
-      (rows ∙ ap (λ l. Begins start ∷ changed_rows true l removed) leaves ∙ ap (λ rs. Begins start ∷ rs) (append-nil removed))
-      ∙ ap (λ row. row ∷ map (suggested_cells layout s []) removed) (begins_is layout s under start)
-      ∙ ap (λ rs. begin_cells layout start under ∷ rs) (sym taken_are) in
-      ap (λ ss. Painted ss (begin_cells layout start under ∷ taken_cells layout first replaced 0 (unless_stays stays infos))) gone_are
-      ∙ sym (body ∙ ap (Painted gone) shown)
+  body_left start under leaves rows = grind (arith, common_steps, left, cond-true, stays, append-nil, begins_is, taken_are, gone_are)
 
   body_offered : (start : SuggestionStart) (under : List Cell) → left ≡ false
       → rows_of_suggestion start s ≡ Begins start ∷ changed_rows true left removed
@@ -329,27 +282,17 @@ module _ (layout : SuggestionLayout) (s : Snippet Patch) (line : List ℕ) (f : 
 pub ends_marked : (layout : SuggestionLayout) (s : Snippet Patch) (follows : Bool) → shown_kind s ≡ Underline
     → with_marks layout (numbered_source s) [] (trimmed_of s) (end_cells layout follows) ≡ suggested_cells layout s [] (Ends follows)
 unfolding suggested_cells
-ends_marked layout s follows marks =
-    ap (λ k. with_marks layout (numbered_source s) [] (marked_edits k (trimmed_of s)) (end_cells layout follows)) (sym marks)
-
-none_marked : (kind : DisplaySuggestion) (es : List Edit) → kind ≢ Underline → marked_edits kind es ≡ []
-none_marked Underline es other = absurd (other refl)
-none_marked Diff es other = refl
-none_marked Plain es other = refl
-none_marked Add es other = refl
+ends_marked layout s follows marks = grind (arith)
 
 -- the last row of a suggestion that isn't underlined has no marks
 pub ends_plain : (layout : SuggestionLayout) (s : Snippet Patch) (follows : Bool) → shown_kind s ≢ Underline
     → end_cells layout follows ≡ suggested_cells layout s [] (Ends follows)
 unfolding suggested_cells with_marks
-ends_plain layout s follows other =
-    ap (λ es. with_marks layout (numbered_source s) [] es (end_cells layout follows)) (sym (none_marked (shown_kind s) (trimmed_of s) other))
+ends_plain layout s follows other = search rules
 
 -- the body and the last row are all rows of a suggestion
 pub suggestion_is : (layout : SuggestionLayout) (start : SuggestionStart) (follows : Bool) (s : Snippet Patch) (under : List Cell)
     (above before new : List (List Cell)) → before ≡ above ++ body_cells layout start s under
     → new ≡ before ++ suggested_cells layout s [] (Ends follows) ∷ [] → new ≡ above ++ suggestion_cells layout start follows s under
 unfolding suggestion_cells
-suggestion_is layout start follows s under above before new body adds =
-    let end : List (List Cell) = suggested_cells layout s [] (Ends follows) ∷ [] in
-    adds ∙ ap (λ rs. rs ++ end) body ∙ append_assoc above (body_cells layout start s under) end
+suggestion_is layout start follows s under above before new body adds = grind (arith, append_assoc)

@@ -1,13 +1,13 @@
 -- Each line that a patch touches is offered, unless it is blank or the suggestion's text is as it was.
-use Rattle.snippet_suggest.proofs.Common.{◌≡◌, ◌≢◌, ℕ, ◌+◌, ◌-◌, ◌<◌, ◌≤◌, ◌⊎◌, inl, inr, Bool, true, false, not, nat_le}
-use Rattle.snippet_suggest.proofs.Common.{◌&&◌, if◌then◌else◌, List, [], ◌∷◌, Contains, length, map, get_or, refl, sym, ap, subst, ◌∙◌}
-use Rattle.snippet_suggest.proofs.Common.{⊎_elim, arith, length-map, get_or-map, list_any_at, true≢false, and_from, or_cases, or_right, le-leb, cases_Bool}
-use Rattle.snippet_suggest.proofs.Common.{bytes_eq-Decides, chars-nil, cow_str_bytes, is_whitespace, list_all, bytes_eq, Snippet, Patch, lines_of, source_lines}
-use Rattle.snippet_suggest.proofs.Common.{text_at, LineRange, Edit, edit_of, patched, trimmed_edits, without_final_line_feeds, IsTouched, stands, line_ranges}
-use Rattle.snippet_suggest.proofs.Common.{ranges_from, spliced_text, texts_of, AreDisjoint, ranges_from-written_ranges, IsShownPart, IsHeld, shown-touched}
-use Rattle.snippet_suggest.proofs.Common.{touched-held, DisplaySuggestion, Underline, Diff, Plain, Add, IsOfferable, edits_of, first_given, given_lines}
-use Rattle.snippet_suggest.proofs.Common.{given_ranges, given_text, is_left_out, last_reached, shown_kind, trimmed_of, is_blank_text, kind_of, is_touched}
-use Rattle.snippet_suggest.proofs.Common.{shown_from, IsAsItWas, numbers_given, numbers_of, offered_lines, numbers_shown}
+use Rattle.snippet_suggest.proofs.Common.{◌≡◌, ◌≢◌, ℕ, ◌+◌, ◌-◌, ◌<◌, ◌≤◌, ◌⊎◌, inl, inr, Bool, true, false, not, nat_le, ◌&&◌, if◌then◌else◌, List, [], ◌∷◌}
+use Rattle.snippet_suggest.proofs.Common.{Contains, length, map, get_or, refl, sym, ap, subst, ◌∙◌, ⊎_elim, arith, length-map, get_or-map, list_any_at}
+use Rattle.snippet_suggest.proofs.Common.{true≢false, and_from, or_cases, or_right, le-leb, cases_Bool, bytes_eq-Decides, chars-nil, cow_str_bytes}
+use Rattle.snippet_suggest.proofs.Common.{is_whitespace, list_all, Snippet, Patch, lines_of, source_lines, text_at, LineRange, Edit, edit_of, patched}
+use Rattle.snippet_suggest.proofs.Common.{trimmed_edits, without_final_line_feeds, IsTouched, stands, line_ranges, ranges_from, spliced_text, texts_of}
+use Rattle.snippet_suggest.proofs.Common.{AreDisjoint, ranges_from-written_ranges, IsShownPart, IsHeld, shown-touched, touched-held, DisplaySuggestion, Diff}
+use Rattle.snippet_suggest.proofs.Common.{IsOfferable, edits_of, first_given, given_lines, given_ranges, given_text, is_left_out, last_reached, shown_kind}
+use Rattle.snippet_suggest.proofs.Common.{trimmed_of, is_blank_text, kind_of, is_touched, shown_from, IsAsItWas, numbers_given, numbers_of, offered_lines}
+use Rattle.snippet_suggest.proofs.Common.{numbers_shown, common_steps}
 use Rattle.snippet_lines.specs.Lines.{Line}
 use Rattle.snippet_suggest.proofs.ByKind.{counted_folded}
 use Rattle.snippet_suggest.proofs.RisingLemmas.{touched_shown}
@@ -30,14 +30,7 @@ held-later base j ranges h =
 -- a line is left out only of a diff: it is blank, or the same as the last that is removed
 left_out : (kind : DisplaySuggestion) (lines : List (List ℕ)) (last : List ℕ) → is_left_out kind lines last ≡ true
     → (kind ≡ Diff) × ((is_blank_text (get_or lines 0 []) ≡ true) ⊎ (get_or lines 0 [] ≡ last))
-left_out Diff lines last is = (
-  refl,
-  ⊎_elim (λ blank. inl blank) (λ same. inr ((bytes_eq-Decides (get_or lines 0 []) last).0 same))
-      (or_cases (is_blank_text (get_or lines 0 [])) (bytes_eq (get_or lines 0 []) last) is),
-)
-left_out Underline lines last is = absurd (true≢false (sym is))
-left_out Plain lines last is = absurd (true≢false (sym is))
-left_out Add lines last is = absurd (true≢false (sym is))
+left_out x y z u = grind (arith, common_steps, bytes_eq-Decides, or_cases, true≢false)
 
 -- a diff has at most one line
 diff-one : (source : List ℕ) (ts : List Edit) (text : List ℕ) → kind_of source ts text ≡ Diff → length (lines_of text) ≤ 1
