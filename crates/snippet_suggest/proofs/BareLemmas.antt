@@ -1,7 +1,7 @@
 -- Rows that show no line: of a placeholder or a glyph.
 use Rattle.snippet_suggest.proofs.Common.{◌≡◌, ℕ, zero, suc, ◌+◌, ◌-◌, ◌≤◌, true, false, List, [], ◌∷◌, ◌++◌, length, replicate, refl, sym, ap, ◌∙◌, arith}
-use Rattle.snippet_suggest.proofs.Common.{inl, inr, All, subst, list_all, list_any, slice_index_or, cases_lt, get_or-append_right, get_or_append_left}
-use Rattle.snippet_suggest.proofs.Common.{get_or_past, length-append, length-replicate, All-append, All-nil, All-replicate, AllPass-from_list_all, row_text}
+use Rattle.snippet_suggest.proofs.Common.{inl, All, subst, list_all, list_any, slice_index_or, get_or-append_right, get_or_append_left, get_or_past}
+use Rattle.snippet_suggest.proofs.Common.{length-append, length-replicate, All-append, All-nil, All-replicate, AllPass-from_list_all, row_text}
 use Rattle.snippet_suggest.proofs.Common.{row_text-text_cells, each_fails, free_drawn, free_led, DecorStyle, SuggestionGlyph, ElementStyle, Cell, SPACE}
 use Rattle.snippet_suggest.proofs.Common.{text_cells, suggestion_glyph_of, All-text_cells, length-text_cells, is_listed, put, HasLeft, IsBareRow}
 use Rattle.snippet_suggest.proofs.Common.{IsMarkOrSpace, beside_gutter, is_stroke, IsEdgeRow, common_steps}
@@ -10,7 +10,7 @@ use Rattle.snippet_suggest.proofs.PutRows.{ch_at, put_after, put_before, put_cel
 
 -- a row with no cells
 pub bare_none : (decor : DecorStyle) (gutter : ℕ) → IsBareRow decor gutter []
-bare_none decor gutter = grind (arith, common_steps, All-nil)
+bare_none decor gutter = grind (arith, All-nil)
 
 -- it shows nothing at all
 pub stroke_none : (decor : DecorStyle) (gutter : ℕ) → IsEdgeRow decor gutter [] []
@@ -27,11 +27,7 @@ stroke_blank decor gutter = record { bare = bare_none decor gutter; left_is = λ
 
 -- a fact of each cell of a row, and of a space, holds at each cell's number
 each_cell : (P : Cell → Type 0) (row : List Cell) → P SPACE → All P row → (c : ℕ) → P (slice_index_or row c SPACE)
-each_cell P row blank all c =
-    elim (cases_lt c (length row)) [
-      | inl within ↦ all c SPACE within
-      | inr past ↦ subst P (sym (get_or_past row c SPACE past)) blank
-    ]
+each_cell P row blank all c = grind (arith, get_or_past)
 
 -- a row that spaces lead, and that ends before the line's place with what stands left of it
 pub bare_led : (decor : DecorStyle) (gutter at : ℕ) (role : ElementStyle) (cs : List ℕ) → at + length cs ≤ gutter + 3 → list_all (is_stroke decor) cs ≡ true
@@ -71,25 +67,7 @@ stroke_led decor gutter at role cs short strokes free =
 put_left : (gutter : ℕ) (role : ElementStyle) (old cs : List ℕ) (row : List Cell) → length old ≤ length cs → HasLeft gutter (beside_gutter gutter old) row
     → HasLeft gutter (beside_gutter gutter cs) (put role cs (gutter + 1) row)
 put_left gutter role old cs row covers there c inside =
-    let at : ℕ = gutter + 1 in
-    let spaces : List ℕ = replicate at 32 in
-    let long : length spaces ≡ at = length-replicate at 32 in
-    let ch : Cell → ℕ = λ cell. cell.ch in
-    elim (cases_lt c at) [
-      | inl before ↦
-          ap ch (put_before role cs at c row before) ∙ there c inside ∙ get_or_append_left spaces old 32 c (omega (arith, long, before))
-          ∙ sym (get_or_append_left spaces cs 32 c (omega (arith, long, before)))
-      | inr not_before ↦
-          elim (cases_lt c (at + length cs)) [
-            | inl within ↦
-                put_inside role cs at c (c - at) row (omega (arith, not_before)) (omega (arith, within, not_before))
-                ∙ sym (get_or-append_right spaces cs at c 32 long (omega (arith, not_before)))
-            | inr past ↦
-                ap ch (put_after role cs at c row past) ∙ there c inside
-                ∙ get_or_past (spaces ++ old) c 32 (omega (arith, length-append spaces old, long, covers, past))
-                ∙ sym (get_or_past (spaces ++ cs) c 32 (omega (arith, length-append spaces cs, long, past)))
-          ]
-    ]
+    grind (arith, replicate, length-replicate, put_before, get_or_append_left, put_inside, get_or-append_right, put_after, get_or_past, length-append)
 
 -- a glyph that is put after the gutter of a row that shows no line, over one that is no longer
 pub stroke_put : (decor : DecorStyle) (gutter : ℕ) (role : ElementStyle) (glyph : SuggestionGlyph) (old : List ℕ) (row : List Cell)

@@ -12,7 +12,7 @@ pub use Rattle.snippet_lines.proofs.NumberLemmas.{chars-shown_number, shown_numb
 pub use Rattle.snippet_lines.proofs.OrderLemmas.{All-put_in}
 pub use Rattle.snippet_lines.proofs.PlaceLemmas.{line_of-within, line_of-mono}
 pub use Rattle.snippet_lines.specs.IsSpan.{IsSpan, IsSpanBorder}
-pub use Rattle.snippet_lines.specs.Lines.{source_lines, lines_of, Source, text_at, last_byte}
+pub use Rattle.snippet_lines.specs.Lines.{source_lines, lines_of, Source, text_at}
 unfoldable pub use Rattle.snippet_lines.specs.Lines.{newline_count, start_of}
 pub use Rattle.snippet_lines.specs.Number.{shown_number, set_right, number_width}
 unfoldable pub use Rattle.snippet_lines.specs.Place.{line_of, end_location, location_of, locations_of, place_of, start_location, steps_after_text}
@@ -20,7 +20,7 @@ pub use Rattle.snippet_lines.specs.declared.lines.EndLine.TheVariants.{Eof}
 pub use Rattle.snippet_lines.specs.declared.number.LineNumbers.{LineNumbers}
 pub use Rattle.snippet_lines.specs.declared.number.LineNumbers.TheVariants.{Shown, Anonymized, Hidden}
 pub use Rattle.snippet_model.proofs.RowLemmas.{free_drawn, each_fails, free_written, free_led}
-pub use Rattle.snippet_model.specs.FreeRows.{IsFree, IsFreeCell}
+pub use Rattle.snippet_model.specs.FreeRows.{IsFree}
 pub use Rattle.snippet_model.specs.Source.{unindexed}
 pub use Rattle.snippet_model.specs.declared.snippet.Patch.{Patch}
 pub use Rattle.snippet_model.specs.declared.snippet.Snippet.{Snippet}
@@ -49,7 +49,7 @@ unfoldable pub use Rattle.snippet_splice.specs.Patched.{spliced_text}
 pub use Rattle.snippet_splice.specs.ShownText.{first_start, without_final_line_feeds, shown_start}
 unfoldable pub use Rattle.snippet_splice.specs.ShownText.{shown_text}
 pub use Rattle.snippet_splice.specs.Splice.{IsSplice}
-pub use Rattle.snippet_splice.specs.Spliced.{IsTouched, stands}
+pub use Rattle.snippet_splice.specs.Spliced.{IsTouched}
 unfoldable pub use Rattle.snippet_splice.specs.Spliced.{last_line_reached}
 pub use Rattle.snippet_splice.specs.StretchLines.{line_stretches}
 unfoldable pub use Rattle.snippet_splice.specs.Trim.{sandwich, kept_before}
@@ -63,7 +63,7 @@ pub use Rattle.snippet_style.proofs.RowLemmas.{written-nil}
 pub use Rattle.snippet_style.specs.Bounds.{max_column, max_usize}
 pub use Rattle.snippet_style.specs.Cell.{Cell, text_cells, SPACE, unlinked_cell}
 unfoldable pub use Rattle.snippet_style.specs.Cell.{written}
-pub use Rattle.snippet_style.specs.Glyphs.{suggestion_glyph_of, removed_sign_of, suggestion_role_of, placeholder_of, added_mark_of, changed_mark_of, char_of}
+pub use Rattle.snippet_style.specs.Glyphs.{suggestion_glyph_of, removed_sign_of, suggestion_role_of, placeholder_of, char_of}
 pub use Rattle.snippet_style.specs.declared.glyphs.DecorStyle.{DecorStyle}
 pub use Rattle.snippet_style.specs.declared.glyphs.DecorStyle.TheVariants.{Ascii, Unicode}
 pub use Rattle.snippet_style.specs.declared.glyphs.SuggestionGlyph.{SuggestionGlyph}
@@ -77,12 +77,12 @@ pub use Rattle.snippet_suggest.specs.Cursor.{IsCursor}
 pub use Rattle.snippet_suggest.specs.Given.{shown_kind, given_lines, edits_of, first_given, trimmed_of, is_left_out, given_ranges, last_reached, given_text}
 pub use Rattle.snippet_suggest.specs.Given.{first_end, removed_lines, emptied_lines, replaced_lines, counted_line, lines_touched, IsOfferable, added_lines}
 pub use Rattle.snippet_suggest.specs.InOrder.{AreInOrder}
-pub use Rattle.snippet_suggest.specs.Kind.{is_blank_text, takes_away, kind_of, adds_text, is_under_text, text_under}
+pub use Rattle.snippet_suggest.specs.Kind.{is_blank_text, takes_away, kind_of}
 pub use Rattle.snippet_suggest.specs.Marks.{edit_columns, mark_start, patch_mark_end, left_of, mark_glyph_of, inner_width, lead_of, text_width}
 unfoldable pub use Rattle.snippet_suggest.specs.Marks.{with_marks, with_mark}
 pub use Rattle.snippet_suggest.specs.Moves.{shift_of, AreMoves}
-pub use Rattle.snippet_suggest.specs.Offered.{numbers_shown, numbers_given, numbers_of, offered_lines, AreRising, IsAsItWas, line_taken, lines_taken}
-pub use Rattle.snippet_suggest.specs.Offered.{number_offered, numbers_offered, number_of, texts_of_source}
+pub use Rattle.snippet_suggest.specs.Offered.{numbers_shown, numbers_given, numbers_of, offered_lines, AreRising, IsAsItWas, lines_taken}
+pub use Rattle.snippet_suggest.specs.Offered.{numbers_offered, number_of, texts_of_source}
 pub use Rattle.snippet_suggest.specs.OfferedRows.{row_shown, suggestion_row, lines_shown}
 unfoldable pub use Rattle.snippet_suggest.specs.OfferedRows.{opened_cells}
 pub use Rattle.snippet_suggest.specs.PreparedSuggestion.{first_original, IsPrepared, IsSuggestible, first_original_end}
@@ -121,9 +121,9 @@ pub use Rattle.snippet_window.specs.Margin.{capped_sum}
 pub use Rattle.std.proofs.Common.{◌≡◌, ◌∙◌, List, ℕ, length, ap, [], arith, ◌∷◌, sym, ◌++◌, ◌+◌, ◌<◌, ◌≤◌, map, refl}
 pub use Rattle.std.proofs.Common.{◌-◌, false, Bool, true, subst, take, if◌then◌else◌, All, get_or, inl, inr, ◌^◌, ◌≢◌, drop, replicate}
 pub use Rattle.std.proofs.Common.{◌&&◌, suc, ◌==◌, append_assoc, zero, nat_le, count_by, min, None, Some, max, ◌||◌, leb, Vec, ltb, rules}
-pub use Rattle.std.proofs.Common.{◌⊎◌, not, Contains, codes, Option, ⊎_elim, ◌%◌, fold, eqb, set, is_none}
+pub use Rattle.std.proofs.Common.{◌⊎◌, not, Contains, codes, Option, ⊎_elim, ◌%◌, fold, eqb, set}
 pub use Rattle.std.proofs.Math.Bool.{and-false, or-true}
-pub use Rattle.std.proofs.lemmas.Bool.{cases_Bool, cond-true, cond_both, cases_lt, cond-false, true≢false, and_from, or_cases, or_right, le-leb, and_parts}
+pub use Rattle.std.proofs.lemmas.Bool.{cases_Bool, cond-true, cond_both, cases_lt, cond-false, true≢false, and_from, or_right, le-leb, and_parts}
 pub use Rattle.std.proofs.lemmas.Bool.{leb-true, cases_eq}
 pub use Rattle.std.proofs.lemmas.Bool.Decides.{nat_tests}
 pub use Rattle.std.proofs.lemmas.Fmt.{decimal_by_steps}
@@ -138,15 +138,13 @@ pub use Rattle.std.proofs.lemmas.List.Folds.{list_any_at}
 pub use Rattle.std.proofs.lemmas.List.FromFn.{length-range_with_len, get_or-range_with_len, get_or-map-range_with_len}
 pub use Rattle.std.proofs.lemmas.List.Sums.{sum_by-cons, count_by_more_no, count_by_more_yes, AllPass-from_list_all, sum_by-append}
 pub use Rattle.std.proofs.lemmas.Result.{on_ok_weaker}
-pub use Rattle.std.proofs.lemmas.Slice.Eq.{bytes_eq-Decides}
 pub use Rattle.std.proofs.lemmas.Str.{chars-nil, encodes-chars, IsCharBoundary-end, IsCharBoundary-start, IsUtf8-past_char, chars_past_char}
 pub use Rattle.std.proofs.lemmas.Grind.{common_steps}
-pub use Rattle.std.specs.Char.{is_ascii_alphanumeric, is_whitespace, encode_utf8}
+pub use Rattle.std.specs.Char.{is_ascii_alphanumeric, encode_utf8}
 pub use Rattle.std.specs.Cow.{cow_str_bytes}
 pub use Rattle.std.specs.Fmt.{decimal}
 unfoldable pub use Rattle.std.specs.Fmt.{digits}
 pub use Rattle.std.specs.List.{slice_index_or, range_with_len, list_all, list_any, AllZip, slice_get, slice_range, sum_by}
-pub use Rattle.std.specs.Option.{option_map_or}
 pub use Rattle.std.specs.Str.{bytes_eq, IsUtf8, trim, IsCharBoundary}
 pub use Rattle.std.specs.Str.Iter.{chars_rest}
 pub use Rattle.std.specs.String.{string_bytes}

@@ -1,11 +1,11 @@
 -- Why the gutter that has room for the number that a suggestion counts has room for the number of each line that it gives.
-use Rattle.snippet_suggest.proofs.Common.{◌≡◌, ℕ, ◌+◌, ◌<◌, ◌≤◌, ◌^◌, nat_le, ◌&&◌, Bool, true, if◌then◌else◌, List, [], ◌∷◌, All, length, map, refl, sym}
-use Rattle.snippet_suggest.proofs.Common.{arith, subst, ◌==◌, cow_str_bytes, list_any, list_all, cond-true, cond_both, nat_tests, length-map, All-map}
-use Rattle.snippet_suggest.proofs.Common.{Snippet, Patch, lines_of, source_lines, newline_count, last_byte, number_width, shown_number, LineNumbers, line_of}
-use Rattle.snippet_suggest.proofs.Common.{IsSpan, length-source_lines, length-shown_number, number_width_monotone, line_of-mono, line_of-within, Edit}
-use Rattle.snippet_suggest.proofs.Common.{edit_of, in_order, trimmed_edit, first_start, trimmed_edit-shrunk, DisplaySuggestion, Underline, Diff, Plain, Add}
-use Rattle.snippet_suggest.proofs.Common.{SuggestionLayout, Line, counted_line, edits_of, first_end, first_given, given_lines, given_text, shown_kind}
-use Rattle.snippet_suggest.proofs.Common.{trimmed_of, kind_of, takes_away, IsSuggestible, HasGutter, NumberFits, capped_sum, bytes_eq, trim, common_steps}
+use Rattle.snippet_suggest.proofs.Common.{◌≡◌, ℕ, ◌+◌, ◌<◌, ◌≤◌, ◌^◌, ◌&&◌, Bool, true, if◌then◌else◌, List, [], ◌∷◌, All, length, map, sym, arith, subst}
+use Rattle.snippet_suggest.proofs.Common.{cow_str_bytes, cond-true, cond_both, length-map, All-map, Snippet, Patch, lines_of, source_lines, newline_count}
+use Rattle.snippet_suggest.proofs.Common.{number_width, shown_number, LineNumbers, line_of, IsSpan, length-source_lines, length-shown_number}
+use Rattle.snippet_suggest.proofs.Common.{number_width_monotone, line_of-mono, line_of-within, Edit, edit_of, in_order, trimmed_edit, first_start}
+use Rattle.snippet_suggest.proofs.Common.{trimmed_edit-shrunk, DisplaySuggestion, Underline, Diff, Plain, Add, SuggestionLayout, Line, counted_line, edits_of}
+use Rattle.snippet_suggest.proofs.Common.{first_end, first_given, given_lines, given_text, shown_kind, trimmed_of, kind_of, IsSuggestible, HasGutter}
+use Rattle.snippet_suggest.proofs.Common.{NumberFits, capped_sum, common_steps, rules}
 use Rattle.snippet_suggest.proofs.ByKind.{counted_folded}
 use Rattle.snippet_suggest.proofs.SpanLemmas.{spans_in_order}
 
@@ -15,14 +15,11 @@ kind_by few takes replaces adds =
     if few && takes then Diff else if replaces then (if adds then Add else Plain) else if few then Underline else Plain
 
 few_by : (few takes replaces adds : Bool) (kind : DisplaySuggestion) → kind_by few takes replaces adds ≡ kind → counted_folded kind 0 0 1 ≡ 0 → few ≡ true
-few_by x y z u v w a = grind (arith, common_steps)
+few_by x y z u v w a = search rules
 
 -- in a diff, and as one line with marks, at most one line is given
 pub one_given : (source : List ℕ) (ts : List Edit) (text : List ℕ) → counted_folded (kind_of source ts text) 0 0 1 ≡ 0 → length (lines_of text) ≤ 1
-one_given source ts text one =
-    let few : nat_le (length (lines_of text)) 1 ≡ true = few_by (nat_le (length (lines_of text)) 1) (list_any (takes_away source) ts)
-    (length ts == 1 && list_all (λ e. bytes_eq (trim e.text) (trim text)) ts) (list_any (λ e. last_byte e.text == 10) ts) (kind_of source ts text) refl one in
-    grind (arith, nat_tests)
+one_given source ts text one = grind (arith, few_by)
 
 -- a text that has lines has one more than newlines are counted in it
 lines_counted : (text : List ℕ) → 0 < length (lines_of text) → length (lines_of text) ≡ newline_count text + 1
@@ -32,25 +29,16 @@ lines_counted (b ∷ bs) some = length-source_lines (b ∷ bs)
 -- the number of a line is at most the one that is counted, folded
 folded_fits : (kind : DisplaySuggestion) (first removed last k : ℕ) → (counted_folded kind 0 0 1 ≡ 0 → k ≡ 0) → first ≤ removed → first + k ≤ last
     → first + k ≤ counted_folded kind first removed last
-folded_fits Underline first removed last k one before within = omega (arith, one refl)
-folded_fits Diff first removed last k one before within = omega (arith, one refl, before)
-folded_fits Plain first removed last k one before within = within
-folded_fits Add first removed last k one before within = within
+folded_fits x y z u v w a b = grind (arith)
 
 -- the number that is counted of a folded suggestion fits 64 bits where its lines do
 pub folded_small : (kind : DisplaySuggestion) (first removed last : ℕ) → first < 2 ^ 64 → removed < 2 ^ 64 → last < 2 ^ 64
     → counted_folded kind first removed last < 2 ^ 64
-folded_small Underline first removed last a b c = a
-folded_small Diff first removed last a b c = b
-folded_small Plain first removed last a b c = c
-folded_small Add first removed last a b c = c
+folded_small x y z u v w a = search rules
 
 -- trimmed the first edit ends no sooner than it started
 first_before : (source : List ℕ) (es : List Edit) → All (λ e. IsSpan source e.start e.end) es → first_start es ≤ first_end (map (trimmed_edit source) es)
-first_before source [] spans = omega arith
-first_before source (e ∷ es) spans =
-    let h = trimmed_edit-shrunk source e (spans 0 e (omega arith)).ordered in
-    omega (arith, h.start, h.ordered)
+first_before x y z = grind (arith, trimmed_edit-shrunk)
 
 -- the number of each line that is given is at most the one that is counted, and that one fits
 counted_last : (s : Snippet Patch) → IsSuggestible s → (k : ℕ) → k < length (given_lines s)
@@ -86,8 +74,7 @@ counted_last s can k within =
 -- a number that is at most one for which there is room has room
 shown_fits : (numbers : LineNumbers) (gutter number counted : ℕ) → number_width numbers counted ≤ gutter → number ≤ counted → counted < 2 ^ 64
     → length (shown_number numbers gutter number) ≤ gutter + 1
-shown_fits numbers gutter number counted room low small =
-    omega (arith, length-shown_number numbers gutter number (omega (arith, number_width_monotone numbers number counted low small, room)))
+shown_fits numbers gutter number counted room low small = grind (arith, length-shown_number, number_width_monotone)
 
 -- what the gutter shows beside a line that is given stands left of the sign
 pub numbers_fit : (layout : SuggestionLayout) (s : Snippet Patch) → IsSuggestible s → HasGutter layout s → (k : ℕ) → k < length (given_lines s)

@@ -7,6 +7,7 @@ use Rattle.snippet_suggest.proofs.Common.{first_given, last_reached, last_remove
 use Rattle.snippet_suggest.proofs.ReachLemmas.{reached, touched_last}
 use Rattle.snippet_suggest.proofs.SpanLemmas.{original_spans, trimmed_spans}
 use Rattle.snippet_suggest.proofs.PreparedLemmas.{first_original-start}
+use Rattle.snippet_suggest.proofs.Common.{rules}
 
 -- the spans of its edits are taken
 edit_spans : (p : PreparedSuggestion) → IsPrepared p → All (λ e. IsSpan p.map.text e.start e.end) (edits_of p.snippet.now)
@@ -46,10 +47,10 @@ known_apart p is =
 pub known_reached : (p : PreparedSuggestion) → IsPrepared p → (infos : List LineInfo) (start end : ℕ) → start ≤ end
     → end ≡ end_from 0 (map trimmed_edit_of p.splice.patches.items) → map table_entry infos ≡ touched_entries p.map start end
     → last_removed infos ≡ last_reached p.snippet.now
-known_reached p is infos start end ordered ends are = grind (arith, common_steps, touched_last, reached, known_apart)
+known_reached p is infos start end ordered ends are = grind (arith, touched_last, reached, known_apart)
 
 first_end-of : (ts : List TrimmedPatch) (es : List Edit) → map original_bounds_of ts ≡ map edit_bounds es → first_original_end ts ≡ first_end es
-first_end-of x y z = grind (arith, common_steps)
+first_end-of x y z = search rules
 
 -- the first patch of a prepared suggestion starts where its first edit does
 pub known_first_start : (p : PreparedSuggestion) → IsPrepared p → first_original p.splice.patches.items ≡ first_start (in_order (edits_of p.snippet.now))
@@ -57,11 +58,10 @@ known_first_start p is = first_original-start p.splice.patches.items (in_order (
 
 -- the first patch of a prepared suggestion ends where its first edit does
 pub known_first_end : (p : PreparedSuggestion) → IsPrepared p → first_original_end p.splice.patches.items ≡ first_end (in_order (edits_of p.snippet.now))
-known_first_end p is =
-    first_end-of p.splice.patches.items (in_order (edits_of p.snippet.now)) is.originals
+known_first_end p is = grind (arith, first_end-of)
 
 -- the number of the first line of a prepared suggestion is that of the first that is given
 pub known_first : (p : PreparedSuggestion) → IsPrepared p
     → p.map.first + (if p.snippet.now.fold then line_of (source_lines p.map.text) (first_original p.splice.patches.items) else 0)
     ≡ p.snippet.now.line_start + first_given p.snippet.now
-known_first p is = grind (arith, common_steps, first_original-start)
+known_first p is = grind (arith, first_original-start)

@@ -32,9 +32,7 @@ number_left decor Shown gutter number fits =
     let P : ℕ → Type 0 = IsLeftOver decor in
     let digit : (d : ℕ) → d < 10 → P (48 + d) = λ d small. inr (omega arith, omega arith) in
     inl (right_holds P (inl (inl refl)) gutter (decimal number) (decimal_holds P digit number fits))
-number_left decor Anonymized gutter number fits =
-    let letters : List ℕ = 76 ∷ 76 ∷ [] in
-    inr (omega (arith, length-append {A = ℕ} (replicate (gutter - 2) 32) letters, length-replicate {A = ℕ} (gutter - 2) 32))
+number_left decor Anonymized gutter number fits = grind (arith, length-append, replicate, length-replicate)
 number_left decor Hidden gutter number fits = inr (omega (arith, length-replicate {A = ℕ} gutter 32))
 
 -- the characters of a number are such as stand before a sign

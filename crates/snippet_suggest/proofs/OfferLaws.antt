@@ -1,10 +1,9 @@
 -- What a suggestion offers: lines of the patched source, in ascending order.
-use Rattle.snippet_suggest.proofs.Common.{◌≡◌, ◌≢◌, ℕ, ◌+◌, ◌<◌, Bool, true, false, if◌then◌else◌, List, [], All, length, sym}
-use Rattle.snippet_suggest.proofs.Common.{subst, ◌∙◌, arith, length-map, get_or-map, cow_str_bytes, slice_index_or, Snippet, Patch, Eof, lines_of}
-use Rattle.snippet_suggest.proofs.Common.{source_lines, text_at, IsSpan, in_order, patched, AreFrom, texts_of, AreDisjoint, AreApart, apart-in_order}
-use Rattle.snippet_suggest.proofs.Common.{ordered-spans, some-edits, IsShownPart, IsShownPart-plain, AreFrom-at, AreFrom-shown, IsOfferable, edits_of}
-use Rattle.snippet_suggest.proofs.Common.{first_given, given_lines, given_ranges, is_left_out, last_reached, shown_kind, is_touched, shown_from, numbers_given}
-use Rattle.snippet_suggest.proofs.Common.{offered_lines, AreRising, numbers_shown}
+use Rattle.snippet_suggest.proofs.Common.{◌≡◌, ◌≢◌, ℕ, ◌+◌, ◌<◌, Bool, if◌then◌else◌, List, [], All, length, sym, subst, ◌∙◌, arith, length-map, get_or-map}
+use Rattle.snippet_suggest.proofs.Common.{cow_str_bytes, slice_index_or, Snippet, Patch, Eof, lines_of, source_lines, text_at, IsSpan, in_order, patched}
+use Rattle.snippet_suggest.proofs.Common.{AreFrom, texts_of, AreDisjoint, AreApart, apart-in_order, ordered-spans, some-edits, IsShownPart, IsShownPart-plain}
+use Rattle.snippet_suggest.proofs.Common.{AreFrom-at, AreFrom-shown, IsOfferable, edits_of, first_given, given_lines, given_ranges, is_left_out, last_reached}
+use Rattle.snippet_suggest.proofs.Common.{shown_kind, is_touched, shown_from, numbers_given, offered_lines, AreRising, numbers_shown}
 use Rattle.snippet_lines.specs.Lines.{Line}
 use Rattle.snippet_suggest.proofs.AscendLemmas.{rising-moved}
 use Rattle.snippet_suggest.proofs.RisingLemmas.{rising_shown}
@@ -46,8 +45,7 @@ given-is-patched s spans disjoint some offerable k low =
 
 -- the lines that it offers ascend, and are among those that are given
 numbers-ascend : (left_out : Bool) (touched : ℕ → Bool) (count : ℕ) → AreRising 0 count (if left_out then [] else numbers_shown (shown_from touched 0 0 count))
-numbers-ascend true touched count = omega arith
-numbers-ascend false touched count = rising_shown touched count
+numbers-ascend x y z = grind (arith, rising_shown)
 
 -- the lines that are offered ascend, from the first that is given up to the last
 pub offered-ascends : (s : Snippet Patch) → AreRising (first_given s) (first_given s + length (given_lines s)) (offered_lines s)

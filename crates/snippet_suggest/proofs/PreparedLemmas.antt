@@ -1,31 +1,25 @@
 -- Laws of what is known of a suggestion before any row is drawn.
-use Rattle.snippet_suggest.proofs.Common.{◌≡◌, ◌≢◌, ℕ, ◌+◌, ◌<◌, ◌≤◌, ◌^◌, Bool, if◌then◌else◌, Some, List, [], ◌∷◌}
-use Rattle.snippet_suggest.proofs.Common.{length, map, refl, sym, ap, ◌∙◌, arith, cond_both, length-map, cow_str_bytes, slice_get, Source, lines_of}
-use Rattle.snippet_suggest.proofs.Common.{source_lines, newline_count, line_of, length-source_lines, line_of-within, Patch, Snippet, TrimmedPatch, Edit}
-use Rattle.snippet_suggest.proofs.Common.{edit_of, in_order, trimmed_edits, first_start, texts_of, edit_bounds, original_bounds_of, trimmed_edit_of, none_given}
-use Rattle.snippet_suggest.proofs.Common.{DisplaySuggestion, counted_line, edits_of, first_end, first_given, given_text, shown_kind, trimmed_of}
-use Rattle.snippet_suggest.proofs.Common.{numbered_source, IsSuggestible, first_original}
+use Rattle.snippet_suggest.proofs.Common.{◌≡◌, ◌≢◌, ℕ, ◌+◌, ◌<◌, ◌≤◌, ◌^◌, Bool, if◌then◌else◌, Some, List, [], ◌∷◌, length, map, refl, arith, cond_both}
+use Rattle.snippet_suggest.proofs.Common.{length-map, cow_str_bytes, slice_get, Source, lines_of, source_lines, newline_count, line_of, length-source_lines}
+use Rattle.snippet_suggest.proofs.Common.{line_of-within, Patch, Snippet, TrimmedPatch, Edit, edit_of, in_order, trimmed_edits, first_start, texts_of}
+use Rattle.snippet_suggest.proofs.Common.{edit_bounds, original_bounds_of, trimmed_edit_of, none_given, DisplaySuggestion, counted_line, edits_of, first_end}
+use Rattle.snippet_suggest.proofs.Common.{first_given, given_text, shown_kind, trimmed_of, numbered_source, IsSuggestible, first_original, common_steps}
+use Rattle.snippet_suggest.proofs.Common.{rules}
 use Rattle.snippet_lines.specs.Lines.{Line}
 use Rattle.snippet_suggest.proofs.ByKind.{counted_folded}
-use Rattle.snippet_suggest.proofs.Common.{common_steps}
 
 -- the first of the trimmed patches started where the first edit does
 pub first_original-start : (ts : List TrimmedPatch) (os : List Edit) → map original_bounds_of ts ≡ map edit_bounds os → first_original ts ≡ first_start os
-first_original-start x y z = grind (arith, common_steps)
+first_original-start x y z = grind (arith)
 
 -- where the first of them starts and ends
 pub first_original-of : (ts : List TrimmedPatch) (t : TrimmedPatch) → slice_get ts 0 ≡ Some t → t.original_span.start ≡ first_original ts
-first_original-of [] t is = absurd (cc)
-first_original-of (s ∷ ts) t is =
-    let same : s ≡ t = cc in
-    ap (λ (u : TrimmedPatch). u.original_span.start) (sym same)
+first_original-of x y z = search rules
 
 -- the first of some trimmed patches ends where the first of their edits does
 pub first_end-of : (ts : List TrimmedPatch) (t : TrimmedPatch) → slice_get ts 0 ≡ Some t → t.span.end ≡ first_end (map trimmed_edit_of ts)
 first_end-of [] t is = absurd (cc)
-first_end-of (s ∷ ts) t is =
-    let same : s ≡ t = cc in
-    ap (λ (u : TrimmedPatch). u.span.end) (sym same)
+first_end-of (s ∷ ts) t is = grind (arith)
 
 -- where patches are given some are left
 pub some_left : (source : List ℕ) (ps : List Patch) (ts : List TrimmedPatch) → ps ≢ [] → map trimmed_edit_of ts ≡ trimmed_edits source (map edit_of ps)
@@ -62,17 +56,4 @@ pub counted-is : (s : Snippet Patch) (source : Source) (ps : List TrimmedPatch) 
     → map original_bounds_of ps ≡ map edit_bounds (in_order (edits_of s)) → kind ≡ shown_kind s
     → (source.first + (if s.fold then line_of (source_lines source.text) (first_original ps) else 0) + newline_count text < 2 ^ 64
     → count ≡ counted_from source s.fold text kind (first_original ps) (first_end (map trimmed_edit_of ps))) → count ≡ counted_line s
-counted-is s source ps text kind count h of given edits originals shown counted =
-    let start : ℕ = first_original ps in
-    let end : ℕ = first_end (map trimmed_edit_of ps) in
-    let begin : start ≡ first_start (in_order (edits_of s)) = first_original-start ps (in_order (edits_of s)) originals in
-    let first : source.first + (if s.fold then line_of (source_lines source.text) start else 0) ≡ s.line_start + first_given s =
-    ap (λ (m : Source). m.first + (if s.fold then line_of (source_lines m.text) start else 0)) of
-    ∙ ap (λ at. s.line_start + (if s.fold then line_of (source_lines (cow_str_bytes s.source.text)) at else 0)) begin in
-    let small : source.first + (if s.fold then line_of (source_lines source.text) start else 0) + newline_count text < 2 ^ 64 = omega
-    (arith, first, ap newline_count given, last-fits s h) in
-    counted small ∙ ap (λ (m : Source). counted_from m s.fold text kind start end) of
-    ∙ ap (λ t. counted_from (numbered_source s) s.fold t kind start end) given
-    ∙ ap (λ k. counted_from (numbered_source s) s.fold (given_text s) k start end) shown
-    ∙ ap (λ at. counted_from (numbered_source s) s.fold (given_text s) (shown_kind s) at end) begin
-    ∙ ap (λ ts. counted_from (numbered_source s) s.fold (given_text s) (shown_kind s) (first_start (in_order (edits_of s))) (first_end ts)) edits
+counted-is s source ps text kind count h of given edits originals shown counted = grind (arith, first_original-start, last-fits)

@@ -1,9 +1,9 @@
 -- The last line that edits reach, and the lines that are removed up to it.
-use Rattle.snippet_suggest.proofs.Common.{◌≡◌, ℕ, zero, suc, ◌+◌, ◌-◌, ◌<◌, ◌≤◌, max, min, List, [], ◌∷◌, fold, get_or, length}
-use Rattle.snippet_suggest.proofs.Common.{map, refl, sym, ap, ◌∙◌, arith, get_or-map, length-map, get_or-range_with_len, length-range_with_len}
-use Rattle.snippet_suggest.proofs.Common.{range_with_len, Source, source_lines, text_at, line_of, length-source_lines, line_of-mono, LineInfo, LineEntry}
-use Rattle.snippet_suggest.proofs.Common.{entry_at, table_entry, touched_entries, TrimmedPatch, end_from, Edit, trimmed_edits, AreApart, trimmed_edit_of}
-use Rattle.snippet_suggest.proofs.Common.{first_start, last_line_reached, lines_touched, last_removed, texts_at, numbered_at}
+use Rattle.snippet_suggest.proofs.Common.{◌≡◌, ℕ, zero, suc, ◌+◌, ◌-◌, ◌<◌, ◌≤◌, max, min, List, [], ◌∷◌, fold, get_or, length, map, refl, ap, ◌∙◌, arith}
+use Rattle.snippet_suggest.proofs.Common.{get_or-map, length-map, get_or-range_with_len, length-range_with_len, range_with_len, Source, source_lines, text_at}
+use Rattle.snippet_suggest.proofs.Common.{line_of, length-source_lines, line_of-mono, LineInfo, LineEntry, entry_at, table_entry, touched_entries}
+use Rattle.snippet_suggest.proofs.Common.{TrimmedPatch, end_from, Edit, trimmed_edits, AreApart, trimmed_edit_of, first_start, last_line_reached}
+use Rattle.snippet_suggest.proofs.Common.{lines_touched, last_removed, texts_at, numbered_at}
 
 -- ---- the end of the last edit
 
@@ -34,21 +34,17 @@ end_after at [] apart = omega arith
 end_after at (e ∷ es) apart = omega (arith, end_after e.end es apart.2, apart.0, apart.1)
 
 begin_before : (es : List Edit) → AreApart 0 es → first_start es ≤ end_from 0 es
-begin_before [] apart = omega arith
-begin_before (e ∷ es) apart = omega (arith, end_after e.end es apart.2, apart.1)
+begin_before x y = grind (arith, end_after)
 
 -- patches that stand apart begin at the first one's start
 pub least_begin : (ps : List TrimmedPatch) (d : TrimmedPatch) → 0 < length ps → AreApart 0 (map trimmed_edit_of ps)
     → min (get_or ps 0 d).span.start (get_or ps (length ps - 1) d).span.end ≡ first_start (map trimmed_edit_of ps)
-least_begin ps d some apart =
-    omega (arith, first_begin ps d some, last_end 0 ps d some, begin_before (map trimmed_edit_of ps) apart)
+least_begin ps d some apart = grind (arith, first_begin, last_end, begin_before)
 
 -- of edits that stand apart it is the greatest
 greatest_end : (at : ℕ) (es : List Edit) → AreApart at es → fold max at (map (λ e. e.end) es) ≡ end_from at es
 greatest_end at [] apart = refl
-greatest_end at (e ∷ es) apart =
-    let greater : max at e.end ≡ e.end = omega (arith, apart.0, apart.1) in
-    ap (λ n. fold max n (map (λ d. d.end) es)) greater ∙ greatest_end e.end es apart.2
+greatest_end at (e ∷ es) apart = grind (arith, greatest_end e.end es apart.2)
 
 -- the last line that edits reach is the one where the last of them ends
 pub reached : (source : List ℕ) (es : List Edit) → AreApart 0 (trimmed_edits source es)
@@ -60,18 +56,14 @@ reached source es apart = ap (line_of (source_lines source)) (greatest_end 0 (tr
 
 touched_count : (s : Source) (infos : List LineInfo) (start end : ℕ) → start ≤ end → map table_entry infos ≡ touched_entries s start end
     → length infos ≡ line_of (source_lines s.text) end + 1 - line_of (source_lines s.text) start
-touched_count s infos start end ordered are =
-    let ls = source_lines s.text in
-    sym (length-map infos table_entry) ∙ ap length are ∙ length-map (range_with_len (line_of ls start) (line_of ls end + 1 - line_of ls start))
-    (entry_at s.first ls) ∙ length-range_with_len (line_of ls start) (line_of ls end + 1 - line_of ls start)
+touched_count s infos start end ordered are = grind (arith, length-map, length-range_with_len)
 
 lines_ordered : (s : Source) (start end : ℕ) → start ≤ end → line_of (source_lines s.text) start ≤ line_of (source_lines s.text) end
 lines_ordered s start end ordered = line_of-mono (source_lines s.text) start end (omega (arith, length-source_lines s.text)) ordered
 
 -- at least one line is touched
 pub touched_some : (s : Source) (infos : List LineInfo) (start end : ℕ) → start ≤ end → map table_entry infos ≡ touched_entries s start end → 0 < length infos
-touched_some s infos start end ordered are =
-    omega (arith, touched_count s infos start end ordered are, lines_ordered s start end ordered)
+touched_some s infos start end ordered are = grind (arith, touched_count, lines_ordered)
 
 -- their texts
 pub touched_texts : (s : Source) (infos : List LineInfo) (start end : ℕ) → map table_entry infos ≡ touched_entries s start end

@@ -7,16 +7,16 @@ use Rattle.snippet_suggest.proofs.Common.{trimmed_edits, edit_bounds, original_b
 
 -- that of the whole source
 pub whole_span : (source text : List ℕ) → IsUtf8 text → text ≡ source → IsSpan source 0 (length text)
-whole_span source text valid is = grind (arith, common_steps, IsCharBoundary-start, IsCharBoundary-end)
+whole_span source text valid is = grind (arith, IsCharBoundary-start, IsCharBoundary-end)
 
 -- from the start of one to the end of another, or to that end alone
 pub joined_span : (source : List ℕ) (a b c d from : ℕ) → from ≡ min a d → IsSpan source a b → IsSpan source c d → IsSpan source from d
-joined_span source a b c d from is first last = grind (arith, common_steps)
+joined_span source a b c d from is first last = grind (arith)
 
 -- a part of a source may be cut where the source may
 border_inside : (source : List ℕ) (start end before : ℕ) → start ≤ end → end ≤ length source → IsSpanBorder source end
     → IsCharBoundary (slice_range source start end) before → IsCharBoundary source (start + before)
-border_inside source start end before ordered within to border = grind (arith, common_steps, length-take-le, length-drop, get_or-take, get_or-drop)
+border_inside source start end before ordered within to border = grind (arith, length-take-le, length-drop, get_or-take, get_or-drop)
 
 -- a trimmed edit's span is taken where the untrimmed one's is
 edit_span : (source : List ℕ) (e : Edit) → IsSpan source e.start e.end → IsSpan source (trimmed_edit source e).start (trimmed_edit source e).end

@@ -1,13 +1,12 @@
 -- Each line that a patch touches is offered, unless it is blank or the suggestion's text is as it was.
-use Rattle.snippet_suggest.proofs.Common.{◌≡◌, ◌≢◌, ℕ, ◌+◌, ◌-◌, ◌<◌, ◌≤◌, ◌⊎◌, inl, inr, Bool, true, false, not, nat_le, ◌&&◌, if◌then◌else◌, List, [], ◌∷◌}
-use Rattle.snippet_suggest.proofs.Common.{Contains, length, map, get_or, refl, sym, ap, subst, ◌∙◌, ⊎_elim, arith, length-map, get_or-map, list_any_at}
-use Rattle.snippet_suggest.proofs.Common.{true≢false, and_from, or_cases, or_right, le-leb, cases_Bool, bytes_eq-Decides, chars-nil, cow_str_bytes}
-use Rattle.snippet_suggest.proofs.Common.{is_whitespace, list_all, Snippet, Patch, lines_of, source_lines, text_at, LineRange, Edit, edit_of, patched}
-use Rattle.snippet_suggest.proofs.Common.{trimmed_edits, without_final_line_feeds, IsTouched, stands, line_ranges, ranges_from, spliced_text, texts_of}
+use Rattle.snippet_suggest.proofs.Common.{◌≡◌, ◌≢◌, ℕ, ◌+◌, ◌-◌, ◌<◌, ◌≤◌, ◌⊎◌, inl, inr, Bool, true, false, not, nat_le, ◌&&◌, List, [], ◌∷◌, Contains}
+use Rattle.snippet_suggest.proofs.Common.{length, map, get_or, refl, sym, ap, subst, ◌∙◌, ⊎_elim, arith, length-map, get_or-map, list_any_at, true≢false}
+use Rattle.snippet_suggest.proofs.Common.{and_from, or_right, le-leb, cases_Bool, chars-nil, cow_str_bytes, Snippet, Patch, lines_of, source_lines, text_at}
+use Rattle.snippet_suggest.proofs.Common.{LineRange, Edit, patched, without_final_line_feeds, IsTouched, line_ranges, ranges_from, spliced_text, texts_of}
 use Rattle.snippet_suggest.proofs.Common.{AreDisjoint, ranges_from-written_ranges, IsShownPart, IsHeld, shown-touched, touched-held, DisplaySuggestion, Diff}
 use Rattle.snippet_suggest.proofs.Common.{IsOfferable, edits_of, first_given, given_lines, given_ranges, given_text, is_left_out, last_reached, shown_kind}
 use Rattle.snippet_suggest.proofs.Common.{trimmed_of, is_blank_text, kind_of, is_touched, shown_from, IsAsItWas, numbers_given, numbers_of, offered_lines}
-use Rattle.snippet_suggest.proofs.Common.{numbers_shown, common_steps}
+use Rattle.snippet_suggest.proofs.Common.{numbers_shown, common_steps, rules}
 use Rattle.snippet_lines.specs.Lines.{Line}
 use Rattle.snippet_suggest.proofs.ByKind.{counted_folded}
 use Rattle.snippet_suggest.proofs.RisingLemmas.{touched_shown}
@@ -30,7 +29,7 @@ held-later base j ranges h =
 -- a line is left out only of a diff: it is blank, or the same as the last that is removed
 left_out : (kind : DisplaySuggestion) (lines : List (List ℕ)) (last : List ℕ) → is_left_out kind lines last ≡ true
     → (kind ≡ Diff) × ((is_blank_text (get_or lines 0 []) ≡ true) ⊎ (get_or lines 0 [] ≡ last))
-left_out x y z u = grind (arith, common_steps, bytes_eq-Decides, or_cases, true≢false)
+left_out x y z u = search rules
 
 -- a diff has at most one line
 diff-one : (source : List ℕ) (ts : List Edit) (text : List ℕ) → kind_of source ts text ≡ Diff → length (lines_of text) ≤ 1
@@ -38,9 +37,7 @@ diff-one source ts text is = one_given source ts text (ap (λ k. counted_folded 
 
 -- a line that isn't blank isn't empty
 not-empty : (text : List ℕ) → is_blank_text text ≡ false → text ≢ []
-not-empty text filled none =
-    let blank : is_blank_text [] ≡ true = ap (list_all is_whitespace) chars-nil in
-    true≢false (sym (ap is_blank_text none ∙ blank) ∙ filled)
+not-empty text filled none = grind (arith, chars-nil, true≢false)
 
 -- a list of one element
 only : {X : Type 0} (xs : List X) (d : X) → 0 < length xs → length xs ≤ 1 → xs ≡ get_or xs 0 d ∷ []
@@ -50,15 +47,12 @@ only (x ∷ y ∷ xs) d some few = absurd (omega (arith, few))
 
 -- numbers counted from elsewhere
 contains-moved : (base k j : ℕ) (ks : List ℕ) → base + k ≡ j → Contains ks k → Contains (map (λ n. base + n) ks) j
-contains-moved base k j ks is among =
-    let move : ℕ → ℕ = λ n. base + n in
-    (among.0, omega (arith, among.1, length-map ks move), get_or-map move ks among.0 k j among.1 ∙ ap move among.2 ∙ is)
+contains-moved base k j ks is among = grind (arith, length-map, get_or-map)
 
 -- where none is left out they are those that are shown
 none-left-out : (kind : DisplaySuggestion) (folds : Bool) (ranges : List LineRange) (lines : List (List ℕ)) (last : List ℕ)
     → is_left_out kind lines last ≡ false → numbers_of kind folds ranges lines last ≡ numbers_shown (shown_from (is_touched folds ranges) 0 0 (length lines))
-none-left-out kind folds ranges lines last none =
-    ap (λ b. if b then [] else numbers_shown (shown_from (is_touched folds ranges) 0 0 (length lines))) none
+none-left-out kind folds ranges lines last none = grind (arith)
 
 -- where the line of a text is left out, it is blank or the text is as it was
 lone_patch_left_out : (s : Snippet Patch) → HaveSpans s → AreDisjoint (edits_of s) → s.markers.items ≢ [] → IsOfferable s → 0 < length (given_lines s)
@@ -79,9 +73,7 @@ lone_patch_left_out s spans disjoint some offerable first is =
 
 -- where a line is touched there are patches
 touched_some : (s : Snippet Patch) (j : ℕ) → IsTouched (cow_str_bytes s.source.text) (edits_of s) j → s.markers.items ≢ []
-touched_some s j touched none =
-    let source : List ℕ = cow_str_bytes s.source.text in
-    omega (arith, touched.among.1, ap (λ ps. length (stands source (trimmed_edits source (map edit_of ps)))) none)
+touched_some s j touched none = grind (arith)
 
 -- each touched line that isn't blank is offered, unless the text is as it was
 pub touched-offered : (s : Snippet Patch) → HaveSpans s → AreDisjoint (edits_of s) → IsOfferable s → (j : ℕ)
