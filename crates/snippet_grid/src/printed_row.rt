@@ -4,7 +4,7 @@ ghost use Rattle.std.specs.Option.{option_copied};
 ghost use Rattle.snippet_grid.specs.OpenRow.{AddsCells, IsBegun, IsPrinted, cells_alike};
 ghost use Rattle.snippet_grid.specs.Runs.{IsGrid, grid_shown};
 ghost use Rattle.snippet_grid.specs.Weaving.{WeavesRow, WeavesRows};
-ghost use Rattle.snippet_style.specs.Cell.{Cell};
+ghost use Rattle.snippet_style.specs.Cell.{Cell, text_cells};
 
 use crate::codes::{SPACE, SheetCodes, WovenLook, place_of};
 use crate::row_runs::{feed, write_row};
@@ -43,8 +43,30 @@ impl<'c, 'a> PrintedRow<'c, 'a> {
         }
     }
 
-    /// Adds a text in a role to the row, which links to an address, if there is one.
+    /// Adds a text in a role to the row, whose last cell links to nothing.
     #[inline(always)]
+    fn add_unlinked(&mut self, word: &str, role: ElementStyle) -> Result<(), AllocError>
+        requires unlinked { self.old.last.link ≡ None }
+        ensures added { OnOk result (AddsCells self.old self.new (text_cells role (chars word.now))) }
+    {
+        if word.is_empty() {
+            return Ok(());
+        }
+        let last = WovenLook {
+            place: self.last.place,
+            link: None,
+        };
+        let next = WovenLook {
+            place: place_of(self.level, role),
+            link: None,
+        };
+        weave_stretch(&mut self.text, word, self.codes, last, next)?;
+        self.last = next;
+        Ok(())
+    }
+
+    /// Adds a text in a role to the row, which links to an address, if there is one.
+    #[inline(never)]
     fn add_stretch(
         &mut self,
         word: &str,
@@ -131,7 +153,10 @@ impl<'c, 'a> RowSink<'a> for PrintedRow<'c, 'a> {
 
     #[inline(always)]
     fn add_word(&mut self, word: &str, role: ElementStyle) -> Result<(), AllocError> {
-        self.add_stretch(word, role, None)
+        if self.last.link.is_some() {
+            return self.add_stretch(word, role, None);
+        }
+        self.add_unlinked(word, role)
     }
 
     #[inline(always)]

@@ -90,27 +90,10 @@ pub(crate) fn write_label<'a, S: RowSink<'a>>(
         → S.adds start row.new (cells ++ label_cells hyperlink roles heading)) }
 {
     let hidden = is_hidden(level);
-    write_name(alloc, row, roles.label, level)?;
+    let name = shown_name(alloc, level)?;
+    row.add_word(name.as_str(), roles.label)?;
     write_id(alloc, row, hyperlink, hidden, roles.label, id)?;
     row.add_word(colon(hidden, id), roles.colon)
-}
-
-/// Adds a level's name to a row. That of a kind is borrowed, and nothing has to be let go.
-#[inline(always)]
-fn write_name<'a, S: RowSink<'a>>(
-    alloc: Global,
-    row: &mut S,
-    role: ElementStyle,
-    level: &Level<'_>,
-) -> Result<(), AllocError>
-    ensures added { OnOk result ((start : S) (cells : List Cell) → S.adds start row.old cells
-        → S.adds start row.new (cells ++ text_cells role (norm (chars (name_of level.now))))) }
-{
-    if let LevelName::Standard = level.name {
-        return row.add_word(level.as_str(), role);
-    }
-    let name = shown_name(alloc, level)?;
-    row.add_word(name.as_str(), role)
 }
 
 /// A level's name as it is drawn, which is empty where it isn't shown.
