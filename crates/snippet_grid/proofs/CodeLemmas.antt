@@ -1,6 +1,6 @@
 -- Codes of which one more is made.
-use Rattle.snippet_grid.proofs.Common.{◌≡◌, ℕ, ◌<◌, arith, Bool, true, false, if◌then◌else◌, List, [], ◌∷◌, ◌++◌, Option, length, zero, suc}
-use Rattle.snippet_grid.proofs.Common.{get_or, refl, sym, ap, ◌∙◌, subst, encode_utf8_all, AllZip, IsCodeOf, StyleCode}
+use Rattle.snippet_grid.proofs.Common.{◌≡◌, ◌≢◌, ℕ, ◌<◌, arith, Bool, true, false, if◌then◌else◌, List, [], ◌∷◌, ◌++◌, Option, length, zero, suc}
+use Rattle.snippet_grid.proofs.Common.{get_or, refl, sym, ap, ◌∙◌, subst, encode_utf8_all, AllZip, IsCodeOf, StyleCode, Nothing, Usual, Other}
 use Rattle.snippet_grid.proofs.Common.{opening_bytes, style_at, styles_in}
 use Rattle.snippet_grid.proofs.Common.{code, color_code, effect_code, effect_codes, reset, is_plain_style, no_effects, plain_style, Color, Effects}
 use Rattle.snippet_grid.proofs.Common.{encode-opening, reset-bytes, bold-alone, plain_is_plain, Style, Stylesheet}
@@ -20,6 +20,18 @@ pub code_read : (codes : List StyleCode) (c : StyleCode) (sheet seen : Styleshee
     → IsCodeOf (get_or codes i c) (style_at seen i)
 code_read codes c sheet seen i are within same =
     subst (λ (s : Stylesheet). IsCodeOf (get_or codes i c) (style_at s i)) same (zipped codes (styles_in sheet) i c sheet.none are within)
+
+-- what nothing opens is plain
+pub plain_from_code : (c : StyleCode) (s : Style) → IsCodeOf c s → c ≡ Nothing → true ≡ is_plain_style s
+plain_from_code Nothing s is none = sym is
+plain_from_code (Usual code) s is none = cc none
+plain_from_code Other s is none = cc none
+
+-- and nothing else is
+pub styled_from_code : (c : StyleCode) (s : Style) → IsCodeOf c s → c ≢ Nothing → false ≡ is_plain_style s
+styled_from_code Nothing s is some = absurd (some refl)
+styled_from_code (Usual code) s is some = sym is.0
+styled_from_code Other s is some = sym is
 
 -- nothing switches a plain style off
 pub reset_plain : (s : Style) (old : List ℕ) → is_plain_style s ≡ true → old ≡ old ++ encode_utf8_all (reset s)

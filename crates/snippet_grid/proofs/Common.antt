@@ -35,6 +35,7 @@ pub use Rattle.snippet_grid.specs.declared.printed_row.PrintedRow.{PrintedRow}
 pub use Rattle.snippet_grid.specs.declared.runs.Run.{Run}
 pub use Rattle.snippet_grid.specs.declared.styled_char.StyledChar.{StyledChar}
 pub use Rattle.snippet_grid.specs.declared.usual_codes.StyleCode.{StyleCode}
+pub use Rattle.snippet_grid.specs.declared.usual_codes.StyleCode.TheVariants.{Nothing, Usual, Other}
 pub use Rattle.snippet_grid.specs.declared.usual_codes.UsualCode.{UsualCode}
 pub use Rattle.snippet_style.proofs.CellLemmas.{length-chars_le, length-text_cells, slice_index_or-text_cells, length-written, slice_index_or-written_before}
 pub use Rattle.snippet_style.proofs.CellLemmas.{slice_index_or-written_inside, slice_index_or-written_after, written_end, written_last}

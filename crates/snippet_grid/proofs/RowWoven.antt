@@ -5,7 +5,7 @@ use Rattle.snippet_grid.proofs.Common.{replicate, refl, sym, ap, ◌∙◌, subs
 use Rattle.snippet_grid.proofs.Common.{same_lists, take-append-drop, drop_more, length-append, length-map, length-replicate, get_or-map, get_or-replicate}
 use Rattle.snippet_grid.proofs.Common.{get_or_default, get_or_append_left, get_or-append_right, get_or-drop, length-drop, length-map-range_with_len}
 use Rattle.snippet_grid.proofs.Common.{get_or-map-range_with_len, cases_lt, cases_eq, option_copied, Cell, SPACE, IsRun, IsRow, Precedes, run_chars, run_cell}
-use Rattle.snippet_grid.proofs.Common.{holds, painted_over, shown_cell, cells_to, BeginsRow, RowAt, LevelInner, Run, Style, Stylesheet, map}
+use Rattle.snippet_grid.proofs.Common.{holds, painted_over, shown_cell, cells_to, BeginsRow, RowAt, LevelInner, Run, Stylesheet, map}
 use Rattle.snippet_grid.proofs.Common.{encode_utf8, append_assoc, append-nil, take_more, take_all, length-take, flat_map-append, range_with_len}
 use Rattle.snippet_grid.proofs.Common.{flat_map, row_at, grid_shown, Piece, Char, piece_text, PrintsFurther, WeavesRow, WeavesRows}
 use Rattle.snippet_grid.proofs.ShownLemmas.{painted-append, All-tail, pick, holds_inside, holds_before, holds-after}

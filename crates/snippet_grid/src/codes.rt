@@ -19,7 +19,8 @@ use std::marker::Model;
 #[derive(Drop)]
 pub struct SheetCodes {
     sheet: Stylesheet,
-    /// What opens each of its styles, in the order of its fields.
+    /// The styles of the sheet, in the order of its fields, and what opens each.
+    styles: [Style; 11],
     codes: [StyleCode; 11],
 }
 
@@ -35,6 +36,7 @@ impl Model for SheetCodes {
     ghost view = { λ c. c.sheet };
 
     ghost invariant = { λ c. record {
+      styles : c.styles ≡ styles_in c.sheet;
       codes : AllZip IsCodeOf c.codes (styles_in c.sheet);
     } };
 }
@@ -46,6 +48,7 @@ impl SheetCodes {
     {
         SheetCodes {
             sheet: *sheet,
+            styles: styles(sheet),
             codes: codes(sheet),
         }
     }
@@ -55,20 +58,7 @@ impl SheetCodes {
         requires within { place < 11 }
         ensures value { result ≡ style_at self.now place }
     {
-        let sheet = &self.sheet;
-        match place {
-            0 => sheet.error,
-            1 => sheet.warning,
-            2 => sheet.info,
-            3 => sheet.note,
-            4 => sheet.help,
-            5 => sheet.line_num,
-            6 => sheet.emphasis,
-            8 => sheet.context,
-            9 => sheet.addition,
-            10 => sheet.removal,
-            _ => sheet.none,
-        }
+        self.styles[place]
     }
 
     /// Whether the style at a place is plain.
@@ -77,7 +67,7 @@ impl SheetCodes {
         requires within { place < 11 }
         ensures value { result ≡ is_plain_style (style_at self.now place) }
     {
-        matches!(self.code_at(place), StyleCode::Nothing)
+        matches!(self.codes[place], StyleCode::Nothing)
     }
 
     /// Whether the styles at two places differ.
@@ -132,6 +122,25 @@ impl SheetCodes {
     {
         self.codes[place]
     }
+}
+
+/// The styles of a sheet, in the order of its fields.
+fn styles(sheet: &Stylesheet) -> [Style; 11]
+    ensures value { result ≡ styles_in sheet.now }
+{
+    [
+        sheet.error,
+        sheet.warning,
+        sheet.info,
+        sheet.note,
+        sheet.help,
+        sheet.line_num,
+        sheet.emphasis,
+        sheet.none,
+        sheet.context,
+        sheet.addition,
+        sheet.removal,
+    ]
 }
 
 /// What opens each style of a sheet, in the order of its fields.

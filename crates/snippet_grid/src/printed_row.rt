@@ -43,7 +43,8 @@ impl<'c, 'a> PrintedRow<'c, 'a> {
         }
     }
 
-    /// Adds a text in a role to the row, whose last cell links to nothing.
+    /// Adds a text in a role to the row, whose last cell links to nothing. Most texts are such: what ends and begins
+    /// links is left out, so that callers stay small enough for all of it to be inlined.
     #[inline(always)]
     fn add_unlinked(&mut self, word: &str, role: ElementStyle) -> Result<(), AllocError>
         requires unlinked { self.old.last.link ≡ None }

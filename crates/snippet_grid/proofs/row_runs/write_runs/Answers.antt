@@ -1,4 +1,4 @@
-use Rattle.snippet_grid.proofs.Common.{◌∙◌, ◌<◌, ◌≤◌, ◌+◌, ◌-◌, ◌++◌, ℕ, List, Cell, Run, SPACE, ap, append-nil, append_assoc, arith, cells_to, get_or}
+use Rattle.snippet_grid.proofs.Common.{◌∙◌, ◌<◌, ◌≤◌, ◌-◌, ◌++◌, ℕ, List, Cell, Run, SPACE, ap, append-nil, append_assoc, arith, cells_to, get_or}
 use Rattle.snippet_grid.proofs.Common.{cells_alike, length, on_ok_weaker, option_copied, refl, replicate, run_chars, subst, sym}
 use Rattle.snippet_grid.proofs.RunLemmas.{none}
 use Rattle.snippet_grid.proofs.RowWoven.{cells_gap, cells_run, first_ahead, stands_first, stands_next}
