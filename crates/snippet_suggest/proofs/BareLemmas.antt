@@ -1,10 +1,10 @@
 -- Rows that show no line: of a placeholder or a glyph.
-use Rattle.snippet_suggest.proofs.Common.{◌≡◌, ℕ, zero, suc, ◌+◌, ◌-◌, ◌≤◌, true, false, List, [], ◌∷◌, ◌++◌, length, replicate, refl, sym, ap, ◌∙◌, arith}
-use Rattle.snippet_suggest.proofs.Common.{inl, All, subst, list_all, list_any, slice_index_or, get_or-append_right, get_or_append_left, get_or_past}
-use Rattle.snippet_suggest.proofs.Common.{length-append, length-replicate, All-append, All-nil, All-replicate, AllPass-from_list_all, row_text}
-use Rattle.snippet_suggest.proofs.Common.{row_text-text_cells, each_fails, free_drawn, free_led, DecorStyle, SuggestionGlyph, ElementStyle, Cell, SPACE}
-use Rattle.snippet_suggest.proofs.Common.{text_cells, suggestion_glyph_of, All-text_cells, length-text_cells, is_listed, put, HasLeft, IsBareRow}
-use Rattle.snippet_suggest.proofs.Common.{IsMarkOrSpace, beside_gutter, is_stroke, IsEdgeRow, common_steps}
+use Rattle.snippet_suggest.proofs.Common.{◌≡◌, ℕ, zero, suc, ◌+◌, ◌≤◌, true, false, List, [], ◌∷◌, ◌++◌, length, replicate, refl}
+use Rattle.snippet_suggest.proofs.Common.{sym, ap, ◌∙◌, arith, inl, All, subst, list_all, list_any, slice_index_or, get_or-append_right}
+use Rattle.snippet_suggest.proofs.Common.{get_or_append_left, get_or_past, length-append, length-replicate, All-append, All-nil, All-replicate}
+use Rattle.snippet_suggest.proofs.Common.{AllPass-from_list_all, row_text, row_text-text_cells, each_fails, free_drawn, free_led, DecorStyle, SuggestionGlyph}
+use Rattle.snippet_suggest.proofs.Common.{ElementStyle, Cell, SPACE, text_cells, suggestion_glyph_of, All-text_cells, length-text_cells, is_listed, put}
+use Rattle.snippet_suggest.proofs.Common.{HasLeft, IsBareRow, IsMarkOrSpace, beside_gutter, is_stroke, IsEdgeRow}
 use Rattle.snippet_suggest.proofs.GlyphLemmas.{glyph_short, glyph_strokes, glyph_unlisted, is_sign}
 use Rattle.snippet_suggest.proofs.PutRows.{ch_at, put_after, put_before, put_cell, put_free, put_inside}
 
@@ -67,7 +67,7 @@ stroke_led decor gutter at role cs short strokes free =
 put_left : (gutter : ℕ) (role : ElementStyle) (old cs : List ℕ) (row : List Cell) → length old ≤ length cs → HasLeft gutter (beside_gutter gutter old) row
     → HasLeft gutter (beside_gutter gutter cs) (put role cs (gutter + 1) row)
 put_left gutter role old cs row covers there c inside =
-    grind (arith, replicate, length-replicate, put_before, get_or_append_left, put_inside, get_or-append_right, put_after, get_or_past, length-append)
+    grind (arith, length-replicate, put_before, get_or_append_left, put_inside, get_or-append_right, put_after, get_or_past, length-append)
 
 -- a glyph that is put after the gutter of a row that shows no line, over one that is no longer
 pub stroke_put : (decor : DecorStyle) (gutter : ℕ) (role : ElementStyle) (glyph : SuggestionGlyph) (old : List ℕ) (row : List Cell)

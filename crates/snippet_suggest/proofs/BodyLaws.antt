@@ -1,13 +1,13 @@
 -- What the rows of a suggestion show, one below the other.
-use Rattle.snippet_suggest.proofs.Common.{◌≡◌, ℕ, ◌+◌, ◌-◌, ◌^◌, ◌<◌, Bool, true, false, if◌then◌else◌, All, List, [], ◌∷◌, ◌++◌, length, map, ◌==◌, arith}
-use Rattle.snippet_suggest.proofs.Common.{cow_str_bytes, AllZip, cond_both, All-append, All-cons, All-head, All-nil, All-tail, get_or-range_with_len}
-use Rattle.snippet_suggest.proofs.Common.{length-range_with_len, Snippet, Patch, Cell, NoStyle, Removal, source_lines, line_of, line_of-within}
-use Rattle.snippet_suggest.proofs.Common.{numbered_source, first_start, SubstitutionHighlight, DisplaySuggestion, SuggestionLayout, SuggestionStart}
-use Rattle.snippet_suggest.proofs.Common.{SuggestionLine, Gap, Line, end_cells, on_last, emptied_lines, first_given, given_lines, given_ranges, is_left_out}
-use Rattle.snippet_suggest.proofs.Common.{last_reached, lines_touched, removed_lines, replaced_lines, shown_kind, trimmed_of, IsSuggestible, Begins, Empty}
-use Rattle.snippet_suggest.proofs.Common.{Ends, Offers, Removes, Skips, SuggestionRow, removed_number, rows_of_suggestion, body_cells, suggested_cells}
-use Rattle.snippet_suggest.proofs.Common.{cells_over, marked_edits, new_on, removed_in, suggested_stretches, with_left_out, is_touched, shown_from, IsBareRow}
-use Rattle.snippet_suggest.proofs.Common.{HasGutter, IsRowOfRemoved, IsUnder, NumberFits, Shows, capped_sum, nat_tests, common_steps}
+use Rattle.snippet_suggest.proofs.Common.{◌≡◌, ℕ, ◌+◌, ◌-◌, ◌^◌, ◌<◌, Bool, true, false, if◌then◌else◌, All, List, [], ◌∷◌}
+use Rattle.snippet_suggest.proofs.Common.{◌++◌, length, map, ◌==◌, arith, cow_str_bytes, AllZip, All-append, All-cons, All-head, All-nil, All-tail}
+use Rattle.snippet_suggest.proofs.Common.{get_or-range_with_len, length-range_with_len, Snippet, Patch, Cell, NoStyle, Removal, source_lines, line_of-within}
+use Rattle.snippet_suggest.proofs.Common.{numbered_source, SubstitutionHighlight, DisplaySuggestion, SuggestionLayout, SuggestionStart, SuggestionLine, Gap}
+use Rattle.snippet_suggest.proofs.Common.{Line, end_cells, on_last, emptied_lines, first_given, given_lines, given_ranges, is_left_out, last_reached}
+use Rattle.snippet_suggest.proofs.Common.{lines_touched, removed_lines, shown_kind, trimmed_of, IsSuggestible, Begins, Empty, Ends, Offers, Removes, Skips}
+use Rattle.snippet_suggest.proofs.Common.{SuggestionRow, removed_number, rows_of_suggestion, body_cells, suggested_cells, cells_over, marked_edits, new_on}
+use Rattle.snippet_suggest.proofs.Common.{removed_in, suggested_stretches, with_left_out, is_touched, shown_from, IsBareRow, HasGutter, IsRowOfRemoved, IsUnder}
+use Rattle.snippet_suggest.proofs.Common.{NumberFits, Shows, capped_sum, nat_tests, common_steps}
 use Rattle.snippet_suggest.proofs.ByKind.{removed_of, row_of_shown, rows_where}
 use Rattle.snippet_suggest.proofs.BareLemmas.{bare_none, stroke_none}
 use Rattle.snippet_suggest.proofs.GutterFits.{numbers_fit}
@@ -54,7 +54,7 @@ module _ (layout : SuggestionLayout) (s : Snippet Patch) (P : SuggestionRow → 
 
   holds_left_out : (lines : List (List ℕ)) (shown : List SuggestionRow) (rows : List (List Cell)) → AllZip P shown rows
       → AllZip P shown (with_left_out layout s lines rows)
-  holds_left_out x y z u = grind (arith, with_same, cond_both, holds_last)
+  holds_left_out x y z u = grind (arith, with_same, holds_last)
 
   -- so it holds of the rows of a suggestion but the last
   pub body_each : (start : SuggestionStart) (under : List Cell) → AreEach Holds under (rows_of_suggestion start s)
@@ -75,7 +75,7 @@ touched_within source start end i d inside = grind (arith, common_steps, length-
 
 -- the number beside a line that is removed fits
 emptied_within : (s : Snippet Patch) → All (λ k. k < length (source_lines (cow_str_bytes s.source.text))) (emptied_lines s)
-emptied_within s = grind (arith, common_steps, cond_both, touched_within)
+emptied_within s = grind (arith, common_steps, touched_within)
 
 none_of_some : (line : List ℕ) (lines : List (List ℕ)) → (length (line ∷ lines) == 0) ≡ false
 none_of_some line lines = grind (arith, nat_tests)
@@ -85,10 +85,7 @@ beside_small : (lines : List (List ℕ)) (kind : DisplaySuggestion) (own counted
 beside_small x y z u v w a b = grind (arith, common_steps, none_of_some)
 
 removed_small : (s : Snippet Patch) → IsSuggestible s → All (λ k. removed_number s k < 2 ^ 64) (removed_lines s)
-removed_small s can =
-    let begin : ℕ = line_of (source_lines (cow_str_bytes s.source.text)) (first_start (trimmed_of s)) in
-    beside_small (given_lines s) (shown_kind s) (λ k. s.line_start + k) (λ k. capped_sum (s.line_start + first_given s) (k - begin)) (emptied_lines s)
-    (replaced_lines s) (λ i d inside. omega (arith, emptied_within s i d inside, can.lines)) (λ k. omega arith)
+removed_small s can = grind (arith, common_steps, beside_small, emptied_within, s.source.text, s.line_start, can.lines)
 
 module _ (layout : SuggestionLayout) (s : Snippet Patch) where
   -- what a row asks, and what it is drawn over

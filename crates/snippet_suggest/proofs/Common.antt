@@ -1,7 +1,6 @@
 -- What most proofs of this crate cite, given on from one place.
-pub use Rattle.snippet_grid.proofs.ReplaceLemmas.{changed_within_one}
+pub use Rattle.snippet_grid.proofs.ReplaceLemmas.{changed_within_one, row_text-text_cells}
 pub use Rattle.snippet_grid.proofs.GridShown.{cells_written_last, cells_written_below}
-pub use Rattle.snippet_grid.proofs.ReplaceLemmas.{row_text-text_cells}
 pub use Rattle.snippet_grid.specs.Calls.{cells_restyled}
 pub use Rattle.snippet_grid.specs.Grid.{cells_written, row_at, restyled}
 unfoldable pub use Rattle.snippet_grid.specs.Grid.{changed_within}
@@ -16,7 +15,6 @@ pub use Rattle.snippet_lines.specs.Lines.{source_lines, lines_of, Source, text_a
 unfoldable pub use Rattle.snippet_lines.specs.Lines.{newline_count, start_of}
 pub use Rattle.snippet_lines.specs.Number.{shown_number, set_right, number_width}
 unfoldable pub use Rattle.snippet_lines.specs.Place.{line_of, end_location, location_of, locations_of, place_of, start_location, steps_after_text}
-pub use Rattle.snippet_lines.specs.declared.lines.EndLine.TheVariants.{Eof}
 pub use Rattle.snippet_lines.specs.declared.number.LineNumbers.{LineNumbers}
 pub use Rattle.snippet_lines.specs.declared.number.LineNumbers.TheVariants.{Shown, Anonymized, Hidden}
 pub use Rattle.snippet_model.proofs.RowLemmas.{free_drawn, each_fails, free_written, free_led}
@@ -31,7 +29,7 @@ pub use Rattle.snippet_parts.specs.Numbered.{numbered_source}
 pub use Rattle.snippet_parts.specs.declared.source_map.LineInfo.{LineInfo}
 pub use Rattle.snippet_splice.proofs.EditLemmas.{trimmed_edit-shrunk, trimmed-apart}
 pub use Rattle.snippet_splice.proofs.FeedLemmas.{shown-bound, text_feeds}
-pub use Rattle.snippet_splice.proofs.LineLemmas.{AreFrom-at, AreFrom-shown}
+pub use Rattle.snippet_splice.proofs.LineLemmas.{AreFrom-shown}
 pub use Rattle.snippet_splice.proofs.OverlapLemmas.{apart-in_order, ordered-spans}
 pub use Rattle.snippet_splice.proofs.RangeLemmas.{ranges_from-written_ranges}
 pub use Rattle.snippet_splice.proofs.ShownLemmas.{none_given, some-edits}
@@ -78,11 +76,11 @@ pub use Rattle.snippet_suggest.specs.Given.{shown_kind, given_lines, edits_of, f
 pub use Rattle.snippet_suggest.specs.Given.{first_end, removed_lines, emptied_lines, replaced_lines, counted_line, lines_touched, IsOfferable, added_lines}
 pub use Rattle.snippet_suggest.specs.InOrder.{AreInOrder}
 pub use Rattle.snippet_suggest.specs.Kind.{is_blank_text, takes_away, kind_of}
-pub use Rattle.snippet_suggest.specs.Marks.{edit_columns, mark_start, patch_mark_end, left_of, mark_glyph_of, inner_width, lead_of, text_width}
+pub use Rattle.snippet_suggest.specs.Marks.{edit_columns, mark_start, patch_mark_end, left_of, mark_glyph_of, inner_width, lead_of}
 unfoldable pub use Rattle.snippet_suggest.specs.Marks.{with_marks, with_mark}
 pub use Rattle.snippet_suggest.specs.Moves.{shift_of, AreMoves}
-pub use Rattle.snippet_suggest.specs.Offered.{numbers_shown, numbers_given, numbers_of, offered_lines, AreRising, IsAsItWas, lines_taken}
-pub use Rattle.snippet_suggest.specs.Offered.{numbers_offered, number_of, texts_of_source}
+pub use Rattle.snippet_suggest.specs.Offered.{numbers_shown, numbers_given, numbers_of, offered_lines, AreRising, IsAsItWas, lines_taken, numbers_offered}
+pub use Rattle.snippet_suggest.specs.Offered.{number_of, texts_of_source}
 pub use Rattle.snippet_suggest.specs.OfferedRows.{row_shown, suggestion_row, lines_shown}
 unfoldable pub use Rattle.snippet_suggest.specs.OfferedRows.{opened_cells}
 pub use Rattle.snippet_suggest.specs.PreparedSuggestion.{first_original, IsPrepared, IsSuggestible, first_original_end}
@@ -123,8 +121,8 @@ pub use Rattle.std.proofs.Common.{◌-◌, false, Bool, true, subst, take, if◌
 pub use Rattle.std.proofs.Common.{◌&&◌, suc, ◌==◌, append_assoc, zero, nat_le, count_by, min, None, Some, max, ◌||◌, leb, Vec, ltb, rules}
 pub use Rattle.std.proofs.Common.{◌⊎◌, not, Contains, codes, Option, ⊎_elim, ◌%◌, fold, eqb, set}
 pub use Rattle.std.proofs.Math.Bool.{and-false, or-true}
-pub use Rattle.std.proofs.lemmas.Bool.{cases_Bool, cond-true, cond_both, cases_lt, cond-false, true≢false, and_from, or_right, le-leb, and_parts}
-pub use Rattle.std.proofs.lemmas.Bool.{leb-true, cases_eq}
+pub use Rattle.std.proofs.lemmas.Bool.{cases_Bool, cond-true, cond_both, cases_lt, cond-false, true≢false, and_from, or_right, le-leb, and_parts, leb-true}
+pub use Rattle.std.proofs.lemmas.Bool.{cases_eq}
 pub use Rattle.std.proofs.lemmas.Bool.Decides.{nat_tests}
 pub use Rattle.std.proofs.lemmas.Fmt.{decimal_by_steps}
 pub use Rattle.std.proofs.lemmas.Iterator.{YieldsList-from_chars}
@@ -145,7 +143,7 @@ pub use Rattle.std.specs.Cow.{cow_str_bytes}
 pub use Rattle.std.specs.Fmt.{decimal}
 unfoldable pub use Rattle.std.specs.Fmt.{digits}
 pub use Rattle.std.specs.List.{slice_index_or, range_with_len, list_all, list_any, AllZip, slice_get, slice_range, sum_by}
-pub use Rattle.std.specs.Str.{bytes_eq, IsUtf8, trim, IsCharBoundary}
+pub use Rattle.std.specs.Str.{bytes_eq, IsUtf8, IsCharBoundary}
 pub use Rattle.std.specs.Str.Iter.{chars_rest}
 pub use Rattle.std.specs.String.{string_bytes}
 pub use Rattle.std.specs.declared.alloc.Global.{Global}

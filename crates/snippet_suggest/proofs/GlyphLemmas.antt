@@ -1,7 +1,7 @@
 -- The characters of the glyphs of suggestions, and what is known of each.
-use Rattle.snippet_suggest.proofs.Common.{Bool, ◌≡◌, ◌≤◌, true, false, length, arith, is_ascii_alphanumeric, list_all, list_any, slice_index_or, DecorStyle}
-use Rattle.snippet_suggest.proofs.Common.{SuggestionGlyph, Leading, Closing, Kept, Alone, Changed, Added, is_listed, removed_sign_of, suggestion_glyph_of}
-use Rattle.snippet_suggest.proofs.Common.{IsSign, is_stroke, common_steps}
+use Rattle.snippet_suggest.proofs.Common.{Bool, ◌≡◌, ◌≤◌, true, false, length, arith, is_ascii_alphanumeric, list_all, list_any, slice_index_or}
+use Rattle.snippet_suggest.proofs.Common.{DecorStyle, SuggestionGlyph, Leading, Closing, Kept, Alone, Changed, Added, is_listed, removed_sign_of}
+use Rattle.snippet_suggest.proofs.Common.{suggestion_glyph_of, IsSign, is_stroke, common_steps}
 use Rattle.snippet_style.specs.declared.glyphs.SuggestionGlyph.TheVariants.{Opening, Next}
 
 -- the sign of a removed line has two characters

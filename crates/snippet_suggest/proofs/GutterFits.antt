@@ -1,11 +1,11 @@
 -- Why the gutter that has room for the number that a suggestion counts has room for the number of each line that it gives.
-use Rattle.snippet_suggest.proofs.Common.{◌≡◌, ℕ, ◌+◌, ◌<◌, ◌≤◌, ◌^◌, ◌&&◌, Bool, true, if◌then◌else◌, List, [], ◌∷◌, All, length, map, sym, arith, subst}
-use Rattle.snippet_suggest.proofs.Common.{cow_str_bytes, cond-true, cond_both, length-map, All-map, Snippet, Patch, lines_of, source_lines, newline_count}
-use Rattle.snippet_suggest.proofs.Common.{number_width, shown_number, LineNumbers, line_of, IsSpan, length-source_lines, length-shown_number}
-use Rattle.snippet_suggest.proofs.Common.{number_width_monotone, line_of-mono, line_of-within, Edit, edit_of, in_order, trimmed_edit, first_start}
-use Rattle.snippet_suggest.proofs.Common.{trimmed_edit-shrunk, DisplaySuggestion, Underline, Diff, Plain, Add, SuggestionLayout, Line, counted_line, edits_of}
-use Rattle.snippet_suggest.proofs.Common.{first_end, first_given, given_lines, given_text, shown_kind, trimmed_of, kind_of, IsSuggestible, HasGutter}
-use Rattle.snippet_suggest.proofs.Common.{NumberFits, capped_sum, common_steps, rules}
+use Rattle.snippet_suggest.proofs.Common.{◌≡◌, ℕ, ◌+◌, ◌<◌, ◌≤◌, ◌^◌, ◌&&◌, Bool, true, if◌then◌else◌, List, [], ◌∷◌}
+use Rattle.snippet_suggest.proofs.Common.{All, length, map, sym, arith, subst, cow_str_bytes, cond-true, cond_both, length-map, All-map, Snippet, Patch}
+use Rattle.snippet_suggest.proofs.Common.{lines_of, source_lines, newline_count, number_width, shown_number, LineNumbers, line_of, IsSpan, length-source_lines}
+use Rattle.snippet_suggest.proofs.Common.{length-shown_number, number_width_monotone, line_of-mono, line_of-within, Edit, edit_of, in_order, trimmed_edit}
+use Rattle.snippet_suggest.proofs.Common.{first_start, trimmed_edit-shrunk, DisplaySuggestion, Underline, Diff, Plain, Add, SuggestionLayout, Line}
+use Rattle.snippet_suggest.proofs.Common.{counted_line, edits_of, first_end, first_given, given_lines, given_text, shown_kind, trimmed_of, kind_of}
+use Rattle.snippet_suggest.proofs.Common.{IsSuggestible, HasGutter, NumberFits, capped_sum, rules}
 use Rattle.snippet_suggest.proofs.ByKind.{counted_folded}
 use Rattle.snippet_suggest.proofs.SpanLemmas.{spans_in_order}
 

@@ -1,7 +1,7 @@
 -- Which lines a suggestion that is prepared shows.
-use Rattle.snippet_suggest.proofs.Common.{◌≡◌, ℕ, ◌≤◌, Bool, None, Some, if◌then◌else◌, List, [], ◌∷◌, length, map, sym, ap, ◌∙◌, arith, slice_get}
-use Rattle.snippet_suggest.proofs.Common.{length-map, LineRange, PreparedSuggestion, DisplaySuggestion, Diff, given_lines, is_left_out, is_touched}
-use Rattle.snippet_suggest.proofs.Common.{numbers_of, IsPrepared, common_steps, rules}
+use Rattle.snippet_suggest.proofs.Common.{◌≡◌, ℕ, ◌≤◌, Bool, None, Some, if◌then◌else◌, List, [], ◌∷◌, length, map, sym, ap}
+use Rattle.snippet_suggest.proofs.Common.{◌∙◌, arith, slice_get, length-map, LineRange, PreparedSuggestion, DisplaySuggestion, Diff, given_lines}
+use Rattle.snippet_suggest.proofs.Common.{is_left_out, is_touched, numbers_of, IsPrepared, common_steps, rules}
 use Rattle.snippet_suggest.proofs.GutterFits.{one_given}
 
 cond_same : (b : Bool) → ◌≡◌ {A = List ℕ} (if b then [] else []) []

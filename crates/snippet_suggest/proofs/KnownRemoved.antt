@@ -1,11 +1,11 @@
 -- Which lines a suggestion that is prepared shows as removed, and their texts.
-use Rattle.snippet_suggest.proofs.Common.{◌==◌, ◌≡◌, ℕ, zero, suc, ◌+◌, ◌-◌, ◌≤◌, Bool, true, if◌then◌else◌, List, [], ◌∷◌, length, map, take, refl, sym, ap}
-use Rattle.snippet_suggest.proofs.Common.{◌∙◌, arith, cow_str_bytes, range_with_len, bytes_eq, length-map, take-map, length-range_with_len, source_lines}
-use Rattle.snippet_suggest.proofs.Common.{text_at, line_of, LineInfo, table_entry, touched_entries, end_from, trimmed_edit_of, first_start}
-use Rattle.snippet_suggest.proofs.Common.{PreparedSuggestion, Diff, emptied_lines, first_given, given_lines, last_reached, lines_touched, removed_lines}
-use Rattle.snippet_suggest.proofs.Common.{replaced_lines, shown_kind, trimmed_of, Removes, SuggestionRow, texts_of_source, last_removed, texts_at}
-use Rattle.snippet_suggest.proofs.Common.{unless_stays, counted_from, numbered_at, removed_from, IsPrepared, first_original, first_original_end, is_touched}
-use Rattle.snippet_suggest.proofs.Common.{capped_sum, common_steps, rules}
+use Rattle.snippet_suggest.proofs.Common.{◌==◌, ◌≡◌, ℕ, zero, suc, ◌+◌, ◌-◌, ◌≤◌, Bool, true, if◌then◌else◌, List, []}
+use Rattle.snippet_suggest.proofs.Common.{◌∷◌, length, map, take, refl, sym, ap, ◌∙◌, arith, cow_str_bytes, range_with_len, bytes_eq, length-map}
+use Rattle.snippet_suggest.proofs.Common.{take-map, length-range_with_len, source_lines, text_at, line_of, LineInfo, table_entry, touched_entries, end_from}
+use Rattle.snippet_suggest.proofs.Common.{trimmed_edit_of, first_start, PreparedSuggestion, Diff, emptied_lines, first_given, given_lines, last_reached}
+use Rattle.snippet_suggest.proofs.Common.{lines_touched, removed_lines, replaced_lines, shown_kind, trimmed_of, Removes, SuggestionRow, texts_of_source}
+use Rattle.snippet_suggest.proofs.Common.{last_removed, texts_at, unless_stays, counted_from, numbered_at, removed_from, IsPrepared, first_original}
+use Rattle.snippet_suggest.proofs.Common.{first_original_end, is_touched, capped_sum, common_steps, rules}
 use Rattle.snippet_suggest.proofs.ByKind.{removed_of}
 use Rattle.snippet_suggest.proofs.KnownLemmas.{known_first_end, known_first_start}
 use Rattle.snippet_suggest.proofs.ReachLemmas.{touched_numbered, touched_texts}

@@ -1,8 +1,9 @@
 -- What stands beside a removed line: its number, what a row that was there held, and the end of a long number.
-use Rattle.snippet_suggest.proofs.Common.{◌≡◌, ◌⊎◌, true, ℕ, ◌-◌, ◌+◌, ◌^◌, ◌<◌, ◌≤◌, ◌%◌, List, [], ◌∷◌, All}
-use Rattle.snippet_suggest.proofs.Common.{length, replicate, refl, arith, inl, inr, decimal, decimal_by_steps, length-append, length-replicate, All-append}
-use Rattle.snippet_suggest.proofs.Common.{All-cons, All-nil, All-push, All-replicate, DecorStyle, set_right, shown_number, LineNumbers, Shown, Anonymized}
-use Rattle.snippet_suggest.proofs.Common.{Hidden, IsMarkOrSpace, IsOfNumber, is_stroke}
+use Rattle.std.proofs.lemmas.Grind.{common_steps}
+use Rattle.snippet_suggest.proofs.Common.{◌≡◌, ◌⊎◌, true, ℕ, ◌-◌, ◌+◌, ◌^◌, ◌<◌, ◌≤◌, ◌%◌, List, [], All, length}
+use Rattle.snippet_suggest.proofs.Common.{replicate, refl, arith, inl, inr, decimal, decimal_by_steps, length-append, length-replicate, All-append, All-cons}
+use Rattle.snippet_suggest.proofs.Common.{All-nil, All-push, All-replicate, DecorStyle, set_right, shown_number, LineNumbers, Shown, Anonymized, Hidden}
+use Rattle.snippet_suggest.proofs.Common.{IsMarkOrSpace, IsOfNumber, is_stroke}
 
 -- what stands left of the sign of a line that is removed, and what may stand after its text
 abbrev pub IsBeforeSign : LineNumbers → DecorStyle → ℕ → Type 0
@@ -32,7 +33,7 @@ number_left decor Shown gutter number fits =
     let P : ℕ → Type 0 = IsLeftOver decor in
     let digit : (d : ℕ) → d < 10 → P (48 + d) = λ d small. inr (omega arith, omega arith) in
     inl (right_holds P (inl (inl refl)) gutter (decimal number) (decimal_holds P digit number fits))
-number_left decor Anonymized gutter number fits = grind (arith, length-append, replicate, length-replicate)
+number_left decor Anonymized gutter number fits = grind (arith, length-append, length-replicate)
 number_left decor Hidden gutter number fits = inr (omega (arith, length-replicate {A = ℕ} gutter 32))
 
 -- the characters of a number are such as stand before a sign
@@ -42,9 +43,5 @@ number_before decor Shown gutter number fits =
     let P : ℕ → Type 0 = IsBeforeSign Shown decor in
     let digit : (d : ℕ) → d < 10 → P (48 + d) = λ d small. inr (omega arith, omega arith) in
     right_holds P (inl refl) gutter (decimal number) (decimal_holds P digit number fits)
-number_before decor Anonymized gutter number fits =
-    let P : ℕ → Type 0 = IsBeforeSign Anonymized decor in
-    right_holds P (inl refl) gutter (76 ∷ 76 ∷ []) (All-cons P 76 (76 ∷ []) (inr refl) (All-cons P 76 [] (inr refl) (All-nil P)))
-number_before decor Hidden gutter number fits =
-    let P : ℕ → Type 0 = IsBeforeSign Hidden decor in
-    All-replicate P gutter 32 (inl refl)
+number_before decor Anonymized gutter number fits = grind (arith, common_steps, right_holds, All-cons, All-nil)
+number_before decor Hidden gutter number fits = grind (arith, common_steps, All-replicate)

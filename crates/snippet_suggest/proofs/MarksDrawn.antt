@@ -1,9 +1,9 @@
 -- Marks as values: what the patches before one move, and the cells that the marks take.
-use Rattle.snippet_suggest.proofs.Common.{◌≡◌, ℕ, suc, ◌+◌, ◌-◌, ◌^◌, ◌<◌, ◌≤◌, All, List, [], ◌∷◌, ◌++◌, length, min, replicate, take, get_or, refl, sym, ap}
-use Rattle.snippet_suggest.proofs.Common.{◌∙◌, arith, nat_tests, sum_by-append, ElementStyle, Addition, Cell, SPACE, text_cells, unlinked_cell, written}
-use Rattle.snippet_suggest.proofs.Common.{length-text_cells, cells_written, cells_written_last, Source, Edit, capped, SuggestionLayout, PatchColumns, put}
-use Rattle.snippet_suggest.proofs.Common.{length-replicate, map-append, places, same_lists, take_more, edit_columns, left_of, patch_mark_end, mark_glyph_of}
-use Rattle.snippet_suggest.proofs.Common.{mark_start, with_mark, with_marks, common_steps, rules}
+use Rattle.snippet_suggest.proofs.Common.{◌≡◌, ℕ, suc, ◌+◌, ◌-◌, ◌^◌, ◌<◌, ◌≤◌, All, List, [], ◌∷◌, ◌++◌, length, min}
+use Rattle.snippet_suggest.proofs.Common.{replicate, take, get_or, refl, sym, ap, ◌∙◌, arith, nat_tests, sum_by-append, ElementStyle, Addition, Cell}
+use Rattle.snippet_suggest.proofs.Common.{SPACE, text_cells, unlinked_cell, written, length-text_cells, cells_written, cells_written_last, Source, Edit, capped}
+use Rattle.snippet_suggest.proofs.Common.{SuggestionLayout, PatchColumns, put, length-replicate, map-append, places, same_lists, take_more, edit_columns}
+use Rattle.snippet_suggest.proofs.Common.{left_of, patch_mark_end, mark_glyph_of, mark_start, with_mark, with_marks, common_steps, rules}
 use Rattle.std.proofs.Common.{sum_by}
 use Rattle.snippet_suggest.proofs.PutLemmas.{put_none}
 
@@ -65,21 +65,21 @@ replicate_push n c = same_lists _ _ (grind (arith, places)) (λ k d h. grind (ar
 -- so many marks are there
 pub marks_begun : (mark at n : ℕ) (above : List (List Cell)) (last : List Cell) (now : List (List Cell)) → n ≡ 0 → now ≡ above ++ last ∷ []
     → now ≡ above ++ put Addition (replicate n mark) at last ∷ []
-marks_begun mark at n above last now none is = grind (arith, replicate, put_none)
+marks_begun mark at n above last now none is = grind (arith, put_none)
 
 -- with one more cell written the marks are one more
 pub marks_next : (mark at cell n m r : ℕ) (above : List (List Cell)) (last : List Cell) (now new : List (List Cell)) → r ≡ length above
     → cell ≡ at + n → m ≡ n + 1 → now ≡ above ++ put Addition (replicate n mark) at last ∷ []
     → new ≡ cells_written now r cell (text_cells Addition (mark ∷ [])) → new ≡ above ++ put Addition (replicate m mark) at last ∷ []
 marks_next mark at cell n m r above last now new here cell_is m_is is writes =
-    grind (arith, common_steps, replicate, length-replicate, cells_written_last, put_push, replicate_push)
+    grind (arith, common_steps, length-replicate, cells_written_last, put_push, replicate_push)
 
 -- once as many marks stand as the text has columns, the row has its marks
 pub marks_done : (layout : SuggestionLayout) (mark start end n : ℕ) (above : List (List Cell)) (last : List Cell) (now : List (List Cell))
     → n ≡ min end (2 ^ 60) - start → now ≡ above ++ put Addition (replicate n mark) (layout.base.gutter + 3 + start) last ∷ []
     → now ≡ above ++ with_mark layout mark start end last ∷ []
 unfolding with_mark
-marks_done layout mark start end n above last now n_is is = grind (arith, replicate)
+marks_done layout mark start end n above last now n_is is = grind arith
 
 -- ---- the marks of some edits
 

@@ -1,10 +1,10 @@
 -- What a suggestion offers: lines of the patched source, in ascending order.
-use Rattle.snippet_suggest.proofs.Common.{◌≡◌, ◌≢◌, ℕ, ◌+◌, ◌<◌, Bool, if◌then◌else◌, List, [], All, length, sym, subst, ◌∙◌, arith, length-map, get_or-map}
-use Rattle.snippet_suggest.proofs.Common.{cow_str_bytes, slice_index_or, Snippet, Patch, Eof, lines_of, source_lines, text_at, IsSpan, in_order, patched}
-use Rattle.snippet_suggest.proofs.Common.{AreFrom, texts_of, AreDisjoint, AreApart, apart-in_order, ordered-spans, some-edits, IsShownPart, IsShownPart-plain}
-use Rattle.snippet_suggest.proofs.Common.{AreFrom-at, AreFrom-shown, IsOfferable, edits_of, first_given, given_lines, given_ranges, is_left_out, last_reached}
-use Rattle.snippet_suggest.proofs.Common.{shown_kind, is_touched, shown_from, numbers_given, offered_lines, AreRising, numbers_shown}
-use Rattle.snippet_lines.specs.Lines.{Line}
+use Rattle.std.proofs.lemmas.Grind.{common_steps}
+use Rattle.snippet_suggest.proofs.Common.{◌≡◌, ◌≢◌, ℕ, ◌+◌, ◌<◌, Bool, if◌then◌else◌, List, [], All, length, sym, subst, arith}
+use Rattle.snippet_suggest.proofs.Common.{length-map, get_or-map, cow_str_bytes, slice_index_or, Snippet, Patch, lines_of, source_lines, text_at, IsSpan}
+use Rattle.snippet_suggest.proofs.Common.{in_order, patched, AreFrom, texts_of, AreDisjoint, AreApart, apart-in_order, ordered-spans, some-edits, IsShownPart}
+use Rattle.snippet_suggest.proofs.Common.{IsShownPart-plain, AreFrom-shown, IsOfferable, edits_of, first_given, given_lines, given_ranges, is_left_out}
+use Rattle.snippet_suggest.proofs.Common.{last_reached, shown_kind, is_touched, shown_from, numbers_given, offered_lines, AreRising, numbers_shown}
 use Rattle.snippet_suggest.proofs.AscendLemmas.{rising-moved}
 use Rattle.snippet_suggest.proofs.RisingLemmas.{rising_shown}
 
@@ -37,11 +37,7 @@ given-from s spans disjoint some offerable =
 pub given-is-patched : (s : Snippet Patch) → HaveSpans s → AreDisjoint (edits_of s) → s.markers.items ≢ [] → IsOfferable s → (k : ℕ)
     → k < length (given_lines s) → (first_given s + k < length (source_lines (patched (cow_str_bytes s.source.text) (edits_of s))))
     × (slice_index_or (given_lines s) k [] ≡ text_at (source_lines (patched (cow_str_bytes s.source.text) (edits_of s))) (first_given s + k))
-given-is-patched s spans disjoint some offerable k low =
-    let ls : List Line = source_lines (patched (cow_str_bytes s.source.text) (edits_of s)) in
-    let at = AreFrom-at (given_lines s) (texts_of ls) (first_given s) k [] (given-from s spans disjoint some offerable) low in
-    let within : first_given s + k < length ls = omega (arith, at.0, length-map ls (λ l. l.0)) in
-    (within, at.1 ∙ get_or-map (λ l. l.0) ls (first_given s + k) ([], Eof) [] within)
+given-is-patched s spans disjoint some offerable k low = grind (arith, common_steps, given-from, length-map, get_or-map, s.source.text)
 
 -- the lines that it offers ascend, and are among those that are given
 numbers-ascend : (left_out : Bool) (touched : ℕ → Bool) (count : ℕ) → AreRising 0 count (if left_out then [] else numbers_shown (shown_from touched 0 0 count))

@@ -65,12 +65,12 @@ module _ (start : SuggestionStart) (s : Snippet Patch) where
   pub rows_diff : (line : List ℕ) (lines : List (List ℕ)) (touched left : Bool) → given_lines s ≡ line ∷ lines → shown_kind s ≡ Diff
       → is_touched s.fold (given_ranges s) 0 ≡ touched → is_left_out Diff (line ∷ lines) (last_reached s) ≡ left
       → rows_of_suggestion start s ≡ Begins start ∷ changed_rows touched left (map (removed_row s) (removed_lines s))
-  rows_diff line lines touched left some diff touches leaves = grind (arith, by_case)
+  rows_diff line lines touched left some diff touches leaves = grind arith
 
   -- in another kind
   pub rows_others : (line : List ℕ) (lines : List (List ℕ)) → given_lines s ≡ line ∷ lines → shown_kind s ≢ Diff
       → rows_of_suggestion start s ≡ Begins start ∷ map row_of_shown (shown_from (is_touched s.fold (given_ranges s)) 0 0 (length (given_lines s)))
-  rows_others line lines some other = grind (arith, by_case, some_where)
+  rows_others line lines some other = grind (arith, some_where)
 
 -- ---- laws
 

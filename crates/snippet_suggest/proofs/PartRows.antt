@@ -1,10 +1,10 @@
 -- A line that is put into a row part by part, where some of it has a role.
-use Rattle.snippet_suggest.proofs.Common.{◌≡◌, ℕ, zero, suc, ◌+◌, ◌-◌, ◌≤◌, ◌<◌, ◌==◌, true, List, [], ◌∷◌, ◌++◌, length, map, max, take, drop, replicate}
-use Rattle.snippet_suggest.proofs.Common.{get_or, refl, sym, All, ap, ◌∙◌, arith, count_by, nat_tests, append-nil, get_or-drop, get_or-take, length-append}
-use Rattle.snippet_suggest.proofs.Common.{length-drop, length-map, length-take, places, same_lists, take_all, drop_more, take_more, IsCharBoundary, max_usize}
-use Rattle.snippet_suggest.proofs.Common.{ElementStyle, NoStyle, Cell, SPACE, text_cells, unlinked_cell, written, length-text_cells, length-written}
-use Rattle.snippet_suggest.proofs.Common.{text_cells-append, norm, IsPlain, norm-unlisted, chars-plain, list_any-plain, changed_within, restyled}
-use Rattle.snippet_suggest.proofs.Common.{SubstitutionHighlight, put, stretch_cell, with_stretches, AreInOrder, common_steps}
+use Rattle.snippet_suggest.proofs.Common.{◌≡◌, ℕ, zero, suc, ◌+◌, ◌-◌, ◌≤◌, ◌<◌, ◌==◌, true, List, [], ◌∷◌, ◌++◌}
+use Rattle.snippet_suggest.proofs.Common.{length, map, take, drop, get_or, refl, sym, All, ap, ◌∙◌, arith, count_by, nat_tests, append-nil, get_or-drop}
+use Rattle.snippet_suggest.proofs.Common.{get_or-take, length-append, length-drop, length-map, length-take, places, same_lists, take_all, drop_more, take_more}
+use Rattle.snippet_suggest.proofs.Common.{IsCharBoundary, max_usize, ElementStyle, NoStyle, Cell, SPACE, text_cells, unlinked_cell, written, length-text_cells}
+use Rattle.snippet_suggest.proofs.Common.{length-written, text_cells-append, norm, IsPlain, norm-unlisted, chars-plain, list_any-plain, changed_within}
+use Rattle.snippet_suggest.proofs.Common.{restyled, SubstitutionHighlight, put, stretch_cell, with_stretches, AreInOrder, common_steps}
 use Rattle.std.proofs.Common.{chars}
 use Rattle.snippet_suggest.proofs.StretchRows.{empty_stretch, with_append, with_none}
 
@@ -28,21 +28,13 @@ back_of xs ys zs n is = same_lists _ _ (grind (arith, places)) (λ k d h. grind 
 changed_middle : (f : Cell → Cell) (xs ys zs : List Cell) (n m : ℕ) → n ≡ length xs → m ≡ length xs + length ys
     → changed_within f n m (xs ++ ys ++ zs) ≡ xs ++ map f ys ++ zs
 unfolding changed_within
-changed_middle f xs ys zs n m from to =
-    let all = xs ++ ys ++ zs in
-    ap (λ t. t ++ map f (take (m - n) (drop n all)) ++ drop (max n m) all) (front_of xs ys zs n from)
-    ∙ ap (λ t. xs ++ map f t ++ drop (max n m) all) (middle_of xs ys zs n (m - n) from (omega (arith, from, to)))
-    ∙ ap (λ t. xs ++ map f ys ++ t) (back_of xs ys zs (max n m) (omega (arith, from, to)))
+changed_middle f xs ys zs n m from to = grind (arith, common_steps, front_of, back_of)
 
 -- what is written is changed
 changed_written : (f : Cell → Cell) (row cells : List Cell) (at : ℕ)
     → changed_within f at (at + length cells) (written SPACE row at cells) ≡ written SPACE row at (map f cells)
 unfolding written
-changed_written f row cells at =
-    let front = take at (row ++ replicate (at - length row) SPACE) in
-    let long : at ≡ length front = grind (arith, places) in
-    changed_middle f front cells (drop (at + length cells) row) at (at + length cells) long (omega (arith, long))
-    ∙ ap (λ n. front ++ map f cells ++ drop (at + n) row) (sym (length-map cells f))
+changed_written f row cells at = grind (arith, common_steps, changed_middle, length-map)
 
 -- a change before what is written
 changed_before : (f : Cell → Cell) (front middle back cells : List Cell) (n m : ℕ) → n ≡ length front → m ≡ length front + length middle

@@ -1,12 +1,12 @@
 -- Rows as values: what the texts that are put into them make of them.
-use Rattle.snippet_suggest.proofs.Common.{◌≡◌, ◌≢◌, ℕ, ◌+◌, ◌-◌, ◌<◌, ◌≤◌, Bool, List, [], ◌∷◌, ◌++◌, length, replicate, refl, sym, ap, ◌∙◌, arith}
-use Rattle.snippet_suggest.proofs.Common.{append_assoc, append-nil, chars-nil, encodes-chars, IsUtf8, DecorStyle, ElementStyle, Addition, LineNumber, NoStyle}
-use Rattle.snippet_suggest.proofs.Common.{Removal, Cell, SPACE, text_cells, written, placeholder_of, removed_sign_of, length-chars_le, length-text_cells}
-use Rattle.snippet_suggest.proofs.Common.{cells_written, row_at, cells_written_below, cells_written_last, norm, width_of, shown_number, SuggestionGlyph}
-use Rattle.snippet_suggest.proofs.Common.{SuggestionLayout, SubstitutionHighlight, DisplaySuggestion, Diff, Next, Opening, Path, begin_cells, end_cells}
-use Rattle.snippet_suggest.proofs.Common.{gap_cells, line_cells, offered_cells, put, removed_cells, opened_cells, lines_shown, row_shown, sign_of}
-use Rattle.snippet_suggest.proofs.Common.{with_stretches, SuggestedText, Line, line_stretches, slice_index_or, end_glyph, get_or_past, length-map, places}
-use Rattle.snippet_suggest.proofs.Common.{same_lists, suggestion_glyph_of, suggestion_role_of, capped_sum, common_steps, rules}
+use Rattle.snippet_suggest.proofs.Common.{◌≡◌, ◌≢◌, ℕ, ◌+◌, ◌-◌, ◌<◌, ◌≤◌, Bool, List, [], ◌∷◌, ◌++◌, length}
+use Rattle.snippet_suggest.proofs.Common.{replicate, refl, sym, ap, ◌∙◌, arith, append_assoc, append-nil, chars-nil, encodes-chars, IsUtf8, DecorStyle}
+use Rattle.snippet_suggest.proofs.Common.{ElementStyle, Addition, LineNumber, NoStyle, Removal, Cell, SPACE, text_cells, written, placeholder_of}
+use Rattle.snippet_suggest.proofs.Common.{removed_sign_of, length-chars_le, length-text_cells, cells_written, row_at, cells_written_below, cells_written_last}
+use Rattle.snippet_suggest.proofs.Common.{norm, width_of, shown_number, SuggestionGlyph, SuggestionLayout, SubstitutionHighlight, DisplaySuggestion, Diff, Next}
+use Rattle.snippet_suggest.proofs.Common.{Opening, Path, begin_cells, end_cells, gap_cells, line_cells, offered_cells, put, removed_cells, opened_cells}
+use Rattle.snippet_suggest.proofs.Common.{lines_shown, row_shown, sign_of, with_stretches, SuggestedText, Line, line_stretches, slice_index_or, end_glyph}
+use Rattle.snippet_suggest.proofs.Common.{get_or_past, length-map, places, same_lists, suggestion_glyph_of, suggestion_role_of, capped_sum, common_steps, rules}
 use Rattle.std.proofs.Common.{chars}
 use lib.Utf8.{encodes}
 use Rattle.snippet_style.specs.declared.glyphs.SuggestionGlyph.TheVariants as sign

@@ -1,9 +1,9 @@
 -- The last line that edits reach, and the lines that are removed up to it.
-use Rattle.snippet_suggest.proofs.Common.{◌≡◌, ℕ, zero, suc, ◌+◌, ◌-◌, ◌<◌, ◌≤◌, max, min, List, [], ◌∷◌, fold, get_or, length, map, refl, ap, ◌∙◌, arith}
-use Rattle.snippet_suggest.proofs.Common.{get_or-map, length-map, get_or-range_with_len, length-range_with_len, range_with_len, Source, source_lines, text_at}
-use Rattle.snippet_suggest.proofs.Common.{line_of, length-source_lines, line_of-mono, LineInfo, LineEntry, entry_at, table_entry, touched_entries}
-use Rattle.snippet_suggest.proofs.Common.{TrimmedPatch, end_from, Edit, trimmed_edits, AreApart, trimmed_edit_of, first_start, last_line_reached}
-use Rattle.snippet_suggest.proofs.Common.{lines_touched, last_removed, texts_at, numbered_at}
+use Rattle.snippet_suggest.proofs.Common.{◌≡◌, ℕ, zero, suc, ◌+◌, ◌-◌, ◌<◌, ◌≤◌, max, min, List, [], ◌∷◌, fold, get_or, length}
+use Rattle.snippet_suggest.proofs.Common.{map, refl, ap, ◌∙◌, arith, get_or-map, length-map, get_or-range_with_len, length-range_with_len, range_with_len}
+use Rattle.snippet_suggest.proofs.Common.{Source, source_lines, text_at, line_of, length-source_lines, line_of-mono, LineInfo, LineEntry, entry_at, table_entry}
+use Rattle.snippet_suggest.proofs.Common.{touched_entries, TrimmedPatch, end_from, Edit, trimmed_edits, AreApart, trimmed_edit_of, first_start}
+use Rattle.snippet_suggest.proofs.Common.{last_line_reached, lines_touched, last_removed, texts_at, numbered_at}
 
 -- ---- the end of the last edit
 
@@ -12,9 +12,7 @@ pub last_end : (at : ℕ) (ps : List TrimmedPatch) (d : TrimmedPatch) → 0 < le
     → (get_or ps (length ps - 1) d).span.end ≡ end_from at (map trimmed_edit_of ps)
 last_end at [] d some = absurd (omega (arith, some))
 last_end at (p ∷ []) d some = refl
-last_end at (p ∷ q ∷ ps) d some =
-    let here : suc (suc (length ps)) - 1 ≡ suc (suc (length ps) - 1) = omega arith in
-    ap (λ n. (get_or (p ∷ q ∷ ps) n d).span.end) here ∙ last_end p.span.end (q ∷ ps) d (omega arith)
+last_end at (p ∷ q ∷ ps) d some = grind (arith, last_end p.span.end (q ∷ ps) d (omega arith), p.span.end)
 
 -- an only patch ends where the edits end
 pub only_end : (at : ℕ) (ps : List TrimmedPatch) (d : TrimmedPatch) → 0 < length ps → length ps < 2

@@ -1,8 +1,8 @@
 -- The lines that are shown ascend, and each touched line is among them.
-use Rattle.snippet_suggest.proofs.Common.{◌≡◌, ℕ, zero, suc, ◌+◌, ◌-◌, ◌<◌, ◌≤◌, nat_le, Bool, true, false, List, [], ◌∷◌, ◌++◌, if◌then◌else◌, refl, sym}
-use Rattle.snippet_suggest.proofs.Common.{arith, subst, All, Contains, inl, inr, map, filter_map-append, All-cons, All-nil, Contains-append_right, cases_eq}
-use Rattle.snippet_suggest.proofs.Common.{append-nil, SuggestionLayout, SuggestionLine, Line, Gap, shown_run, shown_from, number_of, numbers_shown, AreRising}
-use Rattle.snippet_suggest.proofs.Common.{NumberFits, range_with_len, rules}
+use Rattle.snippet_suggest.proofs.Common.{◌≡◌, ℕ, zero, suc, ◌+◌, ◌-◌, ◌<◌, ◌≤◌, nat_le, Bool, true, false, List, [], ◌∷◌}
+use Rattle.snippet_suggest.proofs.Common.{◌++◌, if◌then◌else◌, refl, sym, arith, subst, All, Contains, inl, inr, map, filter_map-append, All-cons}
+use Rattle.snippet_suggest.proofs.Common.{All-nil, Contains-append_right, cases_eq, append-nil, SuggestionLayout, SuggestionLine, Line, Gap, shown_run}
+use Rattle.snippet_suggest.proofs.Common.{shown_from, number_of, numbers_shown, AreRising, NumberFits, range_with_len, rules}
 
 -- the bounds of ascending numbers, and two such lists joined
 pub rising_bound : (from to : ℕ) (ks : List ℕ) → AreRising from to ks → from ≤ to
@@ -44,10 +44,7 @@ rising_from_by touched from k left true ordered shown waiting =
 rising_from : (touched : ℕ → Bool) (from k left : ℕ) → from ≤ k → AreRising from (k + left) (numbers_shown (shown_from touched from k left))
 rising_from touched from k zero ordered = omega (arith, ordered)
 rising_from touched from k (suc left) ordered =
-    let same : k + 1 + left ≡ k + suc left = omega arith in
-    subst (λ (to : ℕ). AreRising from to (numbers_shown (shown_from touched from k (suc left)))) same
-    (rising_from_by touched from k left (touched k) ordered (rising_from touched (k + 1) (k + 1) left (omega arith))
-    (rising_from touched from (k + 1) left (omega (arith, ordered))))
+    grind (arith, rising_from touched (k + 1) (k + 1) left (omega arith), rising_from touched from (k + 1) left (omega (arith, ordered)), rising_from_by)
 
 -- the numbers of shown lines rise
 pub rising_shown : (touched : ℕ → Bool) (count : ℕ) → AreRising 0 count (numbers_shown (shown_from touched 0 0 count))

@@ -1,23 +1,23 @@
 -- What each row of a suggestion shows, by the cells that it holds.
-use Rattle.snippet_suggest.proofs.Common.{◌≡◌, ℕ, ◌+◌, ◌-◌, ◌^◌, ◌<◌, ◌≤◌, Bool, true, false, if◌then◌else◌, min, nat_le, All, List, [], ◌∷◌, ◌++◌, length}
-use Rattle.snippet_suggest.proofs.Common.{map, replicate, refl, sym, ap, ◌∙◌, arith, inl, inr, subst, is_ascii_alphanumeric, list_all, list_any}
-use Rattle.snippet_suggest.proofs.Common.{slice_index_or, All-replicate, DecorStyle, Ascii, Unicode, SuggestionGlyph, ElementStyle, Addition, LineNumber}
-use Rattle.snippet_suggest.proofs.Common.{NoStyle, Removal, Cell, SPACE, placeholder_of, removed_sign_of, suggestion_glyph_of, suggestion_role_of}
-use Rattle.snippet_suggest.proofs.Common.{changed_within, restyled, separator_cell, row_text, is_listed, norm, width_of, list_any-norm, Source, shown_number}
-use Rattle.snippet_suggest.proofs.Common.{shown_number_unlisted, each_fails, Edit, SubstitutionHighlight, DisplaySuggestion, SuggestionLayout}
-use Rattle.snippet_suggest.proofs.Common.{SuggestionStart, Next, Opening, Path, PatchColumns, begin_cells, end_cells, gap_cells, line_cells, offered_cells}
-use Rattle.snippet_suggest.proofs.Common.{put, removed_cells, sign_alone, sign_among, sign_of, stretch_cell, with_stretches, max_column, edit_columns}
-use Rattle.snippet_suggest.proofs.Common.{mark_glyph_of, mark_start, patch_mark_end, with_mark, with_marks, IsBareRow, IsMarkOrSpace, IsSign, begin_glyph}
-use Rattle.snippet_suggest.proofs.Common.{beside_gutter, end_glyph, gap_left, is_stroke, IsEdgeRow, IsLineRow, IsRowOfRemoved, IsUnder, common_steps, rules}
+use Rattle.snippet_suggest.proofs.Common.{◌≡◌, ℕ, ◌+◌, ◌-◌, ◌^◌, ◌<◌, ◌≤◌, Bool, true, false, if◌then◌else◌, min, nat_le}
+use Rattle.snippet_suggest.proofs.Common.{All, List, [], ◌∷◌, ◌++◌, length, map, replicate, refl, sym, ap, ◌∙◌, arith, inl, inr, subst}
+use Rattle.snippet_suggest.proofs.Common.{is_ascii_alphanumeric, list_all, list_any, slice_index_or, All-replicate, DecorStyle, Ascii, Unicode, SuggestionGlyph}
+use Rattle.snippet_suggest.proofs.Common.{ElementStyle, Addition, LineNumber, NoStyle, Removal, Cell, SPACE, placeholder_of, removed_sign_of}
+use Rattle.snippet_suggest.proofs.Common.{suggestion_glyph_of, suggestion_role_of, changed_within, restyled, separator_cell, row_text, is_listed, norm}
+use Rattle.snippet_suggest.proofs.Common.{width_of, list_any-norm, Source, shown_number, shown_number_unlisted, each_fails, Edit, SubstitutionHighlight}
+use Rattle.snippet_suggest.proofs.Common.{DisplaySuggestion, SuggestionLayout, SuggestionStart, Next, Opening, Path, PatchColumns, begin_cells, end_cells}
+use Rattle.snippet_suggest.proofs.Common.{gap_cells, line_cells, offered_cells, put, removed_cells, sign_alone, sign_among, sign_of, stretch_cell}
+use Rattle.snippet_suggest.proofs.Common.{with_stretches, max_column, edit_columns, mark_glyph_of, mark_start, patch_mark_end, with_mark, with_marks, IsBareRow}
+use Rattle.snippet_suggest.proofs.Common.{IsMarkOrSpace, IsSign, begin_glyph, beside_gutter, end_glyph, gap_left, is_stroke, IsEdgeRow, IsLineRow}
+use Rattle.snippet_suggest.proofs.Common.{IsRowOfRemoved, IsUnder, common_steps, rules}
 use Rattle.std.proofs.Common.{chars}
 use Rattle.snippet_style.specs.declared.glyphs.SuggestionGlyph.TheVariants as sign
 use Rattle.snippet_suggest.proofs.BareLemmas.{stroke_blank, stroke_led, stroke_none, stroke_put}
 use Rattle.snippet_suggest.proofs.GlyphLemmas.{glyph_plain, glyph_short, glyph_unlisted, is_sign, sign_first, sign_second}
 use Rattle.snippet_suggest.proofs.LeftOver.{IsBeforeSign, IsLeftOver, number_before, number_left}
 use Rattle.snippet_suggest.proofs.PutLemmas.{glyph_some, placeholder_some}
-use Rattle.snippet_suggest.proofs.PutRows.{put_after, put_alone, put_before, put_begun, put_cell, put_covers, put_ends, put_free, put_grows}
-use Rattle.snippet_suggest.proofs.PutRows.{put_inside, put_long}
-use Rattle.snippet_suggest.proofs.PutRows.{put_stands, put_take, put_within}
+use Rattle.snippet_suggest.proofs.PutRows.{put_after, put_alone, put_before, put_begun, put_cell, put_covers, put_ends, put_free, put_grows, put_inside}
+use Rattle.snippet_suggest.proofs.PutRows.{put_long, put_stands, put_take, put_within}
 use Rattle.snippet_suggest.proofs.RepaintLemmas.{changed_same, same_line, same_removed, without_role}
 
 -- ---- a line that is offered
@@ -140,9 +140,7 @@ removed_shows layout role number line under small bare =
       space = ap (λ (cell : Cell). cell.ch) (put_before role text (g + 3) (g + 2) signed (omega arith))
           ∙ put_inside Removal removed (g + 1) (g + 2) 1 numbered (omega arith) (omega arith);
       begins = put_stands role text (g + 3) signed;
-      after = λ c right. subst Left (sym (put_after role text (g + 3) c signed right
-          ∙ put_after Removal removed (g + 1) c numbered (omega (arith, right))))
-          (left_over layout number c under small (omega (arith, right)) (bare.marks c (omega (arith, right))));
+      after = grind (arith, common_steps, Left, put_after, text, g, signed, removed, numbered, left_over, bare.marks);
       free = put_free role text (g + 3) signed (put_free Removal removed (g + 1) numbered (put_free LineNumber digits 0 under bare.free
           (shown_number_unlisted layout.numbers g number small)) (each_fails is_listed removed refl)) (norm_without_listed line);
     }

@@ -1,10 +1,10 @@
 -- Rows that are drawn one below the other, as values.
-use Rattle.snippet_suggest.proofs.Common.{◌≡◌, ℕ, ◌+◌, ◌-◌, ◌<◌, ◌≤◌, Bool, true, false, List, [], ◌∷◌, ◌++◌, length, map, take, drop, get_or, refl, sym, ap}
-use Rattle.snippet_suggest.proofs.Common.{◌∙◌, ◌||◌, arith, append_assoc, bytes_eq, cond-false, cond-true, or-true, Cell, NoStyle, Removal, row_at, LineInfo}
-use Rattle.snippet_suggest.proofs.Common.{SuggestionLayout, left_out_cells, offered_cells, on_last, removed_cells, with_stretches, SubstitutionHighlight}
-use Rattle.snippet_suggest.proofs.Common.{Diff, is_left_out, is_blank_text, diff_cells, emptied_cells, gone_of, taken_cells, last_removed, unless_stays}
-use Rattle.snippet_suggest.proofs.Common.{numbered_at, append-nil, drop_all, drop_more, length-map, length-take, map-append, take_all, take_more, capped_sum}
-use Rattle.snippet_suggest.proofs.Common.{common_steps}
+use Rattle.snippet_suggest.proofs.Common.{◌≡◌, ℕ, ◌+◌, ◌-◌, ◌<◌, ◌≤◌, Bool, true, false, List, [], ◌∷◌, ◌++◌, length, map}
+use Rattle.snippet_suggest.proofs.Common.{take, drop, get_or, refl, sym, ap, ◌∙◌, ◌||◌, arith, append_assoc, bytes_eq, cond-false, cond-true, or-true}
+use Rattle.snippet_suggest.proofs.Common.{Cell, NoStyle, Removal, row_at, LineInfo, SuggestionLayout, left_out_cells, offered_cells, on_last, removed_cells}
+use Rattle.snippet_suggest.proofs.Common.{with_stretches, SubstitutionHighlight, Diff, is_left_out, is_blank_text, diff_cells, emptied_cells, gone_of}
+use Rattle.snippet_suggest.proofs.Common.{taken_cells, last_removed, unless_stays, numbered_at, append-nil, drop_all, drop_more, length-map, length-take}
+use Rattle.snippet_suggest.proofs.Common.{map-append, take_all, take_more, capped_sum, common_steps}
 use Rattle.std.proofs.Common.{chars}
 use mir.Val.{bool_byte}
 use Rattle.std.proofs.Math.ListN.{get_or-map}
@@ -167,4 +167,4 @@ pub some_gone : (gutter : ℕ) (line : List ℕ) (stays : Bool) (first : ℕ) (r
     (row : List Cell) (count : ℕ) (d : LineInfo) (ss : List SubstitutionHighlight) → stays ≡ true → count ≡ length infos - bool_byte stays
     → count < length infos → ss ≡ replaced ((get_or infos count d).line_index - first)
     → with_stretches Removal gutter (chars line) ss row ≡ with_stretches Removal gutter (chars line) (gone_of stays first replaced infos) row
-some_gone gutter line stays first replaced infos row count d ss keeps counts within is = grind (arith, common_steps, bool_byte)
+some_gone gutter line stays first replaced infos row count d ss keeps counts within is = grind (arith, common_steps)

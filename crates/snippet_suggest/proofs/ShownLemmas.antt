@@ -18,13 +18,7 @@ run_step done new all line to below pushed is =
 pub touched_step : (touched : ℕ → Bool) (done mid new all : List SuggestionLine) (after line count : ℕ) → line < count → touched line ≡ true
     → mid ≡ done ++ shown_run after line → new ≡ mid ++ Line line ∷ [] → done ++ shown_from touched after line (count - line) ≡ all
     → new ++ shown_from touched (line + 1) (line + 1) (count - (line + 1)) ≡ all
-touched_step touched done mid new all after line count below holds run pushed is =
-    let left : count - line ≡ suc (count - (line + 1)) = omega arith in
-    let rest = shown_from touched (line + 1) (line + 1) (count - (line + 1)) in
-    ap (λ xs. xs ++ rest) pushed ∙ append_assoc mid (Line line ∷ []) rest ∙ ap (λ xs. xs ++ (Line line ∷ rest)) run
-    ∙ append_assoc done (shown_run after line) (Line line ∷ rest)
-    ∙ sym (ap (λ b. done ++ (if b then shown_run after line ++ (Line line ∷ rest) else shown_from touched after (line + 1) (count - (line + 1))))
-    holds) ∙ sym (ap (λ n. done ++ shown_from touched after line n) left) ∙ is
+touched_step touched done mid new all after line count below holds run pushed is = grind (arith, append_assoc)
 
 -- a line that isn't touched adds no shown line
 pub untouched_step : (touched : ℕ → Bool) (done all : List SuggestionLine) (after line count : ℕ) → line < count → touched line ≡ false

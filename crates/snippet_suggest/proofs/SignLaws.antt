@@ -1,8 +1,8 @@
 -- The sign beside a line that is offered stands in its row, whatever else is written there.
-use Rattle.snippet_suggest.proofs.Common.{◌≡◌, ℕ, ◌+◌, ◌≤◌, List, [], length, map, ◌∙◌, arith, AllZip, slice_index_or, Snippet, Patch, Addition, Cell, SPACE}
-use Rattle.snippet_suggest.proofs.Common.{shown_number, SubstitutionHighlight, SuggestionGlyph, DisplaySuggestion, SuggestionLayout, SuggestionStart}
-use Rattle.snippet_suggest.proofs.Common.{line_cells, offered_cells, sign_of, with_stretches, suggestion_glyph_of, SuggestionRow, rows_of_suggestion}
-use Rattle.snippet_suggest.proofs.Common.{body_cells, suggested_cells, HasSign, common_steps}
+use Rattle.snippet_suggest.proofs.Common.{◌≡◌, ℕ, ◌+◌, ◌≤◌, List, length, map, ◌∙◌, arith, AllZip, slice_index_or, Snippet, Patch}
+use Rattle.snippet_suggest.proofs.Common.{Addition, Cell, SPACE, shown_number, SubstitutionHighlight, SuggestionGlyph, DisplaySuggestion, SuggestionLayout}
+use Rattle.snippet_suggest.proofs.Common.{SuggestionStart, line_cells, offered_cells, sign_of, with_stretches, suggestion_glyph_of, SuggestionRow}
+use Rattle.snippet_suggest.proofs.Common.{rows_of_suggestion, body_cells, suggested_cells, HasSign, common_steps}
 use Rattle.std.proofs.Common.{chars}
 use Rattle.snippet_suggest.proofs.BodyLaws.{body_all}
 use Rattle.snippet_suggest.proofs.RepaintLemmas.{same_ch, without_role}

@@ -1,9 +1,9 @@
 -- Spans of a source that are taken.
-use Rattle.snippet_suggest.proofs.Common.{◌≡◌, ℕ, ◌+◌, ◌-◌, ◌≤◌, min, ◌&&◌, ltb, leb, Option, Some, None, List, [], ◌∷◌, All, drop, get_or, length, map, inl}
-use Rattle.snippet_suggest.proofs.Common.{refl, sym, arith, subst, slice_range, IsCharBoundary, IsUtf8, and_parts, cond_both, leb-true, get_or-drop}
-use Rattle.snippet_suggest.proofs.Common.{get_or-take, length-drop, length-take-le, All-head, All-map, All-tail, IsCharBoundary-end, IsCharBoundary-start}
-use Rattle.snippet_suggest.proofs.Common.{IsSpan, IsSpanBorder, All-put_in, All-unmapped, TrimmedPatch, Edit, in_order, precedes, shrunk, trimmed_edit}
-use Rattle.snippet_suggest.proofs.Common.{trimmed_edits, edit_bounds, original_bounds_of, trimmed_edit_of, sandwich, sandwich-sandwiched, common_steps}
+use Rattle.snippet_suggest.proofs.Common.{◌≡◌, ℕ, ◌+◌, ◌-◌, ◌≤◌, min, ◌&&◌, ltb, leb, Option, Some, None, List, [], ◌∷◌, All}
+use Rattle.snippet_suggest.proofs.Common.{drop, get_or, length, map, inl, refl, sym, arith, subst, slice_range, IsCharBoundary, IsUtf8, and_parts, cond_both}
+use Rattle.snippet_suggest.proofs.Common.{leb-true, get_or-drop, get_or-take, length-drop, length-take-le, All-head, All-map, All-tail, IsCharBoundary-end}
+use Rattle.snippet_suggest.proofs.Common.{IsCharBoundary-start, IsSpan, IsSpanBorder, All-put_in, All-unmapped, TrimmedPatch, Edit, in_order, precedes, shrunk}
+use Rattle.snippet_suggest.proofs.Common.{trimmed_edit, trimmed_edits, edit_bounds, original_bounds_of, trimmed_edit_of, sandwich, sandwich-sandwiched}
 
 -- that of the whole source
 pub whole_span : (source text : List ℕ) → IsUtf8 text → text ≡ source → IsSpan source 0 (length text)

@@ -1,9 +1,9 @@
 -- The stretches of a line that take a role, one after another, and the walk that counts the tabs before them.
-use Rattle.snippet_suggest.proofs.Common.{◌≡◌, ℕ, ◌+◌, ◌-◌, ◌^◌, ◌<◌, ◌≤◌, eqb, true, List, [], ◌∷◌, ◌++◌, length, min, take, drop, get_or, refl, sym, ap}
-use Rattle.snippet_suggest.proofs.Common.{◌∙◌, arith, subst, count_by, count_by_more_no, count_by_more_yes, IsUtf8-past_char, chars-nil, chars_past_char}
-use Rattle.snippet_suggest.proofs.Common.{IsUtf8, chars_rest, encode_utf8, ElementStyle, Cell, changed_within, restyled, cells_restyled}
-use Rattle.snippet_suggest.proofs.Common.{SubstitutionHighlight, capped, TabCursor, stretch_cell, with_stretches, IsCursor, length-drop, places, same_lists}
-use Rattle.snippet_suggest.proofs.Common.{take_all, take_more, set, get_or_at, length-append, changed_within_one, common_steps}
+use Rattle.snippet_suggest.proofs.Common.{◌≡◌, ℕ, ◌+◌, ◌-◌, ◌^◌, ◌<◌, ◌≤◌, eqb, true, List, [], ◌∷◌, ◌++◌, length, min}
+use Rattle.snippet_suggest.proofs.Common.{take, drop, get_or, refl, sym, ap, ◌∙◌, arith, subst, count_by, count_by_more_no, count_by_more_yes}
+use Rattle.snippet_suggest.proofs.Common.{IsUtf8-past_char, chars-nil, chars_past_char, IsUtf8, chars_rest, encode_utf8, ElementStyle, Cell, changed_within}
+use Rattle.snippet_suggest.proofs.Common.{restyled, cells_restyled, SubstitutionHighlight, capped, TabCursor, stretch_cell, with_stretches, IsCursor}
+use Rattle.snippet_suggest.proofs.Common.{length-drop, places, same_lists, take_more, set, get_or_at, length-append, changed_within_one, common_steps}
 use Rattle.std.proofs.Common.{chars}
 use mir.Val.{bool_byte}
 
@@ -26,7 +26,7 @@ changed_last f above row =
 
 -- it begins before the line
 pub cursor_begins : (t : TabCursor) → IsUtf8 t.line.now → chars_rest t.rest ≡ t.line.now → t.passed ≡ 0 → t.tabs ≡ 0 → IsCursor t
-cursor_begins t text rest none zeros = grind (arith, common_steps, count_by)
+cursor_begins t text rest none zeros = grind (arith, common_steps)
 
 -- the character that it comes to
 first_left : (cs left : List ℕ) (n c : ℕ) → c ∷ left ≡ drop n cs → (n < length cs) × (get_or cs n 0 ≡ c) × (left ≡ drop (n + 1) cs)
@@ -41,7 +41,7 @@ first_left cs left n c is =
 -- one tab more, or none
 one_more : (cs : List ℕ) (n c tabs more now : ℕ) → n < length cs → get_or cs n 0 ≡ c → tabs ≡ capped (count_by (λ d. eqb d 9) (take n cs))
     → more ≡ bool_byte (eqb c 9) → now ≡ min (tabs + more) (2 ^ 64 - 1) → now ≡ capped (count_by (λ d. eqb d 9) (take (n + 1) cs))
-one_more cs n c tabs more now within at counted adds sums = grind (arith, common_steps, bool_byte, count_by, count_by_more_yes, count_by_more_no)
+one_more cs n c tabs more now within at counted adds sums = grind (arith, common_steps, count_by_more_yes, count_by_more_no)
 
 -- a cursor that passes one more character counts it where it is a tab
 pub cursor_next : (t now : TabCursor) (c more : ℕ) → IsCursor t → now.line.now ≡ t.line.now → chars_rest t.rest ≡ encode_utf8 c ++ chars_rest now.rest
@@ -56,18 +56,17 @@ cursor_next t now c more at line rest passed adds sums =
       left_text = IsUtf8-past_char (chars_rest t.rest) (chars_rest now.rest) c at.left_text rest;
       within = omega (arith, is.0, passed, ap length same);
       left = is.2 ∙ ap (λ n. drop n cs) (sym passed) ∙ ap (λ t. drop now.passed t) (sym same);
-      counted = one_more cs t.passed c t.tabs more now.tabs is.0 is.1 at.counted adds sums
-          ∙ ap (λ n. capped (count_by (λ c. eqb c 9) (take n cs))) (sym passed) ∙ ap (λ t. capped (count_by (λ c. eqb c 9) (take now.passed t))) (sym same);
+      counted = grind (arith, common_steps, cs, is, same, t.passed, t.tabs, now.tabs, is.0, is.1, at.counted, now.passed);
     }
 
 -- what it counted before a character that it has come to, or at the line's end
 pub cursor_there : (t : TabCursor) (k : ℕ) → IsCursor t → t.passed ≡ k → t.tabs ≡ capped (count_by (λ c. eqb c 9) (take k (chars t.line.now)))
-cursor_there t k at there = grind (arith, count_by)
+cursor_there t k at there = grind arith
 
 -- a cursor at the end has counted all tabs
 pub cursor_ended : (t : TabCursor) (k : ℕ) → IsCursor t → t.passed ≤ k → length (chars_rest t.rest) ≡ 0
     → t.tabs ≡ capped (count_by (λ c. eqb c 9) (take k (chars t.line.now)))
-cursor_ended t k at few ended = grind (arith, common_steps, chars-nil, length-drop, take_all, count_by)
+cursor_ended t k at few ended = grind (arith, common_steps, chars-nil, length-drop)
 
 -- ---- the stretches
 

@@ -1,15 +1,15 @@
 -- What is drawn of a suggestion is its value.
-use Rattle.snippet_suggest.proofs.Common.{◌≡◌, ◌≢◌, ℕ, zero, suc, ◌+◌, ◌-◌, ◌^◌, ◌<◌, ◌≤◌, Bool, true, false, List, [], ◌∷◌, ◌++◌, length, map, get_or, refl}
-use Rattle.snippet_suggest.proofs.Common.{sym, ap, ◌∙◌, ◌&&◌, arith, append_assoc, take, inl, inr, if◌then◌else◌, append-nil, length-map, map-append}
-use Rattle.snippet_suggest.proofs.Common.{take-map, get_or-map-range_with_len, length-range_with_len, cow_str_bytes, cases_Bool, cond-false, cond-true}
-use Rattle.snippet_suggest.proofs.Common.{range_with_len, bytes_eq, Snippet, Patch, LineInfo, Cell, NoStyle, Removal, last_line_reached}
-use Rattle.snippet_suggest.proofs.Common.{SubstitutionHighlight, DisplaySuggestion, Diff, Underline, SuggestionLayout, SuggestionStart, SuggestionLine, Gap}
-use Rattle.snippet_suggest.proofs.Common.{Line, begin_cells, end_cells, left_out_cells, offered_cells, on_last, removed_cells, with_stretches, edits_of}
-use Rattle.snippet_suggest.proofs.Common.{first_given, given_lines, given_ranges, is_left_out, last_reached, shown_kind, trimmed_of, numbered_source, Begins}
-use Rattle.snippet_suggest.proofs.Common.{Empty, Ends, Offers, Removes, SuggestionRow, rows_of_suggestion, is_touched, body_cells, suggested_cells}
-use Rattle.snippet_suggest.proofs.Common.{cells_over, new_on, suggested_stretches, rows_shared, suggestion_cells, suggestion_row, diff_cells, emptied_cells}
-use Rattle.snippet_suggest.proofs.Common.{gone_of, taken_cells, last_removed, unless_stays, counted_from, numbered_at, removed_from, with_marks, capped_sum}
-use Rattle.snippet_suggest.proofs.Common.{and-false, common_steps, rules}
+use Rattle.snippet_suggest.proofs.Common.{◌≡◌, ◌≢◌, ℕ, zero, suc, ◌+◌, ◌-◌, ◌^◌, ◌<◌, ◌≤◌, Bool, true, false, List, []}
+use Rattle.snippet_suggest.proofs.Common.{◌∷◌, ◌++◌, length, map, get_or, refl, sym, ap, ◌∙◌, ◌&&◌, arith, append_assoc, take, inl, inr}
+use Rattle.snippet_suggest.proofs.Common.{if◌then◌else◌, append-nil, length-map, map-append, take-map, get_or-map-range_with_len, length-range_with_len}
+use Rattle.snippet_suggest.proofs.Common.{cow_str_bytes, cases_Bool, cond-false, cond-true, range_with_len, bytes_eq, Snippet, Patch, LineInfo, Cell, NoStyle}
+use Rattle.snippet_suggest.proofs.Common.{Removal, last_line_reached, SubstitutionHighlight, DisplaySuggestion, Diff, Underline, SuggestionLayout}
+use Rattle.snippet_suggest.proofs.Common.{SuggestionStart, SuggestionLine, Gap, Line, begin_cells, end_cells, left_out_cells, offered_cells, on_last}
+use Rattle.snippet_suggest.proofs.Common.{removed_cells, with_stretches, edits_of, first_given, given_lines, given_ranges, is_left_out, last_reached}
+use Rattle.snippet_suggest.proofs.Common.{shown_kind, trimmed_of, numbered_source, Begins, Empty, Ends, Offers, Removes, SuggestionRow, rows_of_suggestion}
+use Rattle.snippet_suggest.proofs.Common.{is_touched, body_cells, suggested_cells, cells_over, new_on, suggested_stretches, rows_shared, suggestion_cells}
+use Rattle.snippet_suggest.proofs.Common.{suggestion_row, diff_cells, emptied_cells, gone_of, taken_cells, last_removed, unless_stays, counted_from}
+use Rattle.snippet_suggest.proofs.Common.{numbered_at, removed_from, with_marks, capped_sum, and-false, common_steps, rules}
 use Rattle.std.proofs.Common.{chars}
 use Rattle.std.proofs.Math.ListN.{get_or-map}
 use Rattle.snippet_suggest.proofs.ByKind.{row_of_shown}
@@ -243,7 +243,7 @@ module _ (layout : SuggestionLayout) (s : Snippet Patch) (line : List ℕ) (f : 
       → on_last (left_out_cells layout.base.gutter line (gone_of stays first replaced infos) (new_on s 0))
       (begin_cells layout start under ∷ taken_cells layout first replaced 0 (unless_stays stays infos)) ≡ body_cells layout start s under
   unfolding body_cells
-  body_left start under leaves rows = grind (arith, common_steps, left, cond-true, stays, append-nil, begins_is, taken_are, gone_are)
+  body_left start under leaves rows = grind (arith, common_steps, cond-true, append-nil, begins_is, taken_are, gone_are)
 
   body_offered : (start : SuggestionStart) (under : List Cell) → left ≡ false
       → rows_of_suggestion start s ≡ Begins start ∷ changed_rows true left removed
@@ -272,8 +272,7 @@ module _ (layout : SuggestionLayout) (s : Snippet Patch) (line : List ℕ) (f : 
       ap (λ ss. diff_cells layout first infos replaced line ss (begin_cells layout start under)) new ∙ elim (cases_Bool left) [
         | inl leaves ↦ sym (diff_left layout first infos replaced line (new_on s 0) (begin_cells layout start under) stays stays_is (left_is ∙ leaves))
             ∙ body_left start under leaves rows
-        | inr shown ↦ sym (diff_shown layout first infos replaced line (new_on s 0) (begin_cells layout start under) stays stays_is (left_is ∙ shown))
-            ∙ body_offered start under shown rows
+        | inr shown ↦ grind (arith, common_steps, diff_shown, stays_is, left_is, body_offered)
       ]
 
 -- ---- the last row

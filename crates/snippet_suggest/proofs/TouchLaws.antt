@@ -1,12 +1,12 @@
 -- Each line that a patch touches is offered, unless it is blank or the suggestion's text is as it was.
-use Rattle.snippet_suggest.proofs.Common.{◌≡◌, ◌≢◌, ℕ, ◌+◌, ◌-◌, ◌<◌, ◌≤◌, ◌⊎◌, inl, inr, Bool, true, false, not, nat_le, ◌&&◌, List, [], ◌∷◌, Contains}
-use Rattle.snippet_suggest.proofs.Common.{length, map, get_or, refl, sym, ap, subst, ◌∙◌, ⊎_elim, arith, length-map, get_or-map, list_any_at, true≢false}
-use Rattle.snippet_suggest.proofs.Common.{and_from, or_right, le-leb, cases_Bool, chars-nil, cow_str_bytes, Snippet, Patch, lines_of, source_lines, text_at}
-use Rattle.snippet_suggest.proofs.Common.{LineRange, Edit, patched, without_final_line_feeds, IsTouched, line_ranges, ranges_from, spliced_text, texts_of}
-use Rattle.snippet_suggest.proofs.Common.{AreDisjoint, ranges_from-written_ranges, IsShownPart, IsHeld, shown-touched, touched-held, DisplaySuggestion, Diff}
-use Rattle.snippet_suggest.proofs.Common.{IsOfferable, edits_of, first_given, given_lines, given_ranges, given_text, is_left_out, last_reached, shown_kind}
-use Rattle.snippet_suggest.proofs.Common.{trimmed_of, is_blank_text, kind_of, is_touched, shown_from, IsAsItWas, numbers_given, numbers_of, offered_lines}
-use Rattle.snippet_suggest.proofs.Common.{numbers_shown, common_steps, rules}
+use Rattle.snippet_suggest.proofs.Common.{◌≡◌, ◌≢◌, ℕ, ◌+◌, ◌-◌, ◌<◌, ◌≤◌, ◌⊎◌, inl, inr, Bool, true, false, not, nat_le}
+use Rattle.snippet_suggest.proofs.Common.{◌&&◌, List, [], ◌∷◌, Contains, length, map, get_or, refl, sym, ap, subst, ◌∙◌, ⊎_elim, arith}
+use Rattle.snippet_suggest.proofs.Common.{length-map, get_or-map, list_any_at, true≢false, and_from, or_right, le-leb, cases_Bool, chars-nil, cow_str_bytes}
+use Rattle.snippet_suggest.proofs.Common.{Snippet, Patch, lines_of, source_lines, text_at, LineRange, Edit, patched, without_final_line_feeds, IsTouched}
+use Rattle.snippet_suggest.proofs.Common.{line_ranges, ranges_from, spliced_text, texts_of, AreDisjoint, ranges_from-written_ranges, IsShownPart, IsHeld}
+use Rattle.snippet_suggest.proofs.Common.{shown-touched, touched-held, DisplaySuggestion, Diff, IsOfferable, edits_of, first_given, given_lines, given_ranges}
+use Rattle.snippet_suggest.proofs.Common.{given_text, is_left_out, last_reached, shown_kind, trimmed_of, is_blank_text, kind_of, is_touched, shown_from}
+use Rattle.snippet_suggest.proofs.Common.{IsAsItWas, numbers_given, numbers_of, offered_lines, numbers_shown, rules}
 use Rattle.snippet_lines.specs.Lines.{Line}
 use Rattle.snippet_suggest.proofs.ByKind.{counted_folded}
 use Rattle.snippet_suggest.proofs.RisingLemmas.{touched_shown}
@@ -37,7 +37,7 @@ diff-one source ts text is = one_given source ts text (ap (λ k. counted_folded 
 
 -- a line that isn't blank isn't empty
 not-empty : (text : List ℕ) → is_blank_text text ≡ false → text ≢ []
-not-empty text filled none = grind (arith, chars-nil, true≢false)
+not-empty text filled none = grind (arith, chars-nil)
 
 -- a list of one element
 only : {X : Type 0} (xs : List X) (d : X) → 0 < length xs → length xs ≤ 1 → xs ≡ get_or xs 0 d ∷ []

@@ -1,4 +1,5 @@
-use Rattle.snippet_suggest.proofs.Common.{◌∙◌, ◌++◌, ℕ, [], List, ap, arith, sym, append-nil, take_all, LineInfo, line_stretches, taken_cells}
+use Rattle.std.proofs.lemmas.Grind.{common_steps}
+use Rattle.snippet_suggest.proofs.Common.{ℕ, [], arith, sym, append-nil, line_stretches}
 use Rattle.snippet_suggest.proofs.RowsDrawn.{taken_next, taken_none}
 use Rattle.snippet_suggest.proofs.diff.draw_diff_removed.Goals as goal
 
@@ -22,9 +23,4 @@ loop-i-preserved c =
     }
 
 pub returns : goal.returns
-returns c =
-    let a = c.args in
-    record {
-      cells = c.loop-i.invariant.cells ∙ ap (λ (infos : List LineInfo). a.buffer.now
-          ++ taken_cells a.layout.now a.first (line_stretches a.replaced.now) 0 infos) (take_all c.loop-i.i a.removed.now (omega arith));
-    }
+returns c = grind (arith, common_steps, c.args, c.loop-i.invariant.cells, c.loop-i.i)

@@ -30,9 +30,4 @@ returns-in-Next c =
     }
 
 pub returns-in-Path : goal.returns-in-Path
-returns-in-Path c =
-    record {
-      cells = λ above tail is count.
-          begin_path c.args.layout.now above tail c.args.buffer.now is (count ∙ ap rows_shared c.in-Path.is)
-          ∙ ap (λ at. above ++ begin_cells c.args.layout.now at (row_at tail 0) ∷ []) (sym c.in-Path.is);
-    }
+returns-in-Path c = grind (arith, begin_path, c.args.layout.now, c.args.buffer.now, c.in-Path.is)

@@ -1,5 +1,6 @@
-use Rattle.snippet_suggest.proofs.Common.{◌<◌, ℕ, List, [], length, map, sym, ap, ◌∙◌, arith, get_or-map, length-map, list_any_at, TrimmedPatch}
-use Rattle.snippet_suggest.proofs.Common.{Edit, trimmed_edit_of, takes_away}
+use Rattle.std.proofs.lemmas.Grind.{common_steps}
+use Rattle.snippet_suggest.proofs.Common.{◌<◌, ℕ, List, length, map, sym, ap, ◌∙◌, arith, get_or-map, length-map, list_any_at, TrimmedPatch, Edit}
+use Rattle.snippet_suggest.proofs.Common.{trimmed_edit_of, takes_away}
 use Rattle.snippet_suggest.proofs.kind.takes_away.Goals as goal
 
 pub returns-then-deletes_or_destroys : goal.returns-then-deletes_or_destroys
@@ -10,8 +11,7 @@ returns-then-deletes_or_destroys c =
     let none : TrimmedPatch = record {
       original_span = record { start = 0; end = 0 };
       span = record { start = 0; end = 0 };
-      replacement = record
-          { ref_ptr = (0, 0); now = [] };
+      replacement = grind (arith, common_steps);
     } in
     let e : Edit = trimmed_edit_of none in
     let within : i < length patches = c.loop-patch-test.true in

@@ -3,12 +3,7 @@ use Rattle.snippet_suggest.proofs.MarksDrawn.{marks_begun, marks_done, marks_nex
 use Rattle.snippet_suggest.proofs.marks.draw_mark.Goals as goal
 
 pub loop-column-init : goal.loop-column-init
-loop-column-init c =
-    record {
-      within = omega arith;
-      cells = λ above last here is. marks_begun c.args.mark (c.args.layout.now.base.gutter + 3 + c.args.start)
-          (c.args.start - c.args.start) above last c.args.buffer.now (omega arith) is;
-    }
+loop-column-init c = grind (arith, marks_begun, c.args.mark, c.args.layout.now.base.gutter, c.args.start, c.args.buffer.now)
 
 pub loop-column-preserved : goal.loop-column-preserved
 loop-column-preserved c =

@@ -1,15 +1,13 @@
-use Rattle.snippet_suggest.proofs.Common.{◌≡◌, ◌∙◌, ◌+◌, ◌<◌, ℕ, [], ◌∷◌, ◌++◌, List, ap, drop, get_or, length, map, refl}
-use Rattle.snippet_suggest.proofs.Common.{subst, sym, take, TrimmedPatch, Edit, trimmed_edit_of, PatchColumns, edit_columns, patch_mark_end, mark_start}
-use Rattle.snippet_suggest.proofs.Common.{with_marks, AreMoves, drop_all, drop_more, map-append, take_more}
+use Rattle.std.proofs.lemmas.Grind.{common_steps}
+use Rattle.std.proofs.Common.{arith}
+use Rattle.snippet_suggest.proofs.Common.{◌≡◌, ◌∙◌, ◌+◌, ◌<◌, ℕ, [], ◌∷◌, ◌++◌, List, ap, drop, get_or, length, map, take}
+use Rattle.snippet_suggest.proofs.Common.{TrimmedPatch, Edit, trimmed_edit_of, PatchColumns, edit_columns, patch_mark_end, mark_start, with_marks, drop_all}
+use Rattle.snippet_suggest.proofs.Common.{drop_more, map-append, take_more}
 use Rattle.snippet_suggest.proofs.MarksDrawn.{marked_done, marked_next}
 use Rattle.snippet_suggest.proofs.marks.draw_marks.Goals as goal
 
 pub loop-patch-init : goal.loop-patch-init
-loop-patch-init c =
-    record {
-      of = c.none-moves.ensures.of;
-      cells = λ above last here is. record { row = last; is = is; whole = refl };
-    }
+loop-patch-init c = grind (arith, c.none-moves.ensures.of)
 
 pub loop-patch-preserved : goal.loop-patch-preserved
 loop-patch-preserved c =
@@ -22,8 +20,7 @@ loop-patch-preserved c =
     let d : TrimmedPatch = record {
       original_span = record { start = 0; end = 0 };
       span = record { start = 0; end = 0 };
-      replacement = record
-          { ref_ptr = (0, 0); now = [] };
+      replacement = grind (arith, common_steps);
     } in
     let f : TrimmedPatch → PatchColumns = λ p. edit_columns m (trimmed_edit_of p) in
     let e : Edit = trimmed_edit_of (get_or ps i d) in
@@ -34,8 +31,7 @@ loop-patch-preserved c =
     let shift = c.before-in-loop-patch.ensures.value earlier inv.of in
     let bounds = c.marked_columns-start.ensures.value earlier shift in
     record {
-      of = subst (λ (cs : List PatchColumns). AreMoves cs c.push.new.self) (sym (more ∙ ap (λ (x : PatchColumns). earlier ++ x ∷ []) (sym columns)))
-          (c.in_ok-push.ensures.of earlier inv.of);
+      of = grind (arith, common_steps, more, earlier, columns, inv, c.push.new.self, c.in_ok-push.ensures.of, inv.of);
       cells = λ above last here is.
           let so_far = inv.cells above last here is in
           marked_next a.layout.now m earlier (map f (take (i + 1) ps)) e (map trimmed_edit_of (drop i ps)) (map trimmed_edit_of (drop (i + 1) ps))

@@ -1,6 +1,7 @@
-use Rattle.snippet_suggest.proofs.Common.{◌≡◌, ◌∙◌, ◌+◌, ◌-◌, ℕ, List, ap, false, length, sym, true, cond-false, cond-true, trim, capped}
-use Rattle.snippet_suggest.proofs.Common.{is_blank_text, inner_width, lead_of, left_of, patch_mark_end, mark_start, text_width, shift_of, Shift}
-use Rattle.std.specs.Str.{trim_start}
+use Rattle.std.proofs.Common.{arith}
+use Rattle.std.proofs.lemmas.Grind.{common_steps}
+use Rattle.snippet_suggest.proofs.Common.{◌≡◌, ◌∙◌, ◌+◌, ◌-◌, ℕ, List, ap, cond-false, cond-true, capped, inner_width, lead_of, left_of}
+use Rattle.snippet_suggest.proofs.Common.{patch_mark_end, mark_start, shift_of, Shift}
 use Rattle.snippet_suggest.proofs.marks.marked_columns.Goals as goal
 use Rattle.snippet_suggest.proofs.marks.marked_columns.Goals.{then-is_blank, else-is_blank}
 
@@ -10,17 +11,8 @@ returns c =
     let cols = c.args.columns in
     let Pair : ℕ → ℕ → ℕ × ℕ = λ m n. (m, n) in
     let parts : ◌≡◌ {A = ℕ × ℕ} c.if-is_blank.lead (lead_of text, inner_width cols text) = elim c.if-is_blank.branch [
-      | then-is_blank w ↦
-          let blank : is_blank_text text ≡ true = sym c.is_blank.ensures.value ∙ w.if-is_blank.true in
-          w.lead-is ∙ ap (λ m. Pair m cols.width) (sym (cond-true (is_blank_text text) 0 (length text - length (trim_start text)) blank))
-          ∙ ap (Pair (lead_of text)) (sym (cond-true (is_blank_text text) cols.width (text_width (trim text)) blank))
-      | else-is_blank w ↦
-          let other : is_blank_text text ≡ false = sym c.is_blank.ensures.value ∙ w.if-is_blank.false in
-          let lead : w.saturating_sub-lead.result ≡ lead_of text = w.saturating_sub-lead.ensures ∙ ap (λ t. length text - length t) w.trim_start.ensures.trim
-          ∙ sym (cond-false (is_blank_text text) 0 (length text - length (trim_start text)) other) in
-          let width : w.text_width.result ≡ inner_width cols text = w.text_width.ensures.value ∙ ap text_width w.trim.ensures.trim
-          ∙ sym (cond-false (is_blank_text text) cols.width (text_width (trim text)) other) in
-          w.lead-is ∙ ap (λ m. Pair m w.text_width.result) lead ∙ ap (Pair (lead_of text)) width
+      | then-is_blank w ↦ grind (arith, common_steps, text, Pair, cols, cond-true, c.is_blank.ensures.value, cols.width)
+      | else-is_blank w ↦ grind (arith, common_steps, text, cond-false, cols, Pair, c.is_blank.ensures.value, cols.width)
     ] in
     let from : c.saturating_add-from.result ≡ capped (cols.start + lead_of text) = c.saturating_add-from.ensures
     ∙ ap (λ (p : ℕ × ℕ). capped (cols.start + p.0)) parts in

@@ -1,5 +1,6 @@
-use Rattle.snippet_suggest.proofs.Common.{◌≡◌, ◌+◌, ◌∙◌, ℕ, Bool, ap, sym, if◌then◌else◌, Source, source_lines, line_of, start-line}
-use Rattle.snippet_suggest.proofs.Common.{first_original}
+use Rattle.std.proofs.Common.{arith}
+use Rattle.std.proofs.lemmas.Grind.{common_steps}
+use Rattle.snippet_suggest.proofs.Common.{◌≡◌, ◌∙◌, ℕ, ap, sym, Source, start-line, first_original}
 use Rattle.snippet_suggest.proofs.PreparedLemmas.{first_original-of}
 use Rattle.snippet_suggest.proofs.prepared.first_number.Goals as goal
 
@@ -10,6 +11,5 @@ returns-in-Some c =
     let located = ap (λ p. p.0.line) c.span_to_locations.ensures.value ∙ start-line s start c.in-Some.patch.now.original_span.end in
     let first : start ≡ first_original c.args.patches.now = first_original-of c.args.patches.now c.in-Some.patch.now (sym c.in-Some.ensures.value) in
     record {
-      value = located ∙ ap (λ b. s.first + line_of (source_lines s.text) b) first
-          ∙ ap (λ (b : Bool). s.first + (if b then line_of (source_lines s.text) (first_original c.args.patches.now) else 0)) (sym c.if-fold.true);
+      value = grind (arith, common_steps, located, s, first, s.first, s.text, c.args.patches.now, c.if-fold.true);
     }

@@ -1,6 +1,7 @@
-use Rattle.snippet_suggest.proofs.Common.{◌≡◌, ◌∙◌, ◌==◌, ◌++◌, ◌∷◌, ℕ, [], List, ap, count_by, get_or, subst, sym, take, take_all}
-use Rattle.snippet_suggest.proofs.Common.{SubstitutionHighlight, capped, TabCursor, stretch_cell, with_stretches, IsCursor}
-use Rattle.std.proofs.Common.{chars}
+use Rattle.std.proofs.lemmas.Grind.{common_steps}
+use Rattle.std.proofs.Common.{arith, chars}
+use Rattle.snippet_suggest.proofs.Common.{◌≡◌, ◌∙◌, ◌==◌, ℕ, List, ap, count_by, get_or, subst, sym, take, SubstitutionHighlight, capped}
+use Rattle.snippet_suggest.proofs.Common.{TabCursor, stretch_cell, IsCursor}
 use Rattle.snippet_suggest.proofs.StretchRows.{painted_begun, painted_next, passed_next}
 use Rattle.snippet_suggest.proofs.roles.paint_stretches.Goals as goal
 use Rattle.snippet_suggest.proofs.roles.paint_stretches.Goals.{then-stretch+in_ok-set_style_range, else-stretch}
@@ -43,17 +44,9 @@ loop-stretch-preserved c =
           record {
             at = subst IsCursor (sym w.tabs-is) inv.at;
             line = ap (λ (t : TabCursor). t.line.now) w.tabs-is ∙ inv.line;
-            cells = λ above last here is. w.buffer-is ∙ passed_next a.role g cs ss i d above last c.loop-stretch.buffer c.loop-stretch-test.true
-                (inv.cells above last here is) w.if-stretch.false;
+            cells = grind (arith, common_steps, passed_next, a, g, cs, ss, i, d, inv, a.role, c.loop-stretch.buffer, c.loop-stretch-test.true, inv.cells);
           }
     ]
 
 pub returns : goal.returns
-returns c =
-    record {
-      cells = λ above last here is.
-          let a = c.args in
-          c.loop-stretch.invariant.cells above last here is ∙ ap (λ (ss : List SubstitutionHighlight). above
-          ++ with_stretches a.role a.layout.now.base.gutter (chars a.line.now) ss last ∷ [])
-          (take_all c.loop-stretch.stretch-index a.stretches.now c.loop-stretch-test.false);
-    }
+returns c = grind (arith, common_steps, c.args, c.loop-stretch.invariant.cells, c.loop-stretch.stretch-index, c.loop-stretch-test.false)

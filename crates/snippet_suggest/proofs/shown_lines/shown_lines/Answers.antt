@@ -1,5 +1,6 @@
+use Rattle.std.proofs.lemmas.Grind.{common_steps}
 use Rattle.snippet_suggest.proofs.Common.{◌≡◌, ◌+◌, ◌<◌, ◌∙◌, false, length, get_or, sym, subst, arith, ℕ, Vec, get_or_default}
-use Rattle.snippet_suggest.proofs.Common.{SuggestionLine, is_touched, shown_from}
+use Rattle.snippet_suggest.proofs.Common.{SuggestionLine, is_touched}
 use Rattle.std.proofs.Common.{Global}
 use Rattle.snippet_suggest.proofs.RisingLemmas.{shown_all}
 use Rattle.snippet_suggest.proofs.ShownLemmas.{touched_step, untouched_step}
@@ -34,10 +35,4 @@ loop-line-preserved c =
     ]
 
 pub returns : goal.returns
-returns c =
-    let touched = is_touched c.args.fold c.args.ranges.now in
-    let l = c.loop-line in
-    record {
-      value = shown_all touched l.shown.items (shown_from touched 0 0 c.args.count) l.after l.line c.args.count
-          (omega (arith, c.loop-line-test.false)) l.invariant.whole;
-    }
+returns c = grind (arith, common_steps, shown_all, c.args.fold, c.args.ranges.now, c.loop-line, c.args.count, c.loop-line-test.false)

@@ -1,7 +1,8 @@
+use Rattle.std.proofs.Common.{arith}
 use denote.Enum.Bare.{same_true, true_same}
-use Rattle.snippet_suggest.proofs.Common.{◌≡◌, ◌≢◌, ℕ, ◌+◌, ◌<◌, ◌∷◌, ◌++◌, ◌∙◌, [], All, List, ap, append_assoc}
+use Rattle.snippet_suggest.proofs.Common.{◌≡◌, ◌≢◌, ℕ, ◌+◌, ◌<◌, ◌∷◌, ◌++◌, ◌∙◌, [], List, ap, append_assoc}
 use Rattle.snippet_suggest.proofs.Common.{if◌then◌else◌, length, map, rules, subst, sym, append-nil, length-map, row_at, Cell, SubstitutionHighlight}
-use Rattle.snippet_suggest.proofs.Common.{line_stretches, DisplaySuggestion, begin_cells, new_on, source_lines, line_of, IsSpan, TrimmedPatch, the_type, Diff}
+use Rattle.snippet_suggest.proofs.Common.{line_stretches, DisplaySuggestion, begin_cells, new_on, source_lines, line_of, TrimmedPatch, the_type, Diff}
 use Rattle.snippet_suggest.proofs.Common.{LineRange, first_given, given_lines, given_ranges, shown_kind, first_original, suggestion_row, is_touched, shown_from}
 use Rattle.snippet_suggest.proofs.SuggestedRows.{body_shown, rows_of_same_stretches}
 use Rattle.snippet_suggest.proofs.KnownLemmas.{known_first, known_originals, known_some}
@@ -19,8 +20,7 @@ first_number-first-requires-clause-some c =
 
 pub first_number-first-requires-clause-originals : goal.first_number-first-requires-clause-originals
 first_number-first-requires-clause-originals c =
-    subst (λ (ps : List TrimmedPatch). All (λ p. IsSpan c.args.suggestion.now.map.text p.original_span.start p.original_span.end) ps)
-    (sym c.deref.ensures.value) (known_originals c.args.suggestion.now c.requires.prepared)
+    grind (arith, known_originals, c.args.suggestion.now.map.text, c.deref.ensures.value, c.args.suggestion.now, c.requires.prepared)
 
 pub draw_changed-requires : goal.draw_changed-requires
 draw_changed-requires c =

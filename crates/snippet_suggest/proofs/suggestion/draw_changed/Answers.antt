@@ -1,7 +1,7 @@
-use Rattle.snippet_suggest.proofs.Common.{◌≡◌, ℕ, append_assoc, ◌<◌, ◌∷◌, ◌++◌, ◌∙◌, [], All, List, false, ap, length, map, refl}
-use Rattle.snippet_suggest.proofs.Common.{subst, sym, first_start, IsSpan, LineInfo, TrimmedPatch, end_from, Diff, Cell, append-nil, line_stretches, AreApart}
-use Rattle.snippet_suggest.proofs.Common.{trimmed_edit_of, begin_cells, diff_cells, new_on, suggested_stretches, shown_kind, given_ranges, is_left_out}
-use Rattle.snippet_suggest.proofs.Common.{last_reached, is_touched}
+use Rattle.std.proofs.Common.{arith}
+use Rattle.snippet_suggest.proofs.Common.{◌≡◌, ℕ, append_assoc, ◌<◌, ◌∷◌, ◌++◌, ◌∙◌, [], List, false, ap, length, map, refl, subst}
+use Rattle.snippet_suggest.proofs.Common.{sym, first_start, LineInfo, TrimmedPatch, end_from, Diff, Cell, append-nil, line_stretches, AreApart, trimmed_edit_of}
+use Rattle.snippet_suggest.proofs.Common.{begin_cells, diff_cells, new_on, suggested_stretches, shown_kind, given_ranges, is_left_out, last_reached, is_touched}
 use Rattle.snippet_suggest.proofs.KnownDiff.{IsDiff, known_diff, known_diff_rows}
 use Rattle.snippet_suggest.proofs.SuggestedRows.{body_diff, body_untouched}
 use Rattle.snippet_suggest.proofs.KnownLemmas.{known_apart, known_some, known_spans}
@@ -10,11 +10,7 @@ use Rattle.snippet_suggest.proofs.ReachLemmas.{touched_some}
 use Rattle.snippet_suggest.proofs.suggestion.draw_changed.Goals as goal
 
 pub trimmed_span-requires : goal.trimmed_span-requires
-trimmed_span-requires c =
-    record {
-      spans = subst (λ (ps : List TrimmedPatch). All (λ p. IsSpan c.args.suggestion.now.map.text p.span.start p.span.end) ps) (sym c.deref-2.ensures.value)
-          (known_spans c.args.suggestion.now c.requires.prepared);
-    }
+trimmed_span-requires c = grind (arith, known_spans, c.args.suggestion.now.map.text, c.deref-2.ensures.value, c.args.suggestion.now, c.requires.prepared)
 
 pub draw_diff-requires : goal.draw_diff-requires
 draw_diff-requires c =

@@ -1,8 +1,8 @@
 use denote.Enum.Bare.{same_true, true_same}
-use Rattle.snippet_suggest.proofs.Common.{◌≡◌, ◌≢◌, ℕ, ◌<◌, ◌≤◌, ◌∷◌, ◌++◌, ◌∙◌, All, [], List, ap, append_assoc, arith}
+use Rattle.snippet_suggest.proofs.Common.{◌≡◌, ◌≢◌, ℕ, ◌<◌, ◌≤◌, ◌∷◌, ◌++◌, ◌∙◌, [], List, ap, append_assoc, arith}
 use Rattle.snippet_suggest.proofs.Common.{if◌then◌else◌, length, map, rules, subst, sym, append-nil, length-append, row_at, Cell, begin_cells}
-use Rattle.snippet_suggest.proofs.Common.{on_ok_weaker, source_lines, line_of, IsSpan, TrimmedPatch, LineInfo, the_type, Diff, removed_lines, Begins}
-use Rattle.snippet_suggest.proofs.Common.{first_original, first_original_end, emptied_cells, numbered_at, removed_from}
+use Rattle.snippet_suggest.proofs.Common.{on_ok_weaker, source_lines, line_of, TrimmedPatch, LineInfo, the_type, Diff, removed_lines, Begins, first_original}
+use Rattle.snippet_suggest.proofs.Common.{first_original_end, emptied_cells, numbered_at, removed_from}
 use Rattle.snippet_suggest.proofs.SuggestedRows.{body_emptied, body_emptied_diff, shared_few}
 use Rattle.snippet_suggest.proofs.KnownLemmas.{known_originals, known_some}
 use Rattle.snippet_suggest.proofs.KnownRemoved.{known_emptied_rows}
@@ -11,11 +11,7 @@ use Rattle.snippet_suggest.proofs.ReachLemmas.{touched_some}
 use Rattle.snippet_suggest.proofs.suggestion.draw_emptied.Goals as goal
 
 pub given_span-requires : goal.given_span-requires
-given_span-requires c =
-    record {
-      originals = subst (λ (ps : List TrimmedPatch). All (λ p. IsSpan c.args.suggestion.now.map.text p.original_span.start p.original_span.end) ps)
-          (sym c.deref.ensures.value) (known_originals c.args.suggestion.now c.requires.prepared);
-    }
+given_span-requires c = grind (arith, known_originals, c.args.suggestion.now.map.text, c.deref.ensures.value, c.args.suggestion.now, c.requires.prepared)
 
 pub draw_removed_lines-requires-clause-some : goal.draw_removed_lines-requires-clause-some
 draw_removed_lines-requires-clause-some c =

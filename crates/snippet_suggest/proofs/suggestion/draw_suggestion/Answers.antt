@@ -1,7 +1,8 @@
+use Rattle.std.proofs.lemmas.Grind.{common_steps}
 use denote.Enum.Bare.{same_true, true_same}
-use Rattle.snippet_suggest.proofs.Common.{◌≡◌, ◌≢◌, ◌∙◌, ℕ, ◌++◌, ◌∷◌, [], All, List, ap, map, replicate, rules, subst, sym}
-use Rattle.snippet_suggest.proofs.Common.{◌+◌, arith, length, length-append, length-replicate, trimmed_edit_of, the_type, Underline, shown_kind, trimmed_of}
-use Rattle.snippet_suggest.proofs.Common.{with_marks, row_at, end_cells, Ends, suggested_cells, IsSpan, Cell, TrimmedPatch}
+use Rattle.snippet_suggest.proofs.Common.{◌≡◌, ◌∙◌, ℕ, ◌++◌, ◌∷◌, [], List, ap, map, replicate, rules, sym, ◌+◌, arith, length}
+use Rattle.snippet_suggest.proofs.Common.{length-append, length-replicate, trimmed_edit_of, the_type, Underline, shown_kind, trimmed_of, with_marks, row_at}
+use Rattle.snippet_suggest.proofs.Common.{end_cells, Ends, suggested_cells, Cell}
 use Rattle.snippet_suggest.proofs.SuggestedRows.{ends_marked, ends_plain, suggestion_is}
 use Rattle.snippet_suggest.proofs.KnownLemmas.{known_spans}
 use Rattle.snippet_suggest.proofs.suggestion.draw_suggestion.Goals as goal
@@ -14,8 +15,7 @@ end_number skipped row old is =
 
 pub draw_marks-requires-clause-spans : goal.draw_marks-requires-clause-spans
 draw_marks-requires-clause-spans c =
-    subst (λ (ps : List TrimmedPatch). All (λ p. IsSpan c.args.suggestion.now.map.text p.span.start p.span.end) ps) (sym c.deref-then-eq.ensures.value)
-    (known_spans c.args.suggestion.now c.requires.prepared)
+    grind (arith, known_spans, c.args.suggestion.now.map.text, c.deref-then-eq.ensures.value, c.args.suggestion.now, c.requires.prepared)
 
 pub returns : goal.returns
 returns c =
@@ -42,13 +42,7 @@ returns c =
                 ∙ ap (λ m. before ++ with_marks l m [] (trimmed_of s) row ∷ []) c.requires.prepared.lines
                 ∙ ap (λ (r : List Cell). before ++ r ∷ []) (ends_marked l s a.follows marks)
             | else-eq w ↦
-                let other : shown_kind s ≢ Underline = λ same. cc (
-                  w.if-eq.false,
-                  c.eq.ensures,
-                  true_same the_type p.kind Underline
-                      (c.requires.prepared.kind ∙ same),
-                ) in
-                w.buffer-is ∙ ended ∙ ap (λ (r : List Cell). before ++ r ∷ []) (ends_plain l s a.follows other)
+                grind (arith, common_steps, s, true_same, p, ended, before, ends_plain, l, a, c.eq.ensures, p.kind, c.requires.prepared.kind, a.follows)
           ] in
           suggestion_is l a.start a.follows s (row_at tail 0) above before c.if-eq.buffer (c.in_ok-skipped.ensures.cells above tail is count) last;
     }

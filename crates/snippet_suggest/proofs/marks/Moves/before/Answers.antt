@@ -1,3 +1,4 @@
+use Rattle.std.proofs.lemmas.Grind.{common_steps}
 use Rattle.snippet_suggest.proofs.Common.{◌≡◌, ◌∙◌, ◌+◌, ◌≤◌, ℕ, List, ap, arith, length, sym, take, take_all, PatchColumns, left_of}
 use Rattle.snippet_suggest.proofs.Common.{shift_of}
 use Rattle.snippet_suggest.proofs.MarksDrawn.{left_all, left_next, left_passed}
@@ -5,11 +6,7 @@ use Rattle.snippet_suggest.proofs.marks.Moves.before.Goals as goal
 use Rattle.snippet_suggest.proofs.marks.Moves.before.Goals.{then-columns-start, else-columns-start}
 
 pub returns-then-self-start : goal.returns-then-self-start
-returns-then-self-start c =
-    record {
-      value = λ earlier are. are.all ∙ ap shift_of (sym (left_all c.args.start earlier (λ k d within.
-          let low = are.ends k d within in omega (arith, low, c.if-self-start.true))));
-    }
+returns-then-self-start c = grind (arith, left_all, c.args.start, c.if-self-start.true)
 
 pub loop-columns-preserved : goal.loop-columns-preserved
 loop-columns-preserved c =
@@ -24,8 +21,7 @@ loop-columns-preserved c =
       | then-columns-start w ↦
           w.shift-is ∙ w.with-shift.ensures.value (left_of start (take i cs)) so_far
           ∙ ap shift_of (sym (left_next start cs i d c.loop-columns-test.true w.if-columns-start.true))
-      | else-columns-start w ↦
-          w.shift-is ∙ so_far ∙ ap shift_of (sym (left_passed start cs i d c.loop-columns-test.true w.if-columns-start.false))
+      | else-columns-start w ↦ grind (arith, common_steps, so_far, left_passed, start, cs, i, d, c.loop-columns-test.true)
     ] in
     next ∙ ap (λ xs. shift_of (left_of start (take (i + 1) xs))) items
 

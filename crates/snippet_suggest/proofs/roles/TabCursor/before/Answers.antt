@@ -1,5 +1,5 @@
-use Rattle.snippet_suggest.proofs.Common.{◌≡◌, ◌∙◌, ◌≤◌, ◌==◌, ℕ, ap, arith, count_by, refl, subst, sym, take, capped, TabCursor}
-use Rattle.snippet_suggest.proofs.Common.{IsCursor}
+use Rattle.std.proofs.lemmas.Grind.{common_steps}
+use Rattle.snippet_suggest.proofs.Common.{◌≡◌, ◌==◌, ℕ, ap, arith, count_by, refl, take, capped, TabCursor}
 use Rattle.std.proofs.Common.{chars}
 use Rattle.snippet_suggest.proofs.StretchRows.{cursor_ended, cursor_next, cursor_there}
 use Rattle.snippet_suggest.proofs.roles.TabCursor.before.Goals as goal
@@ -10,21 +10,9 @@ loop-self-init c =
     let line : TabCursor → _ = λ t. t.line.now in
     let passed : TabCursor → ℕ = λ t. t.passed in
     elim c.if-character-self.branch [
-      | then-character-self w ↦
-          let none : c.if-character-self.self.passed ≡ 0 = ap passed w.self-is ∙ w.new.ensures.begins in
-          record {
-            at = subst IsCursor (sym w.self-is) w.new.ensures.at;
-            line = ap line w.self-is ∙ w.new.ensures.line;
-            few = omega (arith, none);
-          }
+      | then-character-self w ↦ grind (arith, common_steps, passed, line, c.if-character-self.self.passed)
       | else-character-self w ↦
-          let same : c.if-character-self.self.passed ≡ c.args.self.now.passed = ap passed w.self-is in
-          let few : c.args.self.now.passed ≤ c.args.character = w.if-character-self.false in
-          record {
-            at = subst IsCursor (sym w.self-is) c.requires.at;
-            line = ap line w.self-is;
-            few = omega (arith, same, few);
-          }
+          grind (arith, common_steps, passed, line, c.if-character-self.self.passed, c.args.self.now.passed, c.args.character, c.requires.at)
     ]
 
 pub loop-self-preserved : goal.loop-self-preserved
@@ -44,9 +32,6 @@ returns-clause-value c =
     let there : capped (count_by (λ c. c == 9) (take k (chars c.loop-self.self.line.now)))
     ≡ capped (count_by (λ c. c == 9) (take k (chars c.args.self.now.line.now))) = ap (λ t. capped (count_by (λ c. c == 9) (take k (chars t)))) inv.line in
     elim c.loop-self-test.branch [
-      | else-loop-self-test w ↦
-          let here : c.loop-self.self.passed ≡ k = omega (arith, inv.few, w.loop-self-test.false) in
-          ap tabs w.self-is ∙ cursor_there c.loop-self.self k inv.at here ∙ there
-      | then-loop-self-test+in_default w ↦
-          ap tabs w.self-is ∙ cursor_ended c.loop-self.self k inv.at inv.few w.in_default.ensures.steps.0.0 ∙ there
+      | else-loop-self-test w ↦ grind (arith, common_steps, k, inv, tabs, cursor_there, there, c.loop-self.self.passed, inv.few, c.loop-self.self, inv.at)
+      | then-loop-self-test+in_default w ↦ grind (arith, common_steps, tabs, cursor_ended, k, inv, there, c.loop-self.self, inv.at, inv.few)
     ]
