@@ -1,11 +1,12 @@
 -- Named spans: their order, what holds of each, and the texts that are added for several.
+use Rattle.std.proofs.lemmas.Grind.{common_steps}
 use Rattle.snippet_text_form.proofs.Common.{◌≡◌, ℕ, suc, ◌==◌, Bool, true, false, cond, not, eqb, ltb, Option, None, List, [], ◌∷◌, ◌++◌}
 use Rattle.snippet_text_form.proofs.Common.{length, map, filter, All, codes, encode_utf8_all, refl, sym, ap, ◌∙◌, arith, cond-true, cond-false, nat_tests}
 use Rattle.snippet_text_form.proofs.Common.{append-nil, map-append, All-nil, All-cons, All-head, All-tail, All-filter, chars-nil, encodes-chars}
 use Rattle.snippet_text_form.proofs.Common.{IsStrictWeakOrder, cow_str_bytes, flat_map, IsSortedBy, IsStableBy, option_map, is_lt, ordering_then, nat_cmp}
 use Rattle.snippet_text_form.proofs.Common.{IsUtf8, Source, ordered_by, locations_of, Loc, sorted-only, map-ordered_by, Annotation, Snippet, is_marking}
-use Rattle.snippet_text_form.proofs.Common.{after_place, cause_form, is_named_before, further_indent, is_labelled, kind_rank, label_characters, named_spans}
-use Rattle.snippet_text_form.proofs.Common.{span_form, span_place, spans_form, numbered_source, FormPiece, Break, bare, place, NamedSpan, All-order}
+use Rattle.snippet_text_form.proofs.Common.{after_place, cause_form, is_named_before, further_indent, is_labelled, label_characters, named_spans, span_form}
+use Rattle.snippet_text_form.proofs.Common.{span_place, spans_form, numbered_source, FormPiece, Break, bare, place, NamedSpan, All-order}
 use Rattle.std.proofs.Common.{append_assoc}
 use Rattle.std.specs.Str.{chars}
 
@@ -23,10 +24,7 @@ chained : (a b c d e f : ℕ) → cond (eqb a c) (ltb b d) (ltb a c) ≡ false �
 chained a b c d e f h k = grind (arith, nat_tests)
 
 pub comes_before-order : IsStrictWeakOrder is_named_before
-comes_before-order = record {
-  one_way = λ x y h. one_way (kind_rank x.kind) x.span.start (kind_rank y.kind) y.span.start h;
-  chain = λ x y z h k. chained (kind_rank x.kind) x.span.start (kind_rank y.kind) y.span.start (kind_rank z.kind) z.span.start h k;
-}
+comes_before-order = grind (arith, one_way)
 
 -- the annotation of a named span
 abbrev pub annotation_of : NamedSpan → Annotation
@@ -38,10 +36,7 @@ span_before a b = is_named_before (annotation_of a) (annotation_of b)
 
 -- which of two named spans comes first is an order
 pub span_before-order : IsStrictWeakOrder span_before
-span_before-order = record {
-  one_way = λ x y h. comes_before-order.one_way (annotation_of x) (annotation_of y) h;
-  chain = λ x y z h k. comes_before-order.chain (annotation_of x) (annotation_of y) (annotation_of z) h k;
-}
+span_before-order = grind (arith, one_way, comes_before-order)
 
 -- what a stable sort makes of the spans that are marked
 pub named_spans-is : (given sorted : List NamedSpan) (marks : List Annotation) → IsSortedBy span_before sorted → IsStableBy span_before given sorted
@@ -99,12 +94,7 @@ pub span-plain : (anonymized : Bool) (source : Source) (indent : List ℕ) (path
     (old one two three : List FormPiece) → at ≡ locations_of source a.span.start a.span.end → one ≡ old ++ Break ∷ [] → two ≡ one ++ bare indent
     → three ≡ two ++ bare (span_place anonymized source path at.0 at.1) → is_labelled a ≡ false
     → three ≡ old ++ span_form anonymized source indent path a
-span-plain anonymized source indent path a at old one two three is first second third none =
-    let front : List ℕ = indent ++ span_place anonymized source path at.0 at.1 in
-    let same : front ++ after_place (label_characters a) ≡ front = ap (λ l. front ++ l) (cond-false (is_labelled a) (codes ": " ++ label_characters a) [] none)
-    ∙ append-nil front in
-    place-added old one two three indent (span_place anonymized source path at.0 at.1) first second third ∙ ap (λ l. old ++ Break ∷ bare l) (sym same)
-    ∙ placed anonymized source indent path a at old is
+span-plain anonymized source indent path a at old one two three is first second third none = grind (arith, cond-false, append-nil, place-added, at.0, at.1)
 
 -- a span with a label
 pub span-labelled : (anonymized : Bool) (source : Source) (indent : List ℕ) (path : Option (List ℕ)) (a : Annotation) (at : Loc × Loc)
@@ -143,30 +133,20 @@ pub spans-added : (anonymized : Bool) (source : Source) (path : Option (List ℕ
     → indent ≡ further_indent path → so_far ≡ others
     → new ≡ one ++ flat_map (span_form anonymized source indent None) (filter is_labelled (map annotation_of so_far))
     → new ≡ old ++ spans_form anonymized source path (map annotation_of spans)
-spans-added anonymized source path old one new spans others so_far first indent parts begun by all added =
-    let more : List NamedSpan → List ℕ → List FormPiece = λ ss i. flat_map (span_form anonymized source i None) (filter is_labelled (map annotation_of ss)) in
-    let form : List FormPiece = span_form anonymized source (codes " ") path (annotation_of first) in
-    added ∙ ap (λ i. one ++ more so_far i) by ∙ ap (λ ss. one ++ more ss (further_indent path)) all
-    ∙ ap (λ l. l ++ more others (further_indent path)) begun ∙ append_assoc old form (more others (further_indent path))
-    ∙ ap (λ ss. old ++ spans_form anonymized source path (map annotation_of ss)) (sym parts)
+spans-added anonymized source path old one new spans others so_far first indent parts begun by all added = grind (arith, append_assoc)
 
 -- without spans the place where the source begins
 pub no_span-added : (anonymized : Bool) (source : Source) (path : Option (List ℕ)) (old one two three : List FormPiece) (spans : List NamedSpan)
     (line : ℕ) → line ≡ source.first → one ≡ old ++ Break ∷ [] → two ≡ one ++ bare (codes " ") → three ≡ two ++ bare (place anonymized path line None)
     → spans ≡ [] → three ≡ old ++ spans_form anonymized source path (map annotation_of spans)
-no_span-added anonymized source path old one two three spans line number first second third none =
-    place-added old one two three (codes " ") (place anonymized path line None) first second third
-    ∙ ap (λ n. old ++ Break ∷ bare (codes " " ++ place anonymized path n None)) number
-    ∙ ap (λ ss. old ++ spans_form anonymized source path (map annotation_of ss)) (sym none)
+no_span-added anonymized source path old one two three spans line number first second third none = grind (arith, common_steps, place-added)
 
 -- the whole snippet
 pub cause-added : (anonymized : Bool) (source : Source) (path : Option (List ℕ)) (spans : List Annotation) (s : Snippet Annotation)
     (old new : List FormPiece) → source ≡ numbered_source s → path ≡ option_map cow_str_bytes s.path → spans ≡ named_spans s.markers.items
     → new ≡ old ++ spans_form anonymized source path spans → new ≡ old ++ cause_form anonymized s
 unfolding cause_form
-cause-added anonymized source path spans s old new its by are added =
-    added ∙ ap (λ (given : Source). old ++ spans_form anonymized given path spans) its ∙ ap (λ p. old ++ spans_form anonymized (numbered_source s) p spans) by
-    ∙ ap (λ marks. old ++ spans_form anonymized (numbered_source s) (option_map cow_str_bytes s.path) marks) are
+cause-added anonymized source path spans s old new its by are added = grind (arith, s.path)
 
 -- ---- texts of labels
 

@@ -1,6 +1,6 @@
 -- What most proofs of this crate cite, given on from one place.
 pub use Rattle.snippet_grid.proofs.RunLemmas.{BeginsWith-added, stretch, IsUtf8-stretch, length-stretch_of, stretch_joined, stretch_grown, stretch_added}
-pub use Rattle.snippet_grid.proofs.RunLemmas.{BeginsWith-le, BeginsWith-same, boundary, front_grown, is_utf8-end}
+pub use Rattle.snippet_grid.proofs.RunLemmas.{BeginsWith-same, boundary, front_grown, is_utf8-end}
 pub use Rattle.snippet_grid.specs.Runs.{BeginsWith}
 pub use Rattle.snippet_grid.specs.Woven.{Piece, Reset, IsWoven, piece_text, link_start, link_stop, Opening, LinkTo, LinkEnd, plain_piece, piece_link, IsOfSheet}
 pub use Rattle.snippet_grid.specs.Woven.{AreLinksEnded, IsStyleOf}
@@ -56,7 +56,7 @@ pub use Rattle.snippet_text.specs.Plain.{IsPlain}
 pub use Rattle.snippet_text.specs.Width.{width_of}
 unfoldable pub use Rattle.snippet_text.specs.Width.{char_width}
 pub use Rattle.snippet_text_form.specs.Cause.{further_indent, span_form, is_labelled, named_spans, spans_form, label_characters, span_text, column_unless}
-pub use Rattle.snippet_text_form.specs.Cause.{after_place, span_place, is_blank_after, is_named_before, kind_rank, end_in_file, end_on_line, is_blank_before}
+pub use Rattle.snippet_text_form.specs.Cause.{after_place, span_place, is_blank_after, is_named_before, end_in_file, end_on_line, is_blank_before}
 unfoldable pub use Rattle.snippet_text_form.specs.Cause.{cause_form}
 pub use Rattle.snippet_text_form.specs.Form.{bare, FormPiece, Break, styled, plain_from, Styled, begun_after, Char, form_bytes, form_text, role_style}
 pub use Rattle.snippet_text_form.specs.Form.{woven_from, in_style}
@@ -65,8 +65,8 @@ pub use Rattle.snippet_text_form.specs.FormMarks.{piece_of_kind, pieces_from, Ar
 pub use Rattle.snippet_text_form.specs.HeadingForm.{lines_form, before_name, label_form, heading_label, text_roles_of, before_id, colon_form, further_line}
 pub use Rattle.snippet_text_form.specs.HeadingForm.{id_form, id_text_form, link_for, linking, name_form, id_label, label_of_id}
 unfoldable pub use Rattle.snippet_text_form.specs.HeadingForm.{heading_form}
-pub use Rattle.snippet_text_form.specs.Lines.{added_words, cause_paragraphs, edit_line, heading_paragraph, is_empty_paragraph, line_paragraph, lines_after}
-pub use Rattle.snippet_text_form.specs.Lines.{lines_of_paragraphs, option_lines, origin_paragraph, span_lines, suggestion_paragraphs}
+pub use Rattle.snippet_text_form.specs.Lines.{added_words, cause_paragraphs, edit_line, heading_paragraph, line_paragraph, lines_after, lines_of_paragraphs}
+pub use Rattle.snippet_text_form.specs.Lines.{option_lines, origin_paragraph, span_lines, suggestion_paragraphs}
 pub use Rattle.snippet_text_form.specs.Position.{place, place_in_file, column_words, to_line, after_path, place_on_line}
 pub use Rattle.snippet_text_form.specs.Suggestion.{edit_form, edit_indent, edit_place, before_added, option_form, added_form, added_text, named_path}
 pub use Rattle.snippet_text_form.specs.Suggestion.{overwrites, replaced_to, replaces, replaces_whole_line}
@@ -108,7 +108,7 @@ pub use Rattle.std.proofs.lemmas.List.Sums.{sum_by-append}
 pub use Rattle.std.proofs.lemmas.Result.{on_ok_weaker}
 pub use Rattle.std.proofs.lemmas.Str.{chars-nil, chars-encodes, IsUtf8-string_bytes, encodes-chars, chars-IsAscii, length-le-encodes, IsUtf8-from_ascii}
 pub use Rattle.std.proofs.lemmas.Str.{chars-append, is_utf8-from_IsUtf8, encode_ascii}
-pub use Rattle.std.proofs.lemmas.Str.Ascii.{IsAscii-from_all, IsAscii-nil}
+pub use Rattle.std.proofs.lemmas.Str.Ascii.{IsAscii-from_all}
 pub use Rattle.std.proofs.lemmas.Str.Pattern.{strip_suffix_char}
 pub use Rattle.std.specs.Borrow.{Bor}
 pub use Rattle.std.specs.Cmp.{IsStrictWeakOrder}
@@ -119,6 +119,6 @@ pub use Rattle.std.specs.List.Sorted.{IsSortedBy, IsStableBy}
 pub use Rattle.std.specs.Option.{option_copied, option_map, option_to_list}
 pub use Rattle.std.specs.Ordering.{is_lt, ordering_then, nat_cmp}
 pub use Rattle.std.specs.Result.{OnOk, is_ok}
-pub use Rattle.std.specs.Str.{IsUtf8, IsCharBoundary, is_utf8}
+pub use Rattle.std.specs.Str.{IsUtf8, IsCharBoundary}
 pub use Rattle.std.specs.declared.borrow.CowStr.{CowStr}
 pub use Rattle.std.specs.declared.borrow.CowStr.TheVariants.{Borrowed}

@@ -1,11 +1,10 @@
 -- The definitions, computed on small elements. In these texts LF is written `\n`.
 use Rattle.snippet_text_form.proofs.Common.{◌≡◌, ℕ, ◌<◌, ◌^◌, true, false, Option, None, Some, Vec, List, [], ◌∷◌, ◌++◌, codes}
-use Rattle.snippet_text_form.proofs.Common.{length, refl, ap, arith, CowStr, Borrowed, newline_count, start_of, end_location, line_of, location_of}
-use Rattle.snippet_text_form.proofs.Common.{locations_of, place_of, start_location, steps_after_text, unindexed, Heading, LevelName, Hidden, Standard}
-use Rattle.snippet_text_form.proofs.Common.{Annotation, AnnotationKind, Primary, Context, Id, Patch, Snippet, trimmed_edit, kept_before, sandwich, LevelInner}
-use Rattle.snippet_text_form.proofs.Common.{Error, Help, Info, default_sheet, link_start, link_stop, norm, width_of-colon, heading_lines, HeadingRoles}
-use Rattle.snippet_text_form.proofs.Common.{cause_form, form_bytes, form_text, plain_from, form_links, heading_form, label_form, lines_form, text_roles_of}
-use Rattle.snippet_text_form.proofs.Common.{origin_form, suggestion_form, Title, Message, SuggestionSettings}
+use Rattle.snippet_text_form.proofs.Common.{length, refl, arith, CowStr, Borrowed, newline_count, start_of, end_location, line_of, location_of, locations_of}
+use Rattle.snippet_text_form.proofs.Common.{place_of, start_location, steps_after_text, unindexed, Heading, LevelName, Hidden, Standard, Annotation}
+use Rattle.snippet_text_form.proofs.Common.{AnnotationKind, Primary, Context, Id, Patch, Snippet, trimmed_edit, kept_before, sandwich, LevelInner, Error, Help}
+use Rattle.snippet_text_form.proofs.Common.{Info, default_sheet, link_start, link_stop, norm, width_of-colon, cause_form, form_bytes, form_text, plain_from}
+use Rattle.snippet_text_form.proofs.Common.{form_links, heading_form, origin_form, suggestion_form, Title, Message, SuggestionSettings}
 use Rattle.std.specs.Fmt.{digits}
 use Rattle.std.specs.Str.{chars}
 use Rattle.std.specs.declared.alloc.Global.{Global}
@@ -68,9 +67,7 @@ nameless =
 
 several_lines : form_text (heading_form false Title nameless) ≡ codes ": a\n  \n  b"
 unfolding heading_form norm chars
-several_lines =
-    let roles : HeadingRoles = text_roles_of Title Help false in
-    ap (λ width. form_text (label_form false Title roles nameless ++ lines_form roles.text width (heading_lines nameless))) width_of-colon
+several_lines = grind (arith, width_of-colon)
 
 lines_without_label : plain_from true (heading_form false Message (heading Error Hidden None (codes "a\n\nb"))) ≡ codes "\na\n\nb"
 unfolding heading_form norm chars

@@ -1,4 +1,5 @@
 -- A text form under a sheet: it is a woven text, whose plain text and links are the form's own.
+use Rattle.std.proofs.Common.{arith}
 use Rattle.snippet_text_form.proofs.Common.{◌≡◌, ℕ, Bool, true, false, List, [], ◌∷◌, ◌++◌, Option, None, Some, All, map, refl, sym, ap}
 use Rattle.snippet_text_form.proofs.Common.{◌∙◌, subst, flat_map, option_to_list, append_assoc, All-nil, All-cons, Piece, Opening, Reset, LinkTo, LinkEnd}
 use Rattle.snippet_text_form.proofs.Common.{plain_piece, piece_link, IsOfSheet, AreLinksEnded, IsStyleOf, IsWoven, ElementStyle, Note, Style, Stylesheet}
@@ -15,9 +16,7 @@ pub in_style-pieces : (style : Style) (link : Option (List ℕ)) (text : List �
     → in_style style link text ++ rest ≡ Opening style ∷ (link_codes_before link ++ (woven_chars text ++ (link_codes_after link ++ Reset style ∷ rest)))
 in_style-pieces style None text rest =
     ap (λ (ps : List Piece). Opening style ∷ ps) (append_assoc (woven_chars text) (Reset style ∷ []) rest)
-in_style-pieces style (Some url) text rest =
-    ap (λ (ps : List Piece). Opening style ∷ LinkTo url ∷ ps) (ap (λ (ps : List Piece). ps ++ rest)
-    (append_assoc (woven_chars text) (LinkEnd ∷ []) (Reset style ∷ [])) ∙ append_assoc (woven_chars text) (LinkEnd ∷ Reset style ∷ []) rest)
+in_style-pieces style (Some url) text rest = grind (arith, append_assoc)
 
 -- the plain text
 plain_form_chars : (cs : List ℕ) (ps : List Piece) → flat_map plain_piece (woven_chars cs ++ ps) ≡ cs ++ flat_map plain_piece ps
@@ -39,9 +38,7 @@ woven-plain sheet begun [] = refl
 woven-plain sheet begun (Char ch ∷ ps) = ap (λ (t : List ℕ). ch ∷ t) (woven-plain sheet true ps)
 woven-plain sheet true (Break ∷ ps) = ap (λ (t : List ℕ). 10 ∷ t) (woven-plain sheet true ps)
 woven-plain sheet false (Break ∷ ps) = woven-plain sheet false ps
-woven-plain sheet begun (Styled role link text ∷ ps) =
-    plain-in_style (role_style sheet role) link text (woven_from sheet (begun_after begun text) ps)
-    ∙ ap (λ (t : List ℕ). text ++ t) (woven-plain sheet (begun_after begun text) ps)
+woven-plain sheet begun (Styled role link text ∷ ps) = grind (arith, woven-plain sheet (begun_after begun text) ps, plain-in_style)
 
 -- the links
 links-chars : (cs : List ℕ) (ps : List Piece) → flat_map piece_link (woven_chars cs ++ ps) ≡ flat_map piece_link ps
@@ -60,10 +57,7 @@ woven-links sheet begun [] = refl
 woven-links sheet begun (Char ch ∷ ps) = woven-links sheet true ps
 woven-links sheet true (Break ∷ ps) = woven-links sheet true ps
 woven-links sheet false (Break ∷ ps) = woven-links sheet false ps
-woven-links sheet begun (Styled role link text ∷ ps) =
-    let rest : List Piece = woven_from sheet (begun_after begun text) ps in
-    ap (flat_map piece_link) (in_style-pieces (role_style sheet role) link text rest) ∙ links-linked (role_style sheet role) link text rest
-    ∙ ap (λ (urls : List (List ℕ)). option_to_list link ++ urls) (woven-links sheet (begun_after begun text) ps)
+woven-links sheet begun (Styled role link text ∷ ps) = grind (arith, woven-links sheet (begun_after begun text) ps, in_style-pieces, links-linked)
 
 -- the styles are those of the sheet
 chars_of_sheet : (sheet : Stylesheet) (cs : List ℕ) (ps : List Piece) → All (λ p. IsOfSheet sheet p) ps → All (λ p. IsOfSheet sheet p) (woven_chars cs ++ ps)
@@ -115,20 +109,8 @@ woven_ended sheet begun [] = refl
 woven_ended sheet begun (Char ch ∷ ps) = woven_ended sheet true ps
 woven_ended sheet true (Break ∷ ps) = woven_ended sheet true ps
 woven_ended sheet false (Break ∷ ps) = woven_ended sheet false ps
-woven_ended sheet begun (Styled role link text ∷ ps) =
-    let style : Style = role_style sheet role in
-    let rest : List Piece = woven_from sheet (begun_after begun text) ps in
-    subst (λ (qs : List Piece). AreLinksEnded false qs) (sym (in_style-pieces style link text rest))
-    (linked_ended style link text rest (woven_ended sheet (begun_after begun text) ps))
+woven_ended sheet begun (Styled role link text ∷ ps) = grind (arith, woven_ended sheet (begun_after begun text) ps, in_style-pieces, linked_ended)
 
 -- a text form under a sheet is a woven text
 pub form-woven : (sheet : Stylesheet) (form : List FormPiece) → IsWoven sheet (form_bytes sheet form) (form_text form) (form_links form)
-form-woven sheet form =
-    record {
-      pieces = woven_from sheet false form;
-      text_is = refl;
-      plain_is = sym (woven-plain sheet false form);
-      links_are = sym (woven-links sheet false form);
-      of_sheet = woven_of_sheet sheet false form;
-      ended = woven_ended sheet false form;
-    }
+form-woven sheet form = grind (arith, woven-plain, woven-links, woven_of_sheet, woven_ended)

@@ -1,12 +1,12 @@
 -- How the text of a form grows, piece by piece.
+use Rattle.std.proofs.lemmas.Grind.{common_steps}
 use Rattle.snippet_text_form.proofs.Common.{◌≡◌, ℕ, ◌-◌, ◌<◌, ◌≤◌, ◌==◌, ◌||◌, nat_lt, not, Bool, true, false, List, []}
-use Rattle.snippet_text_form.proofs.Common.{◌∷◌, ◌++◌, Option, length, replicate, take, drop, refl, sym, ap, ◌∙◌, arith}
-use Rattle.snippet_text_form.proofs.Common.{encode_utf8, encode_utf8_all, decimal, flat_map, IsUtf8, nat_tests, flat_map-append, append-nil, append_assoc}
-use Rattle.snippet_text_form.proofs.Common.{All-weaker, All-replicate, chars-IsAscii, chars-nil, encodes-chars, length-le-encodes, IsAscii-from_all, opening}
-use Rattle.snippet_text_form.proofs.Common.{reset, Piece, Reset, piece_text, stretch, length-stretch_of, IsUtf8-stretch, Style, Stylesheet, IsDigit}
-use Rattle.snippet_text_form.proofs.Common.{decimal-all, FormPiece, Char, Break, Styled, bare, begun_after, plain_from, form_bytes, in_style, role_style}
-use Rattle.snippet_text_form.proofs.Common.{woven_from, link_codes_before, link_codes_after, piece_of_kind, pieces_from, IsPlace, IsMark, AreMarks, FormMark}
-use Rattle.snippet_text_form.proofs.Common.{MarkKind}
+use Rattle.snippet_text_form.proofs.Common.{◌∷◌, ◌++◌, Option, length, replicate, refl, sym, ap, ◌∙◌, arith, encode_utf8, encode_utf8_all}
+use Rattle.snippet_text_form.proofs.Common.{decimal, flat_map, IsUtf8, nat_tests, flat_map-append, append-nil, append_assoc, All-weaker, All-replicate}
+use Rattle.snippet_text_form.proofs.Common.{chars-IsAscii, chars-nil, encodes-chars, length-le-encodes, IsAscii-from_all, opening, reset, Piece, Reset}
+use Rattle.snippet_text_form.proofs.Common.{piece_text, stretch, length-stretch_of, IsUtf8-stretch, Style, Stylesheet, decimal-all, FormPiece, Char, Break}
+use Rattle.snippet_text_form.proofs.Common.{Styled, bare, begun_after, plain_from, form_bytes, in_style, woven_from, link_codes_before, link_codes_after}
+use Rattle.snippet_text_form.proofs.Common.{piece_of_kind, pieces_from, IsPlace, IsMark, AreMarks, FormMark, MarkKind}
 use Rattle.std.proofs.Common.{chars}
 use Rattle.snippet_grid.specs.Woven as woven
 use Rattle.snippet_text_form.specs.declared.form.MarkKind.TheVariants as kinds
@@ -32,9 +32,7 @@ woven-text sheet begun bytes utf8 =
 
 -- the characters of a number's digits are the digits
 pub chars-number : (n : ℕ) → chars (decimal n) ≡ decimal n
-chars-number n =
-    chars-IsAscii (decimal n) (IsAscii-from_all (decimal n)
-    (All-weaker IsDigit (λ c. c < 128) (λ c is. omega (arith, is.1)) (decimal n) (decimal-all n)))
+chars-number n = grind (arith, common_steps, chars-IsAscii, All-weaker, decimal-all)
 
 -- the characters of spaces are the spaces
 pub chars-spaces : (n : ℕ) → chars (replicate n 32) ≡ replicate n 32
@@ -74,9 +72,7 @@ styled_added style link bytes old one two three four new utf8 first second third
     let after : List ℕ = flat_map piece_text (link_codes_after link) in
     let begin : List ℕ = encode_utf8_all (opening style) in
     let end : List ℕ = encode_utf8_all (reset style) in
-    let grown : new ≡ (((((old ++ begin) ++ before) ++ bytes) ++ after) ++ end) = fifth
-    ∙ ap (λ (bs : List ℕ). bs ++ end) (fourth ∙ ap (λ (bs : List ℕ). bs ++ after)
-    (third ∙ ap (λ (bs : List ℕ). bs ++ bytes) (second ∙ ap (λ (bs : List ℕ). bs ++ before) first))) in
+    let grown : new ≡ (((((old ++ begin) ++ before) ++ bytes) ++ after) ++ end) = grind (arith, common_steps, end, after, before) in
     let regrouped : (((((old ++ begin) ++ before) ++ bytes) ++ after) ++ end) ≡ old ++ (begin ++ (before ++ (bytes ++ (after ++ end)))) = simp append_assoc in
     grown ∙ regrouped ∙ ap (λ (bs : List ℕ). old ++ (begin ++ (before ++ (bs ++ (after ++ end))))) (sym (encodes-chars bytes utf8))
     ∙ ap (λ (bs : List ℕ). old ++ bs) (sym (text-in_style style link (chars bytes)))
@@ -117,17 +113,14 @@ woven-append sheet begun (Char ch ∷ ps) more =
 woven-append sheet true (Break ∷ ps) more =
     ap (λ (qs : List Piece). woven.Char 10 ∷ qs) (woven-append sheet true ps more)
 woven-append sheet false (Break ∷ ps) more = woven-append sheet false ps more
-woven-append sheet begun (Styled role link text ∷ ps) more =
-    let own : List Piece = in_style (role_style sheet role) link text in
-    ap (λ (qs : List Piece). own ++ qs) (woven-append sheet (begun_after begun text) ps more)
-    ∙ sym (append_assoc own (woven_from sheet (begun_after begun text) ps) (woven_from sheet (begun_past (begun_after begun text) ps) more))
+woven-append sheet begun (Styled role link text ∷ ps) more = grind (arith, woven-append sheet (begun_after begun text) ps more, append_assoc)
 
 -- ---- whether a part has text
 
 -- a text is empty where it has no characters
 some-chars : (cs bytes : List ℕ) → encode_utf8_all cs ≡ bytes → not (length bytes == 0) ≡ begun_after false cs
 some-chars [] bytes is = ap (λ (bs : List ℕ). not (length bs == 0)) (sym is)
-some-chars (c ∷ cs) bytes is = grind (arith, nat_tests, length-le-encodes (c ∷ cs), is)
+some-chars (c ∷ cs) bytes is = grind (arith, nat_tests, length-le-encodes (c ∷ cs))
 
 -- a text has begun a line where it isn't empty
 pub begun-chars : (empty : Bool) (bytes text : List ℕ) → IsUtf8 bytes → bytes ≡ text → empty ≡ (length bytes == 0) → not empty ≡ begun_after false (chars text)
@@ -147,10 +140,7 @@ pub IsRendered-more : (sheet : Stylesheet) (front own : List FormPiece) (old new
     → IsRendered sheet (front ++ own) new after
 IsRendered-more sheet front own old new begun after rendered added is =
     record {
-      text_is = added ∙ ap (λ (bs : List ℕ). bs ++ flat_map piece_text (woven_from sheet begun own)) rendered.text_is
-          ∙ ap (λ (b : Bool). form_bytes sheet front ++ flat_map piece_text (woven_from sheet b own)) rendered.begun_is
-          ∙ sym (flat_map-append piece_text (woven_from sheet false front) (woven_from sheet (begun_past false front) own))
-          ∙ ap (flat_map piece_text) (sym (woven-append sheet false front own));
+      text_is = grind (arith, common_steps, flat_map-append, woven-append, rendered.text_is, rendered.begun_is);
       begun_is = is ∙ ap (λ (b : Bool). begun_past b own) rendered.begun_is ∙ sym (begun_past-append false front own);
     }
 
@@ -162,7 +152,7 @@ begun_past-bare true (c ∷ cs) = begun_past-true (bare cs)
 begun_past-bare false (c ∷ cs) = begun_past-true (bare cs) ∙ begun_by_one c cs
 
 begun_sum : (from to : ℕ) → from ≤ to → nat_lt 0 to ≡ (nat_lt 0 from || not (to - from == 0))
-begun_sum from to ordered = grind (arith, nat_tests, ordered)
+begun_sum from to ordered = grind (arith, nat_tests)
 
 -- whether text stands before a place of a text, given whether it stands before an earlier one
 begun_between : (text : List ℕ) (from to : ℕ) → IsUtf8 (stretch text from to) → from ≤ to → to ≤ length text
@@ -200,9 +190,7 @@ rendered-bare sheet front text from to old new utf8 start end ordered rendered a
 
 -- nothing stands between a place and itself
 none_between : (text : List ℕ) (from to : ℕ) → to ≡ from → chars (stretch text from to) ≡ []
-none_between text from to same =
-    let nothing : to - from ≡ 0 = omega (arith, same) in
-    ap (λ n. chars (take n (drop from text))) nothing ∙ chars-nil
+none_between text from to same = grind (arith, chars-nil)
 
 -- a mark more, and what stands before it
 pub IsRenderedTo-mark : (sheet : Stylesheet) (form : List FormPiece) (text : List ℕ) (m : FormMark) (ms : List FormMark) (from : ℕ) (out mid new : List ℕ)
@@ -216,14 +204,12 @@ IsRenderedTo-mark sheet form text m ms from out mid new utf8 before first second
     let cs : List ℕ = chars (stretch text m.start m.end) in
     let plain : List FormPiece = bare (chars (stretch text from m.start)) in
     let bare_is = rendered-bare sheet before.front text from m.start out mid utf8 is.from_is is.start_is is.after before.rendered first in
-    let empty : m.kind ≡ kinds.Break → cs ≡ [] = λ is_break.
-    none_between text m.start m.end (is.empty is_break) in
+    let empty : m.kind ≡ kinds.Break → cs ≡ [] = grind (arith, common_steps, none_between, is, m.start, m.end, is.empty) in
     record {
       front = (before.front ++ plain) ++ piece_of_kind cs m.kind ∷ [];
       rendered = IsRendered-more sheet (before.front ++ plain) (piece_of_kind cs m.kind ∷ []) mid new (nat_lt 0 m.start) (nat_lt 0 m.end) bare_is second
           (begun_between text m.start m.end own is.ordered end.within ∙ sym (begun_past-mark (nat_lt 0 m.start) m.kind cs empty));
-      form_is = before.form_is ∙ sym (append_assoc before.front plain (piece_of_kind cs m.kind ∷ pieces_from text m.end ms))
-          ∙ sym (append_assoc (before.front ++ plain) (piece_of_kind cs m.kind ∷ []) (pieces_from text m.end ms));
+      form_is = grind (arith, common_steps, append_assoc, plain, cs, before.form_is, before.front, m.kind, m.end);
       marks_are = before.marks_are.1;
     }
 

@@ -1,23 +1,23 @@
 -- No text form holds a listed character but those of a trusted heading's text.
-use Rattle.snippet_text_form.proofs.Common.{◌≡◌, ℕ, ◌==◌, ◌+◌, ◌&&◌, not, nat_lt, Bool, true, false, Option, None, Some, List, []}
-use Rattle.snippet_text_form.proofs.Common.{◌∷◌, ◌++◌, All, codes, filter, length, replicate, if◌then◌else◌, refl, sym, subst, arith}
-use Rattle.snippet_text_form.proofs.Common.{cow_str_bytes, decimal, flat_map, Contains, option_map, nat_tests, All-nil, All-cons, All-head, All-tail}
-use Rattle.snippet_text_form.proofs.Common.{All-append, All-replicate, All-weaker, Source, locations_of, Heading, is_hidden, name_of, Level, Annotation, Id}
-use Rattle.snippet_text_form.proofs.Common.{Origin, Patch, Snippet, Edit, without_final_line_feeds, picture_of, with_line_feeds_shown, ElementStyle, Addition}
-use Rattle.snippet_text_form.proofs.Common.{is_blank_text, is_listed, norm, normalized_chars, width_of, address_of, shown_text, heading_lines, is_set}
-use Rattle.snippet_text_form.proofs.Common.{HeadingRoles, IsUnlisted, IsOwn, norm-free, own_text, own_unlisted, All-slice_split, each-fails, cause_form}
-use Rattle.snippet_text_form.proofs.Common.{is_labelled, label_characters, named_spans, further_indent, span_form, span_text, spans_form, numbered_source}
-use Rattle.snippet_text_form.proofs.Common.{place, place_in_file, added_form, added_text, before_added, edit_form, edit_indent, edit_place, named_path}
-use Rattle.snippet_text_form.proofs.Common.{option_form, origin_form, suggestion_form, FormPiece, Break, Styled, bare, begun_after, plain_from, styled}
-use Rattle.snippet_text_form.proofs.Common.{before_id, before_name, colon_form, further_line, heading_form, id_form, id_text_form, label_form, heading_label}
-use Rattle.snippet_text_form.proofs.Common.{link_for, linking, lines_form, name_form, text_roles_of, HeadingKind, Title, Message, SuggestionContext}
-use Rattle.snippet_text_form.proofs.Common.{SuggestionSettings}
+use Rattle.std.proofs.lemmas.Grind.{common_steps}
+use Rattle.snippet_text_form.proofs.Common.{◌≡◌, ℕ, ◌==◌, ◌&&◌, not, Bool, true, false, Option, None, Some, List, [], ◌∷◌, ◌++◌, All}
+use Rattle.snippet_text_form.proofs.Common.{codes, filter, replicate, if◌then◌else◌, refl, sym, subst, arith, cow_str_bytes, decimal, flat_map, Contains}
+use Rattle.snippet_text_form.proofs.Common.{option_map, nat_tests, All-nil, All-cons, All-head, All-tail, All-append, All-replicate, All-weaker, Source}
+use Rattle.snippet_text_form.proofs.Common.{locations_of, Heading, is_hidden, name_of, Level, Annotation, Id, Origin, Patch, Snippet, Edit}
+use Rattle.snippet_text_form.proofs.Common.{without_final_line_feeds, picture_of, with_line_feeds_shown, ElementStyle, Addition, is_blank_text, is_listed, norm}
+use Rattle.snippet_text_form.proofs.Common.{normalized_chars, width_of, address_of, shown_text, heading_lines, is_set, HeadingRoles, IsUnlisted, IsOwn}
+use Rattle.snippet_text_form.proofs.Common.{norm-free, own_text, own_unlisted, All-slice_split, each-fails, cause_form, is_labelled, named_spans}
+use Rattle.snippet_text_form.proofs.Common.{further_indent, span_form, span_text, spans_form, numbered_source, place, place_in_file, added_form, added_text}
+use Rattle.snippet_text_form.proofs.Common.{before_added, edit_form, edit_indent, edit_place, named_path, option_form, origin_form, suggestion_form, FormPiece}
+use Rattle.snippet_text_form.proofs.Common.{Break, Styled, bare, plain_from, styled, before_id, before_name, colon_form, further_line, heading_form, id_form}
+use Rattle.snippet_text_form.proofs.Common.{id_text_form, label_form, heading_label, link_for, linking, lines_form, name_form, text_roles_of, HeadingKind}
+use Rattle.snippet_text_form.proofs.Common.{SuggestionContext, SuggestionSettings}
 use Rattle.std.proofs.Common.{chars}
 use Rattle.snippet_suggest.specs.Given as given
 use Rattle.snippet_text_form.proofs.OrderLaws.{plain-append}
 use Rattle.snippet_text_form.proofs.FormSteps.{plain-bare}
-use Rattle.snippet_text_form.proofs.PlaceParts.{PathIs, before_added-each, before_id-each, before_name-each, decimal-each, edit_indent-each}
-use Rattle.snippet_text_form.proofs.PlaceParts.{edit_place-each, further_indent-each, is_odd, place-each, place_in_file-each, span_text-each}
+use Rattle.snippet_text_form.proofs.PlaceParts.{PathIs, before_added-each, before_id-each, before_name-each, decimal-each, edit_indent-each, edit_place-each}
+use Rattle.snippet_text_form.proofs.PlaceParts.{further_indent-each, is_odd, place-each, place_in_file-each, span_text-each}
 
 -- a fact holds of each plain character of a text form, whatever stands before that
 abbrev pub EachPlain : (ℕ → Type 0) → List FormPiece → Type 0
@@ -30,10 +30,7 @@ module _ (P : ℕ → Type 0) (feed : P 10) where
 
   -- as it does of one after another,
   pub each-append : (a b : List FormPiece) → EachPlain P a → EachPlain P b → EachPlain P (a ++ b)
-  each-append a b first second begun =
-      let front : List ℕ = plain_from begun a in
-      let now : Bool = begun_after begun front in
-      subst (All P) (sym (plain-append begun a b)) (All-append P front (plain_from now b) (first begun) (second now))
+  each-append a b first second begun = grind (arith, common_steps, plain-append, All-append)
 
   -- and of many
   pub each-flat_map : {A : Type 0} (form : A → List FormPiece) → ((x : A) → EachPlain P (form x)) → (xs : List A) → EachPlain P (flat_map form xs)
@@ -60,7 +57,7 @@ free-append : (xs ys : List ℕ) → AreFree xs → AreFree ys → AreFree (xs +
 free-append xs ys first second = All-append IsUnlisted xs ys first second
 
 printable-free : (c : ℕ) → is_odd c ≡ false → IsUnlisted c
-printable-free c is = grind (arith, nat_tests, is)
+printable-free c is = grind (arith, nat_tests)
 
 path-free : (path : Option (List ℕ)) → PathIs IsUnlisted printable-free path
 path-free None = tt

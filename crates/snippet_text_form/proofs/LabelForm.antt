@@ -1,10 +1,11 @@
 -- What stands before a heading's text, and the whole heading.
+use Rattle.std.proofs.lemmas.Grind.{common_steps}
 use Rattle.snippet_text_form.proofs.Common.{◌≡◌, ℕ, ◌+◌, ◌==◌, Bool, true, false, nat_lt, List, [], ◌∷◌, ◌++◌, Option, None, Some}
-use Rattle.snippet_text_form.proofs.Common.{Result, length, if◌then◌else◌, refl, sym, ap, ◌∙◌, subst, arith, cow_str_bytes, option_map, OnOk}
-use Rattle.snippet_text_form.proofs.Common.{IsUtf8, sum_by-append, on_ok_weaker, Heading, is_hidden, name_of, Level, Id, ElementStyle, norm, char_width}
-use Rattle.snippet_text_form.proofs.Common.{width_of, width_of-norm, address_of, colon_of, heading_lines, is_set, HeadingRoles, chars-colon, FormPiece, Break}
-use Rattle.snippet_text_form.proofs.Common.{Styled, bare, styled, before_id, before_name, colon_form, heading_form, id_form, id_label, label_form, label_of_id}
-use Rattle.snippet_text_form.proofs.Common.{heading_label, lines_form, link_for, id_text_form, text_roles_of, HeadingKind}
+use Rattle.snippet_text_form.proofs.Common.{Result, length, if◌then◌else◌, refl, ap, ◌∙◌, arith, cow_str_bytes, option_map, OnOk, IsUtf8}
+use Rattle.snippet_text_form.proofs.Common.{sum_by-append, on_ok_weaker, Heading, is_hidden, name_of, Level, Id, ElementStyle, norm, char_width, width_of}
+use Rattle.snippet_text_form.proofs.Common.{width_of-norm, address_of, colon_of, heading_lines, is_set, HeadingRoles, chars-colon, FormPiece, Break, Styled}
+use Rattle.snippet_text_form.proofs.Common.{bare, styled, before_id, before_name, colon_form, heading_form, id_form, label_form, label_of_id, heading_label}
+use Rattle.snippet_text_form.proofs.Common.{lines_form, link_for, text_roles_of, HeadingKind}
 use Rattle.std.proofs.Common.{chars}
 use Rattle.snippet_text_form.proofs.AddedLemmas.{added-two, added-two-on_ok}
 use Rattle.snippet_text_form.proofs.FormSteps.{begun-chars}
@@ -35,14 +36,7 @@ pub id-added : {T E : Type 0} (r : Result T E) (old one new : List FormPiece) (h
     (text before shown : List ℕ) (address : Option (List ℕ)) → option_map cow_str_bytes id.id ≡ Some text → before ≡ before_id hidden
     → shown ≡ norm (chars text) → address ≡ link_for (address_of hyperlink id) (norm (chars text)) → one ≡ old ++ bare before
     → OnOk r (new ≡ one ++ Styled role address shown ∷ []) → OnOk r (new ≡ old ++ id_form hyperlink hidden role (Some id))
-id-added r old one new hyperlink hidden role id text before shown address is led shows known first second =
-    let own : List ℕ = norm (chars text) in
-    let parts : bare before ++ Styled role address shown ∷ [] ≡ id_form hyperlink hidden role (Some id) =
-    ap (λ (cs : List ℕ). bare cs ++ Styled role address shown ∷ []) led
-    ∙ ap (λ (cs : List ℕ). bare (before_id hidden) ++ Styled role address cs ∷ []) shows
-    ∙ ap (λ (a : Option (List ℕ)). bare (before_id hidden) ++ Styled role a own ∷ []) known
-    ∙ ap (id_text_form hidden role (address_of hyperlink id)) (sym is) in
-    subst (λ (ps : List FormPiece). OnOk r (new ≡ old ++ ps)) parts (added-two-on_ok r old one new (bare before) (Styled role address shown ∷ []) first second)
+id-added r old one new hyperlink hidden role id text before shown address is led shows known first second = grind (arith, added-two-on_ok)
 
 -- ---- the columns
 
@@ -59,10 +53,7 @@ name-width false before text one two is first second =
 -- an id is as wide as what stands before it and itself
 pub id-width : (hidden : Bool) (id : Id) (before text : List ℕ) (one two : ℕ) → option_map cow_str_bytes id.id ≡ Some text → before ≡ before_id hidden
     → one ≡ width_of before → two ≡ width_of (chars text) → one + two ≡ width_of (label_of_id hidden (Some id))
-id-width hidden id before text one two is led first second =
-    let whole : width_of (before_id hidden ++ norm (chars text)) ≡ width_of (label_of_id hidden (Some id)) = ap (λ t. width_of (id_label hidden t)) (sym is) in
-    let lead : width_of before ≡ width_of (before_id hidden) = ap width_of led in
-    omega (arith, first, second, whole, lead, width_of-two (before_id hidden) (norm (chars text)), width_of-norm (chars text))
+id-width hidden id before text one two is led first second = grind (arith, width_of-two, width_of-norm)
 
 width_of-shown_if : (hidden : Bool) (name : List ℕ) → (if hidden then 0 else width_of name) ≡ width_of (if hidden then [] else name)
 width_of-shown_if true name = refl
@@ -77,15 +68,7 @@ pub width_of-label : (kind : HeadingKind) (known level : Level) (hidden : Bool) 
     ((if is_hidden known.name then [] else before_name kind ++ norm (chars (name_of known)))
     ++ (label_of_id (is_hidden known.name) owned ++ colon_of (is_hidden known.name) owned))
 width_of-label kind known level hidden owned id set name shown colon colons leveled hides own is_set named identified spelled measured =
-    let h : Bool = is_hidden known.name in
-    let front : List ℕ = if h then [] else before_name kind ++ norm (chars (name_of known)) in
-    let one : name ≡ width_of front = named ∙ ap (λ (l : Level). if is_hidden l.name then 0 else width_of
-    (before_name kind ++ norm (chars (name_of l)))) leveled ∙ width_of-shown_if h (before_name kind ++ norm (chars (name_of known))) in
-    let two : shown ≡ width_of (label_of_id h owned) = identified ∙ ap (λ (b : Bool). width_of (label_of_id b id)) hides
-    ∙ ap (λ (i : Option Id). width_of (label_of_id h i)) own in
-    let three : colon ≡ width_of (colon_of h owned) = measured ∙ ap width_of spelled ∙ ap (λ (b : Bool). width_of (colon_of b set)) hides
-    ∙ ap (λ (i : Option Id). width_of (colon_of h i)) is_set in
-    omega (arith, one, two, three, width_of-two front (label_of_id h owned ++ colon_of h owned), width_of-two (label_of_id h owned) (colon_of h owned))
+    grind (arith, width_of-shown_if, width_of-two, known.name)
 
 -- ---- the whole heading
 
@@ -97,13 +80,4 @@ pub heading-added : {T E : Type 0} (r : Result T E) (old one two new : List Form
     → OnOk r (new ≡ old ++ heading_form hyperlink kind heading)
 unfolding heading_form
 heading-added r old one two new hyperlink kind heading level trusted roles width leveled trusts are wide first second third =
-    let label : List FormPiece = label_form hyperlink kind roles heading in
-    let lines : List FormPiece = lines_form roles.text width (heading_lines heading) in
-    let known : roles ≡ text_roles_of kind heading.level.kind heading.allows_styling = are ∙ ap (λ (l : Level). text_roles_of kind l.kind trusted) leveled
-    ∙ ap (text_roles_of kind heading.level.kind) trusts in
-    let parts : old ++ (Break ∷ (label ++ lines)) ≡ old ++ heading_form hyperlink kind heading =
-    ap (λ (rs : HeadingRoles). old ++ (Break ∷ (label_form hyperlink kind rs heading ++ lines_form rs.text width (heading_lines heading)))) known
-    ∙ ap (λ n. old ++ (Break
-    ∷ (label_form hyperlink kind (text_roles_of kind heading.level.kind heading.allows_styling)
-    heading ++ lines_form (text_roles_of kind heading.level.kind heading.allows_styling).text n (heading_lines heading)))) wide in
-    on_ok_weaker r (λ last. added-two old one new (Break ∷ []) (label ++ lines) first (added-two one two new label lines second last) ∙ parts) third
+    grind (arith, common_steps, on_ok_weaker, added-two, roles.text, heading.level.kind, heading.allows_styling)

@@ -1,19 +1,18 @@
 -- The lines of a text form's plain text are those of its paragraphs.
-use Rattle.snippet_text_form.proofs.Common.{◌≡◌, ℕ, ◌==◌, ◌&&◌, not, nat_lt, Bool, true, false, Option, None, Some, List, [], ◌∷◌}
-use Rattle.snippet_text_form.proofs.Common.{◌++◌, All, codes, filter, map, length, replicate, if◌then◌else◌, refl, sym, ap, ◌∙◌, arith, cond}
-use Rattle.snippet_text_form.proofs.Common.{cow_str_bytes, decimal, flat_map, slice_split, option_map, nat_tests, flat_map-append, append-nil, All-append}
-use Rattle.snippet_text_form.proofs.Common.{All-cons, All-head, All-nil, All-tail, slice_split_at, slice_split_none, Source, locations_of, Heading, is_hidden}
-use Rattle.snippet_text_form.proofs.Common.{name_of, Level, Annotation, Id, Origin, Patch, Snippet, numbered_source, Edit, ElementStyle, Addition, trimmed_of}
-use Rattle.snippet_text_form.proofs.Common.{is_blank_text, norm, width_of, address_of, colon_of, heading_lines, is_set, HeadingRoles, cause_form}
-use Rattle.snippet_text_form.proofs.Common.{further_indent, is_labelled, named_spans, span_form, span_text, spans_form, FormPiece, Break, bare, begun_after}
-use Rattle.snippet_text_form.proofs.Common.{plain_from, styled, before_id, before_name, colon_form, further_line, heading_form, heading_label, id_form}
-use Rattle.snippet_text_form.proofs.Common.{id_label, id_text_form, label_form, label_of_id, lines_form, linking, name_form, text_roles_of, added_words}
-use Rattle.snippet_text_form.proofs.Common.{cause_paragraphs, edit_line, heading_paragraph, is_empty_paragraph, line_paragraph, lines_after}
+use Rattle.std.proofs.lemmas.Grind.{common_steps}
+use Rattle.snippet_text_form.proofs.Common.{◌≡◌, ℕ, ◌==◌, ◌&&◌, not, Bool, true, false, Option, None, Some, List, [], ◌∷◌, ◌++◌, All}
+use Rattle.snippet_text_form.proofs.Common.{codes, filter, map, replicate, if◌then◌else◌, refl, sym, ap, ◌∙◌, arith, cow_str_bytes, decimal}
+use Rattle.snippet_text_form.proofs.Common.{flat_map, slice_split, option_map, flat_map-append, append-nil, All-append, All-head, All-nil, All-tail}
+use Rattle.snippet_text_form.proofs.Common.{slice_split_at, slice_split_none, Source, locations_of, Heading, is_hidden, name_of, Level, Annotation, Id, Origin}
+use Rattle.snippet_text_form.proofs.Common.{Patch, Snippet, numbered_source, Edit, ElementStyle, Addition, trimmed_of, is_blank_text, norm, width_of}
+use Rattle.snippet_text_form.proofs.Common.{address_of, colon_of, heading_lines, is_set, HeadingRoles, cause_form, further_indent, is_labelled, named_spans}
+use Rattle.snippet_text_form.proofs.Common.{span_form, span_text, spans_form, FormPiece, Break, bare, begun_after, plain_from, styled, before_name, colon_form}
+use Rattle.snippet_text_form.proofs.Common.{further_line, heading_form, heading_label, id_form, id_label, id_text_form, label_form, label_of_id, lines_form}
+use Rattle.snippet_text_form.proofs.Common.{name_form, text_roles_of, added_words, cause_paragraphs, edit_line, heading_paragraph, line_paragraph, lines_after}
 use Rattle.snippet_text_form.proofs.Common.{lines_of_paragraphs, option_lines, origin_paragraph, span_lines, suggestion_paragraphs, place, place_in_file}
 use Rattle.snippet_text_form.proofs.Common.{added_form, added_text, before_added, edit_form, edit_indent, edit_place, named_path, option_form, origin_form}
 use Rattle.snippet_text_form.proofs.Common.{suggestion_form, HeadingKind, SuggestionContext, SuggestionSettings}
-use Rattle.std.proofs.Common.{chars}
-use Rattle.std.proofs.Common.{append_assoc}
+use Rattle.std.proofs.Common.{chars, append_assoc}
 use Rattle.snippet_text_form.proofs.FormSteps.{plain-bare}
 use Rattle.snippet_text_form.proofs.OrderLaws.{begun-cons, plain-append}
 
@@ -48,9 +47,7 @@ no_text = record { later = refl; first = refl }
 -- the lines of two lists of paragraphs below a line
 below_both : (ls : List (List ℕ)) (es fs : List (List (List ℕ)))
     → below (ls ++ all_lines es) ++ below (all_lines fs) ≡ below (ls ++ all_lines (es ++ fs))
-below_both ls es fs =
-    sym (below-append (ls ++ all_lines es) (all_lines fs))
-    ∙ ap below (append_assoc ls (all_lines es) (all_lines fs) ∙ ap (λ (xs : List (List ℕ)). ls ++ xs) (sym (all_lines-append es fs)))
+below_both ls es fs = grind (arith, below-append, append_assoc, all_lines-append)
 
 -- one form after another
 first_after : (es fs : List (List (List ℕ))) (b : List FormPiece) → IsTextOf fs b
@@ -58,26 +55,14 @@ first_after : (es fs : List (List (List ℕ))) (b : List FormPiece) → IsTextOf
 first_after [] fs b is = is.first
 first_after ([] ∷ es) fs b is = first_after es fs b is
 first_after (([] ∷ []) ∷ es) fs b is = first_after es fs b is
-first_after (([] ∷ line ∷ ls) ∷ es) fs b is =
-    let text : List ℕ = below ((line ∷ ls) ++ all_lines es) in
-    ap (λ (begun : Bool). text ++ plain_from begun b) (begun-cons false 10 (line ++ below (ls ++ all_lines es)))
-    ∙ ap (λ (cs : List ℕ). text ++ cs) is.later ∙ below_both (line ∷ ls) es fs
-first_after (((c ∷ line) ∷ ls) ∷ es) fs b is =
-    let text : List ℕ = (c ∷ line) ++ below (ls ++ all_lines es) in
-    ap (λ (begun : Bool). text ++ plain_from begun b) (begun-cons false c (line ++ below (ls ++ all_lines es)))
-    ∙ ap (λ (cs : List ℕ). text ++ cs) is.later
-    ∙ append_assoc (c ∷ line) (below (ls ++ all_lines es)) (below (all_lines fs))
-    ∙ ap (λ (cs : List ℕ). (c ∷ line) ++ cs) (below_both ls es fs)
+first_after (([] ∷ line ∷ ls) ∷ es) fs b is = grind (arith, common_steps, begun-cons, below_both, is.later)
+first_after (((c ∷ line) ∷ ls) ∷ es) fs b is = grind (arith, begun-cons, append_assoc, below_both, is.later)
 
 pub text-append : (es fs : List (List (List ℕ))) (a b : List FormPiece) → IsTextOf es a → IsTextOf fs b → IsTextOf (es ++ fs) (a ++ b)
 text-append es fs a b one two =
     record {
-      later = plain-append true a b ∙ ap (λ (cs : List ℕ). cs ++ plain_from true b) one.later
-          ∙ ap (λ (cs : List ℕ). below (all_lines es) ++ cs) two.later
-          ∙ below_both [] es fs;
-      first = plain-append false a b
-          ∙ ap (λ (cs : List ℕ). cs ++ plain_from (begun_after false cs) b) one.first
-          ∙ first_after es fs b two;
+      later = grind (arith, common_steps, plain-append, below_both, one.later, two.later);
+      first = grind (arith, common_steps, plain-append, first_after, one.first);
     }
 
 pub text-each : {A : Type 0} (paragraphs : A → List (List (List ℕ))) (form : A → List FormPiece) → ((x : A) → IsTextOf (paragraphs x) (form x)) → (xs : List A)
@@ -188,9 +173,7 @@ origin-text anonymized o = bare-line (codes " " ++ place_in_file anonymized (cow
 -- the characters of two forms, one after the other, where those of each are known
 both-plain : (begun : Bool) (a b : List FormPiece) (xs ys : List ℕ) → ((now : Bool) → plain_from now a ≡ xs) → ((now : Bool) → plain_from now b ≡ ys)
     → plain_from begun (a ++ b) ≡ xs ++ ys
-both-plain begun a b xs ys first second =
-    plain-append begun a b ∙ ap (λ (cs : List ℕ). cs ++ plain_from (begun_after begun (plain_from begun a)) b) (first begun)
-    ∙ ap (λ (cs : List ℕ). xs ++ cs) (second (begun_after begun (plain_from begun a)))
+both-plain begun a b xs ys first second = grind (arith, plain-append)
 
 styled-plain : (role : ElementStyle) (text : List ℕ) (now : Bool) → plain_from now (styled role text) ≡ text
 styled-plain role text now = append-nil text
@@ -211,9 +194,7 @@ name-plain kind role level now = of_hidden (is_hidden level.name)
 id_text-plain : (hidden : Bool) (role : ElementStyle) (address text : Option (List ℕ)) (now : Bool)
     → plain_from now (id_text_form hidden role address text) ≡ id_label hidden text
 id_text-plain hidden role address None now = refl
-id_text-plain hidden role address (Some text) now =
-    both-plain now (bare (before_id hidden)) (linking role address (norm (chars text))) (before_id hidden) (norm (chars text))
-    (λ b. plain-bare b (before_id hidden)) (λ b. append-nil (norm (chars text)))
+id_text-plain hidden role address (Some text) now = grind (arith, both-plain, plain-bare, append-nil)
 
 id-plain : (hyperlink hidden : Bool) (role : ElementStyle) (id : Option Id) (now : Bool)
     → plain_from now (id_form hyperlink hidden role id) ≡ label_of_id hidden id
@@ -231,32 +212,18 @@ colon-plain role hidden id now = of_bare (hidden && not (is_set id))
 label-plain : (hyperlink : Bool) (kind : HeadingKind) (roles : HeadingRoles) (heading : Heading) (now : Bool)
     → plain_from now (label_form hyperlink kind roles heading) ≡ heading_label kind heading
 label-plain hyperlink kind roles heading now =
-    let hidden : Bool = is_hidden heading.level.name in
-    let name : List FormPiece = name_form kind roles.label heading.level in
-    let id : List FormPiece = id_form hyperlink hidden roles.label heading.id in
-    let colon : List FormPiece = colon_form roles.colon hidden heading.id in
-    both-plain now name (id ++ colon) _ (label_of_id hidden heading.id ++ colon_of hidden heading.id) (name-plain kind roles.label heading.level)
-    (λ b. both-plain b id colon (label_of_id hidden heading.id) (colon_of hidden heading.id) (id-plain hyperlink hidden roles.label heading.id)
-    (colon-plain roles.colon hidden heading.id))
+    grind (arith, both-plain, name-plain, id-plain, colon-plain, heading.level.name, roles.label, heading.level, heading.id, roles.colon)
 
 further-plain : (role : ElementStyle) (width : ℕ) (lines : List (List ℕ)) (now : Bool)
     → plain_from now (flat_map (further_line role width) lines) ≡ below (map (λ further. replicate width 32 ++ further) lines)
 further-plain role width [] now = refl
-further-plain role width (line ∷ lines) now =
-    let front : List ℕ = 10 ∷ replicate width 32 in
-    both-plain now (further_line role width line) (flat_map (further_line role width) lines) (front ++ line)
-    (below (map (λ further. replicate width 32 ++ further) lines))
-    (λ b. both-plain b (bare front) (styled role line) front line (λ d. plain-bare d front) (styled-plain role line)) (further-plain role width lines)
+further-plain role width (line ∷ lines) now = grind (arith, common_steps, further-plain role width lines, both-plain, plain-bare, styled-plain)
 
 -- its paragraph
 label_and_lines : (hyperlink : Bool) (kind : HeadingKind) (roles : HeadingRoles) (heading : Heading) (lines : List (List ℕ))
     → IsTextOf (lines_after (heading_label kind heading) lines ∷ [])
     (Break ∷ (label_form hyperlink kind roles heading ++ lines_form roles.text (width_of (heading_label kind heading)) lines))
-label_and_lines hyperlink kind roles heading [] =
-    let label : List FormPiece = label_form hyperlink kind roles heading in
-    text-line (heading_label kind heading) (label ++ []) (λ begun.
-    both-plain begun label [] (heading_label kind heading) [] (label-plain hyperlink kind roles heading) (λ b. refl)
-    ∙ append-nil (heading_label kind heading))
+label_and_lines hyperlink kind roles heading [] = grind (arith, text-line, both-plain, label-plain, append-nil)
 label_and_lines hyperlink kind roles heading (line ∷ lines) =
     let own : List ℕ = heading_label kind heading in
     let width : ℕ = width_of own in

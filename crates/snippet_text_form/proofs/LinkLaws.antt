@@ -1,16 +1,13 @@
 -- What a text form links to.
 use Rattle.snippet_text_form.proofs.Common.{◌≡◌, ℕ, ◌&&◌, not, Bool, true, false, Option, None, Some, List, [], ◌∷◌, ◌++◌, Global, codes}
-use Rattle.snippet_text_form.proofs.Common.{filter, replicate, if◌then◌else◌, refl, ap, ◌∙◌, arith, cow_str_bytes, decimal, flat_map, option_map}
+use Rattle.snippet_text_form.proofs.Common.{replicate, if◌then◌else◌, refl, ap, ◌∙◌, arith, cow_str_bytes, decimal, flat_map, option_map}
 use Rattle.snippet_text_form.proofs.Common.{option_to_list, CowStr, nat_tests, flat_map-append, append-nil, Source, locations_of, Heading, is_hidden, name_of}
-use Rattle.snippet_text_form.proofs.Common.{Level, Annotation, Id, Origin, Patch, Snippet, Edit, ElementStyle, Addition, is_blank_text, norm, width_of}
-use Rattle.snippet_text_form.proofs.Common.{address_of, heading_lines, is_set, id_links, text_links, HeadingRoles, cause_form, is_labelled, named_spans}
-use Rattle.snippet_text_form.proofs.Common.{further_indent, span_form, span_text, spans_form, numbered_source, FormPiece, bare, styled, form_links, before_id}
-use Rattle.snippet_text_form.proofs.Common.{before_name, colon_form, further_line, heading_form, id_form, id_text_form, label_form, heading_label, link_for}
-use Rattle.snippet_text_form.proofs.Common.{linking, lines_form, name_form, text_roles_of, place, place_in_file, added_form, added_text, before_added}
-use Rattle.snippet_text_form.proofs.Common.{edit_form, edit_indent, edit_place, named_path, option_form, origin_form, suggestion_form, HeadingKind}
-use Rattle.snippet_text_form.proofs.Common.{SuggestionContext, SuggestionSettings}
+use Rattle.snippet_text_form.proofs.Common.{Level, Annotation, Id, Origin, Patch, Snippet, Edit, ElementStyle, Addition, is_blank_text, norm, address_of}
+use Rattle.snippet_text_form.proofs.Common.{is_set, id_links, text_links, HeadingRoles, cause_form, named_spans, spans_form, numbered_source, FormPiece, bare}
+use Rattle.snippet_text_form.proofs.Common.{styled, form_links, before_name, colon_form, further_line, heading_form, id_form, id_text_form, label_form}
+use Rattle.snippet_text_form.proofs.Common.{link_for, linking, lines_form, name_form, place, place_in_file, added_form, added_text, before_added, edit_form}
+use Rattle.snippet_text_form.proofs.Common.{edit_place, option_form, origin_form, suggestion_form, HeadingKind, SuggestionContext, SuggestionSettings}
 use Rattle.std.proofs.Common.{chars}
-use Rattle.snippet_suggest.specs.Given as given
 
 -- one text form after another
 pub links-append : (a b : List FormPiece) → form_links (a ++ b) ≡ form_links a ++ form_links b
@@ -46,9 +43,7 @@ linking-links role address (c ∷ cs) =
 -- so does an id
 id_text-links : (hidden : Bool) (role : ElementStyle) (address : Option (List ℕ)) (text : List ℕ)
     → form_links (id_text_form hidden role address (Some text)) ≡ text_links address (norm (chars text))
-id_text-links hidden role address text =
-    form_links-unlinked (bare (before_id hidden)) (linking role address (norm (chars text))) (bare-links (before_id hidden))
-    ∙ linking-links role address (norm (chars text))
+id_text-links hidden role address text = grind (arith, form_links-unlinked, bare-links, linking-links)
 
 form_links-id : (hyperlink hidden : Bool) (role : ElementStyle) (id : Option Id) → form_links (id_form hyperlink hidden role id) ≡ id_links hyperlink id
 form_links-id hyperlink hidden role None = refl
@@ -93,22 +88,13 @@ lines-links role width (line ∷ lines) =
 pub heading-links : (hyperlink : Bool) (kind : HeadingKind) (heading : Heading)
     → form_links (heading_form hyperlink kind heading) ≡ id_links hyperlink heading.id
 unfolding heading_form
-heading-links hyperlink kind heading =
-    let roles : HeadingRoles = text_roles_of kind heading.level.kind heading.allows_styling in
-    let width : ℕ = width_of (heading_label kind heading) in
-    let label : List FormPiece = label_form hyperlink kind roles heading in
-    let lines : List FormPiece = lines_form roles.text width (heading_lines heading) in
-    links-before label lines (lines-links roles.text width (heading_lines heading)) ∙ label-links hyperlink kind roles heading
+heading-links hyperlink kind heading = grind (arith, links-before, lines-links, label-links, heading.level.kind, heading.allows_styling)
 
 -- the other elements link to nothing
 spans-links : (anonymized : Bool) (source : Source) (path : Option (List ℕ)) (marks : List Annotation)
     → form_links (spans_form anonymized source path marks) ≡ []
 spans-links anonymized source path [] = bare-links (codes " " ++ place anonymized path source.first None)
-spans-links anonymized source path (a ∷ marks) =
-    let first : List FormPiece = span_form anonymized source (codes " ") path a in
-    let further : Annotation → List FormPiece = span_form anonymized source (further_indent path) None in
-    form_links-unlinked first (flat_map further (filter is_labelled marks)) (bare-links (span_text anonymized source (codes " ") path a))
-    ∙ each-links further (λ b. bare-links (span_text anonymized source (further_indent path) None b)) (filter is_labelled marks)
+spans-links anonymized source path (a ∷ marks) = grind (arith, form_links-unlinked, bare-links, each-links)
 
 -- the text form of a snippet has no link
 pub cause-links : (anonymized : Bool) (s : Snippet Annotation) → form_links (cause_form anonymized s) ≡ []
@@ -141,12 +127,7 @@ edit-links settings source indent path e =
 -- the text form of a suggestion has no link
 pub suggestion-links : (settings : SuggestionSettings) (at : SuggestionContext) (s : Snippet Patch) → form_links (suggestion_form settings at s) ≡ []
 unfolding suggestion_form
-suggestion-links settings at s =
-    let source : Source = numbered_source s in
-    let path : Option (List ℕ) = named_path at.names_path (option_map cow_str_bytes s.path) in
-    let edits : Edit → List FormPiece = edit_form settings source (edit_indent at.option) path in
-    form_links-unlinked (option_form at.option) (flat_map edits (given.trimmed_of s)) (option-links at.option)
-    ∙ each-links edits (edit-links settings source (edit_indent at.option) path) (given.trimmed_of s)
+suggestion-links settings at s = grind (arith, form_links-unlinked, option-links, each-links, edit-links, at.names_path, s.path, at.option)
 
 -- the text form of an origin has no link
 pub origin-links : (anonymized : Bool) (o : Origin) → form_links (origin_form anonymized o) ≡ []

@@ -1,10 +1,11 @@
 -- The pieces of a text with marks in it, as the text and the marks grow.
-use Rattle.snippet_text_form.proofs.Common.{◌≡◌, ℕ, ◌+◌, ◌-◌, ◌<◌, ◌≤◌, List, [], ◌∷◌, ◌++◌, Result, Ok, Err}
-use Rattle.snippet_text_form.proofs.Common.{if◌then◌else◌, length, take, drop, sym, ap, ◌∙◌, subst, get_or, arith, append-nil, append_assoc}
-use Rattle.snippet_text_form.proofs.Common.{drop_more, map-append, IsUtf8-from_ascii, chars-append, chars-nil, is_utf8-from_IsUtf8, IsAscii-nil, OnOk, is_ok}
-use Rattle.snippet_text_form.proofs.Common.{IsUtf8, IsCharBoundary, is_utf8, BeginsWith, stretch, stretch_joined, stretch_grown, stretch_added}
-use Rattle.snippet_text_form.proofs.Common.{BeginsWith-added, BeginsWith-le, BeginsWith-same, boundary, front_grown, IsUtf8-stretch, is_utf8-end, FormPiece}
-use Rattle.snippet_text_form.proofs.Common.{Char, bare, piece_of_kind, pieces_from, chars_between, IsPlace, AreMarks, FormMark}
+use Rattle.std.proofs.lemmas.Grind.{common_steps}
+use Rattle.snippet_text_form.proofs.Common.{◌≡◌, ℕ, ◌+◌, ◌<◌, ◌≤◌, List, [], ◌∷◌, ◌++◌, Result, Ok, Err, if◌then◌else◌}
+use Rattle.snippet_text_form.proofs.Common.{length, drop, sym, ap, ◌∙◌, subst, get_or, arith, append-nil, append_assoc, drop_more, map-append}
+use Rattle.snippet_text_form.proofs.Common.{IsUtf8-from_ascii, chars-append, chars-nil, is_utf8-from_IsUtf8, OnOk, is_ok, IsUtf8, IsCharBoundary, BeginsWith}
+use Rattle.snippet_text_form.proofs.Common.{stretch, stretch_joined, stretch_grown, stretch_added, BeginsWith-added, BeginsWith-same, boundary, front_grown}
+use Rattle.snippet_text_form.proofs.Common.{IsUtf8-stretch, is_utf8-end, FormPiece, Char, bare, piece_of_kind, pieces_from, chars_between, IsPlace, AreMarks}
+use Rattle.snippet_text_form.proofs.Common.{FormMark}
 use Rattle.std.proofs.Common.{chars}
 use Rattle.snippet_text_form.specs.declared.form.MarkKind.TheVariants as kinds
 
@@ -15,11 +16,7 @@ first_place text from (m ∷ ms) are = are.0.from_is
 
 -- a place stays one when the text grows
 pub IsPlace-grown : (old new : List ℕ) (at : ℕ) → BeginsWith old new → IsPlace old at → IsPlace new at
-IsPlace-grown old new at grows is =
-    record {
-      within = omega (arith, is.within, BeginsWith-le old new grows);
-      whole = ap is_utf8 (front_grown old new at grows is.within) ∙ is.whole;
-    }
+IsPlace-grown old new at grows is = grind (arith, common_steps, front_grown, is.within, is.whole)
 
 -- marks stay when the text grows
 pub AreMarks-grown : (old new : List ℕ) (from : ℕ) (marks : List FormMark) → BeginsWith old new → AreMarks old from marks → AreMarks new from marks
@@ -42,13 +39,7 @@ IsPlace-end text utf8 = record { within = omega arith; whole = is_utf8-end text 
 -- what stands from a place on, once more was added
 rest_grown : (old new more : List ℕ) (from : ℕ) → new ≡ old ++ more → from ≤ length old
     → stretch new from (length new) ≡ stretch old from (length old) ++ more
-rest_grown old new more from is within =
-    let grows : BeginsWith old new = BeginsWith-added old more new is in
-    let added : stretch new (length old) (length new) ≡ more =
-    ap (λ (t : List ℕ). stretch t (length old) (length t)) is ∙ stretch_added old more in
-    sym (stretch_joined new from (length old) (length new) within (BeginsWith-le old new grows) (omega arith))
-    ∙ ap (λ (t : List ℕ). t ++ stretch new (length old) (length new)) (stretch_grown old new from (length old) grows (omega arith))
-    ∙ ap (λ (t : List ℕ). stretch old from (length old) ++ t) added
+rest_grown old new more from is within = grind (arith, common_steps, stretch_added, stretch_joined, stretch_grown)
 
 -- what stands between two places of a text
 between-utf8 : (text : List ℕ) (from to : ℕ) → IsUtf8 text → from ≤ to → IsPlace text from → IsPlace text to → IsUtf8 (stretch text from to)
@@ -75,26 +66,14 @@ pieces-text old new more from (m ∷ ms) utf8 is are =
 
 -- nothing stands after the end of a text
 none_after : (text : List ℕ) → chars_between text (length text) (length text) ≡ []
-none_after text =
-    let nothing : length text - length text ≡ 0 = omega arith in
-    ap (λ n. chars (take n (drop (length text) text))) nothing ∙ chars-nil
+none_after text = grind (arith, chars-nil)
 
 -- a mark that is added at the end, with its characters, stands after all pieces
 pub pieces-mark : (old new word : List ℕ) (from : ℕ) (marks : List FormMark) (mark : FormMark) → IsUtf8 old → new ≡ old ++ word → mark.start ≡ length old
     → mark.end ≡ length new → AreMarks old from marks
     → pieces_from new from (marks ++ mark ∷ []) ≡ pieces_from old from marks ++ piece_of_kind (chars word) mark.kind ∷ []
 pieces-mark old new word from [] mark utf8 is start end place =
-    let grows : BeginsWith old new = BeginsWith-added old word new is in
-    let front : stretch new from mark.start ≡ stretch old from (length old) = ap (λ n. stretch new from n) start
-    ∙ stretch_grown old new from (length old) grows (omega arith) in
-    let own : stretch new mark.start mark.end ≡ word = ap (λ s. stretch new s mark.end) start ∙ ap (λ e. stretch new (length old) e) end
-    ∙ ap (λ (t : List ℕ). stretch t (length old) (length t)) is ∙ stretch_added old word in
-    let rest : chars_between new mark.end (length new) ≡ [] = ap (λ s. chars_between new s (length new)) end ∙ none_after new in
-    ap (λ (bs : List ℕ). bare (chars bs) ++ piece_of_kind (chars_between new mark.start mark.end) mark.kind ∷ bare (chars_between new mark.end (length new)))
-    front
-    ∙ ap (λ (bs : List ℕ). bare (chars_between old from (length old)) ++ piece_of_kind (chars bs) mark.kind ∷ bare (chars_between new mark.end (length new)))
-    own
-    ∙ ap (λ (cs : List ℕ). bare (chars_between old from (length old)) ++ piece_of_kind (chars word) mark.kind ∷ bare cs) rest
+    grind (arith, common_steps, stretch_grown, stretch_added, none_after, bare, chars, mark.start, mark.end, mark.kind)
 pieces-mark old new word from (m ∷ ms) mark utf8 is start end are =
     let grows : BeginsWith old new = BeginsWith-added old word new is in
     let last : IsPlace old m.end = first_place old m.end ms are.1 in
@@ -111,28 +90,9 @@ pieces-mark old new word from (m ∷ ms) mark utf8 is start end are =
 pub AreMarks-mark : (old new word : List ℕ) (from : ℕ) (marks : List FormMark) (mark : FormMark) → IsUtf8 old → IsUtf8 new → new ≡ old ++ word
     → mark.start ≡ length old → mark.end ≡ length new → (mark.kind ≡ kinds.Break → word ≡ []) → AreMarks old from marks
     → AreMarks new from (marks ++ mark ∷ [])
-AreMarks-mark old new word from [] mark utf8 utf8_new is start end empty place =
-    let grows : BeginsWith old new = BeginsWith-added old word new is in
-    let last : IsPlace new (length old) = IsPlace-grown old new (length old) grows (IsPlace-end old utf8) in
-    let closed : IsPlace new mark.end = record {
-      within = omega (arith, end);
-      whole = ap (λ n. is_utf8 (take n new)) end ∙ is_utf8-end new utf8_new;
-    } in (
-      record {
-        from_is = IsPlace-grown old new from grows place;
-        start_is = record {
-          within = omega (arith, start, last.within);
-          whole = ap (λ n. is_utf8 (take n new)) start ∙ last.whole;
-        };
-        after = omega (arith, start, place.within);
-        ordered = omega (arith, start, end, BeginsWith-le old new grows);
-        empty = λ is_break. end ∙ ap length (is ∙ ap (λ (t : List ℕ). old ++ t) (empty is_break) ∙ append-nil old) ∙ sym start;
-      },
-      closed,
-    )
+AreMarks-mark old new word from [] mark utf8 utf8_new is start end empty place = grind (arith, common_steps, is_utf8-end, append-nil, mark.end, place.within)
 AreMarks-mark old new word from (m ∷ ms) mark utf8 utf8_new is start end empty are =
-    let grown = AreMarks-grown old new from (m ∷ ms) (BeginsWith-added old word new is) are in
-    (grown.0, AreMarks-mark old new word m.end ms mark utf8 utf8_new is start end empty are.1)
+    grind (arith, common_steps, AreMarks-mark old new word m.end ms mark utf8 utf8_new is start end empty are.1, m.end, are.1)
 
 -- ---- what is pushed to the text, where that may fail
 
@@ -145,18 +105,14 @@ BeginsWith-pushed (Err error) old new more is = subst (λ (t : List ℕ). Begins
 pub text_pushed-on_ok : {T E : Type 0} (r : Result T E) (old new more cs : List ℕ) (marks : List FormMark) (form : List FormPiece) → IsUtf8 old
     → AreMarks old 0 marks → pieces_from old 0 marks ≡ form → chars more ≡ cs → new ≡ (if is_ok r then old ++ more else old)
     → OnOk r (pieces_from new 0 marks ≡ form ++ bare cs)
-text_pushed-on_ok (Ok value) old new more cs marks form utf8 are form_is cs_are is =
-    pieces-text old new more 0 marks utf8 is are ∙ ap (λ (ps : List FormPiece). ps ++ bare (chars more)) form_is
-    ∙ ap (λ (ds : List ℕ). form ++ bare ds) cs_are
+text_pushed-on_ok (Ok value) old new more cs marks form utf8 are form_is cs_are is = grind (arith, pieces-text)
 text_pushed-on_ok (Err error) old new more cs marks form utf8 are form_is cs_are is = tt
 
 -- ---- a form without marks
 
 -- the start of a text is a place in it
 pub AreMarks-none : (text : List ℕ) (marks : List FormMark) → marks ≡ [] → AreMarks text 0 marks
-AreMarks-none text marks none =
-    let start : IsPlace text 0 = record { within = omega arith; whole = is_utf8-from_IsUtf8 [] (IsUtf8-from_ascii [] IsAscii-nil) } in
-    subst (λ (ms : List FormMark). AreMarks text 0 ms) (sym none) start
+AreMarks-none text marks none = grind (arith, is_utf8-from_IsUtf8, IsUtf8-from_ascii)
 
 -- an empty text without marks has no pieces
 pub pieces-none : (text : List ℕ) (marks : List FormMark) → text ≡ [] → marks ≡ [] → pieces_from text 0 marks ≡ []

@@ -1,4 +1,5 @@
 -- Which texts stand in a text form, one after the other.
+use Rattle.std.proofs.lemmas.Grind.{common_steps}
 use Rattle.snippet_text_form.proofs.Common.{◌≡◌, ℕ, nat_lt, ◌==◌, Bool, true, false, Option, None, List, [], ◌∷◌, ◌++◌, codes, filter}
 use Rattle.snippet_text_form.proofs.Common.{length, map, refl, sym, ap, subst, ◌∙◌, arith, flat_map, list_any, nat_tests, append-nil, slice_split_none}
 use Rattle.snippet_text_form.proofs.Common.{cow_str_bytes, option_map, Source, locations_of, Heading, Annotation, Snippet, shown_text, heading_lines, width_of}
@@ -44,8 +45,7 @@ stand-after (b ∷ bs) p q stand = (
   stand.0,
   record {
     before = p ++ stand.1.before;
-    whole_is = ap (λ w. p ++ w) stand.1.whole_is
-        ∙ sym (append_assoc p stand.1.before (b ++ stand.0));
+    whole_is = grind (arith, common_steps, append_assoc, stand.1.whole_is, stand.1.before, stand.0);
   },
   stand.2,
 )

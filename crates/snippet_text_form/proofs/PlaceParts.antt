@@ -49,21 +49,14 @@ module _ (P : ℕ → Type 0) (printable : (c : ℕ) → is_odd c ≡ false → 
   -- places
   after_path-each : (anonymized : Bool) (line column : Option ℕ) → All P (after_path anonymized line column)
   after_path-each anonymized None column = column_words-each column
-  after_path-each anonymized (Some line) column =
-      append-each (codes ":" ++ line_name anonymized line) (column_text column)
-      (append-each (codes ":") (line_name anonymized line) (known-each (codes ":") refl) (line_name-each anonymized line)) (column_text-each column)
+  after_path-each anonymized (Some line) column = grind (arith, append-each, known-each, line_name-each, column_text-each)
 
   pub place_in_file-each : (anonymized : Bool) (path : List ℕ) (line column : Option ℕ) → All P (norm (chars path))
       → All P (place_in_file anonymized path line column)
-  place_in_file-each anonymized path line column own =
-      append-each (codes "at " ++ norm (chars path)) (after_path anonymized line column)
-      (append-each (codes "at ") (norm (chars path)) (known-each (codes "at ") refl) own) (after_path-each anonymized line column)
+  place_in_file-each anonymized path line column own = grind (arith, append-each, known-each, after_path-each)
 
   place_on_line-each : (anonymized : Bool) (line : ℕ) (column : Option ℕ) → All P (place_on_line anonymized line column)
-  place_on_line-each anonymized line column =
-      append-each (codes "on line " ++ line_name anonymized line) (column_words column)
-      (append-each (codes "on line ") (line_name anonymized line) (known-each (codes "on line ") refl) (line_name-each anonymized line))
-      (column_words-each column)
+  place_on_line-each anonymized line column = grind (arith, append-each, known-each, line_name-each, column_words-each)
 
   pub place-each : (anonymized : Bool) (path : Option (List ℕ)) (line : ℕ) (column : Option ℕ) → PathIs path → All P (place anonymized path line column)
   place-each anonymized None line column own = place_on_line-each anonymized line column
@@ -124,10 +117,7 @@ module _ (P : ℕ → Type 0) (printable : (c : ℕ) → is_odd c ≡ false → 
   pub span_text-each : (anonymized : Bool) (source : Source) (indent : List ℕ) (path : Option (List ℕ)) (a : Annotation) → All P indent → PathIs path
       → All P (label_characters a) → All P (span_text anonymized source indent path a)
   span_text-each anonymized source indent path a blank own label =
-      let at = locations_of source a.span.start a.span.end in
-      let place : List ℕ = span_place anonymized source path at.0 at.1 in
-      append-each (indent ++ place) (after_place (label_characters a)) (append-each indent place blank (span_place-each anonymized source path at.0 at.1 own))
-      (after_place-each (label_characters a) label)
+      grind (arith, locations_of, append-each, span_place-each, after_place-each, a.span.start, a.span.end)
 
   pub further_indent-each : (path : Option (List ℕ)) → All P (further_indent path)
   further_indent-each None = known-each (codes " ") refl

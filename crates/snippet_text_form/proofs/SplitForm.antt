@@ -1,10 +1,11 @@
 -- The lines of a heading's text, and what they add to a form.
+use Rattle.std.proofs.lemmas.Grind.{common_steps}
 use Rattle.snippet_text_form.proofs.Common.{◌≡◌, ◌≢◌, ℕ, zero, suc, ◌+◌, ◌<◌, ◌==◌, Bool, true, false, List, [], ◌∷◌, ◌++◌}
 use Rattle.snippet_text_form.proofs.Common.{length, map, replicate, if◌then◌else◌, All, Result, refl, subst, sym, ap, ◌∙◌, arith, Bor}
-use Rattle.snippet_text_form.proofs.Common.{enumerate_from, flat_map, onto_first, OnOk, IsUtf8, nat_tests, flat_map-append, append-nil, append_assoc}
-use Rattle.snippet_text_form.proofs.Common.{length-map, map-append, list_any, All-weaker, chars-IsAscii, IsAscii-from_all, slice_split-cons_no}
-use Rattle.snippet_text_form.proofs.Common.{slice_split-cons_yes, length-slice_split, ElementStyle, norm, shown, IsPlain, lines_at-plain, lines_at}
-use Rattle.snippet_text_form.proofs.Common.{lines_at-after, lines_at-chars, FormPiece, bare, styled, further_line, lines_form, before_line}
+use Rattle.snippet_text_form.proofs.Common.{enumerate_from, onto_first, OnOk, IsUtf8, nat_tests, flat_map-append, append-nil, append_assoc, length-map}
+use Rattle.snippet_text_form.proofs.Common.{map-append, list_any, All-weaker, chars-IsAscii, slice_split-cons_no, slice_split-cons_yes, length-slice_split}
+use Rattle.snippet_text_form.proofs.Common.{ElementStyle, norm, shown, IsPlain, lines_at-plain, lines_at, lines_at-after, lines_at-chars, FormPiece, bare}
+use Rattle.snippet_text_form.proofs.Common.{styled, lines_form, before_line}
 use Rattle.std.proofs.Common.{chars}
 use Rattle.snippet_model.proofs.RowLemmas.{each_fails as All-from_none}
 use Rattle.snippet_titles.proofs.LineLemmas.{line_of}
@@ -13,7 +14,7 @@ use Rattle.snippet_titles.proofs.LineLemmas.{line_of}
 
 -- what is shown for a character that is no line feed holds none
 list_any-shown_feed : (c : ℕ) → (c == 10) ≡ false → list_any (λ b. b == 10) (shown c) ≡ false
-list_any-shown_feed c other = grind (arith, nat_tests, other)
+list_any-shown_feed c other = grind (arith, nat_tests)
 
 norm-onto : (c : ℕ) (rest : List ℕ) (parts : List (List ℕ)) → (c == 10) ≡ false → lines_at (norm rest) ≡ map norm parts → 0 < length parts
     → lines_at (shown c ++ norm rest) ≡ map norm (onto_first c parts)
@@ -25,12 +26,8 @@ norm-onto c rest (part ∷ parts) other is some =
 norm-step : (c : ℕ) (cs : List ℕ) (feed : Bool) → (c == 10) ≡ feed → lines_at (norm cs) ≡ map norm (lines_at cs)
     → lines_at (shown c ++ norm cs) ≡ map norm (lines_at (c ∷ cs))
 unfolding norm
-norm-step c cs true is same =
-    let feed : c ≡ 10 = grind (arith, nat_tests, is) in
-    ap (λ d. lines_at (shown d ++ norm cs)) feed ∙ ap (λ parts. [] ∷ parts) same ∙ ap (map norm) (sym (slice_split-cons_yes (λ d. d == 10) c cs is))
-norm-step c cs false is same =
-    norm-onto c cs (lines_at cs) is same (omega (arith, length-slice_split (λ b. b == 10) cs))
-    ∙ ap (map norm) (sym (slice_split-cons_no (λ d. d == 10) c cs is))
+norm-step c cs true is same = grind (arith, nat_tests, slice_split-cons_yes)
+norm-step c cs false is same = grind (arith, norm-onto, length-slice_split, slice_split-cons_no)
 
 pub lines_at-norm : (cs : List ℕ) → lines_at (norm cs) ≡ map norm (lines_at cs)
 unfolding norm
@@ -71,19 +68,13 @@ shown_lines-numbered trusted n (line ∷ lines) =
 pub shown_lines-all : (styling trusted : Bool) (own text : List ℕ) (numbered : List (ℕ × Bor (List ℕ))) → trusted ≡ styling → IsUtf8 text → text ≡ own
     → map (λ (p : ℕ × Bor (List ℕ)). (p.0, p.1.now)) numbered ≡ enumerate_from 0 (lines_at text)
     → lines_so_far trusted numbered ≡ lines_at (if styling then chars own else norm (chars own))
-shown_lines-all styling trusted own text numbered trusts utf8 is all =
-    shown_lines-seen trusted numbered ∙ ap (map (λ (p : ℕ × List ℕ). line_shown trusted (chars p.1))) all
-    ∙ shown_lines-numbered trusted 0 (lines_at text) ∙ ap (map (line_shown trusted)) (lines_at-chars text utf8)
-    ∙ shown_lines-of trusted (chars text) ∙ ap (λ (b : Bool). lines_at (if b then chars text else norm (chars text))) trusts
-    ∙ ap (λ (bs : List ℕ). lines_at (if styling then chars bs else norm (chars bs))) is
+shown_lines-all styling trusted own text numbered trusts utf8 is all = grind (arith, shown_lines-seen, shown_lines-numbered, lines_at-chars, shown_lines-of)
 
 -- one line more
 lines_form-push : (role : ElementStyle) (width : ℕ) (lines : List (List ℕ)) (line : List ℕ)
     → lines_form role width (lines ++ line ∷ []) ≡ lines_form role width lines ++ (bare (before_line width (length lines)) ++ styled role line)
 lines_form-push role width [] line = refl
-lines_form-push role width (first ∷ lines) line =
-    ap (λ (ps : List FormPiece). styled role first ++ ps) (flat_map-append (further_line role width) lines (line ∷ [])
-    ∙ ap (λ (ps : List FormPiece). flat_map (further_line role width) lines ++ ps) (append-nil (further_line role width line)))
+lines_form-push role width (first ∷ lines) line = grind (arith, flat_map-append, append-nil)
 
 -- the form after these lines
 abbrev pub with_lines : List FormPiece → ElementStyle → ℕ → Bool → List (ℕ × Bor (List ℕ)) → List FormPiece
@@ -101,18 +92,7 @@ pub line_added : (old form one new : List FormPiece) (role : ElementStyle) (widt
     → one ≡ form ++ bare (before_line width index) → new ≡ one ++ styled role text → text ≡ line_shown trusted (chars line.now)
     → new ≡ with_lines old role width trusted (numbered ++ (index, line) ∷ [])
 line_added old form one new role width index trusted numbered line text at is first second shows =
-    let ls : List (List ℕ) = lines_so_far trusted numbered in
-    let l : List ℕ = line_shown trusted (chars line.now) in
-    let before : List FormPiece = lines_form role width ls in
-    let count : index ≡ length ls = at ∙ sym (length-map numbered (λ p. line_shown trusted (line_of p))) in
-    let both : lines_so_far trusted (numbered ++ (index, line) ∷ []) ≡ ls
-    ++ l ∷ [] = map-append (λ p. line_shown trusted (line_of p)) numbered ((index, line) ∷ []) in
-    second ∙ ap (λ (ps : List FormPiece). ps ++ styled role text) first ∙ append_assoc form (bare (before_line width index)) (styled role text)
-    ∙ ap (λ (cs : List ℕ). form ++ (bare (before_line width index) ++ styled role cs)) shows
-    ∙ ap (λ n. form ++ (bare (before_line width n) ++ styled role l)) count
-    ∙ ap (λ (ps : List FormPiece). ps ++ (bare (before_line width (length ls)) ++ styled role l)) is
-    ∙ append_assoc old before (bare (before_line width (length ls)) ++ styled role l)
-    ∙ ap (λ (ps : List FormPiece). old ++ ps) (sym (lines_form-push role width ls l) ∙ ap (lines_form role width) (sym both))
+    grind (arith, length-map, map-append, append_assoc, lines_form-push, line.now)
 
 -- what stands before a further line
 pub before_line-later : (width index : ℕ) → index ≢ 0 → 10 ∷ replicate width 32 ≡ before_line width index
@@ -121,10 +101,7 @@ before_line-later width (suc index) other = refl
 
 -- a text of printable ASCII that is shown as it is is one line
 pub plain_lines : (text shown : List ℕ) → All IsPlain text → chars text ≡ shown → lines_at shown ≡ chars text ∷ []
-plain_lines text shown plain is =
-    let ascii = IsAscii-from_all text (All-weaker IsPlain (λ b. b < 128) (λ b own. omega (arith, own.1)) text plain) in
-    let same : chars text ≡ text = chars-IsAscii text ascii in
-    ap lines_at (sym is ∙ same) ∙ lines_at-plain text plain ∙ ap (λ (t : List ℕ). t ∷ []) (sym same)
+plain_lines text shown plain is = grind (arith, common_steps, All-weaker, chars-IsAscii, lines_at-plain)
 
 -- one line that is added is all of them
 pub one_added-on_ok : {T E : Type 0} (r : Result T E) (old new : List FormPiece) (role : ElementStyle) (width : ℕ) (line : List ℕ) (lines : List (List ℕ))

@@ -1,10 +1,10 @@
 -- What is added to a text form for a suggestion, one text after the other.
-use Rattle.snippet_text_form.proofs.Common.{◌≡◌, ℕ, ◌+◌, ◌<◌, Bool, true, false, not, Option, Some, List, [], ◌∷◌, ◌++◌, get_or}
-use Rattle.snippet_text_form.proofs.Common.{length, map, take, sym, ap, subst, ◌∙◌, and_from, cond-false, cond-true, flat_map_more, map_more}
-use Rattle.snippet_text_form.proofs.Common.{cow_str_bytes, flat_map, option_map, Source, IsSpan, Loc, Patch, Snippet, Edit, trimmed_edit_of, TrimmedPatch}
-use Rattle.snippet_text_form.proofs.Common.{trimmed_of, numbered_source, is_blank_text, IsPrepared, PreparedSuggestion, column_unless, FormPiece, Break, place}
-use Rattle.snippet_text_form.proofs.Common.{edit_form, edit_indent, edit_place, replaces_whole_line, named_path, option_form, overwrites, replaced_to, replaces}
-use Rattle.snippet_text_form.proofs.Common.{suggestion_form, SuggestionContext, SuggestionSettings}
+use Rattle.std.proofs.Common.{arith}
+use Rattle.snippet_text_form.proofs.Common.{◌≡◌, ℕ, ◌+◌, ◌<◌, Bool, true, false, Option, Some, List, [], ◌∷◌, ◌++◌, get_or, length}
+use Rattle.snippet_text_form.proofs.Common.{map, take, sym, ap, subst, ◌∙◌, and_from, cond-false, cond-true, flat_map_more, map_more, cow_str_bytes}
+use Rattle.snippet_text_form.proofs.Common.{flat_map, option_map, Source, IsSpan, Loc, Edit, trimmed_edit_of, TrimmedPatch, is_blank_text, IsPrepared}
+use Rattle.snippet_text_form.proofs.Common.{PreparedSuggestion, column_unless, FormPiece, Break, place, edit_form, edit_indent, edit_place, replaces_whole_line}
+use Rattle.snippet_text_form.proofs.Common.{named_path, option_form, overwrites, replaced_to, replaces, suggestion_form, SuggestionContext, SuggestionSettings}
 use Rattle.snippet_text_form.proofs.AddedLemmas.{added-two}
 
 -- a text on a line of its own
@@ -21,17 +21,12 @@ seen_over text source e over same span asked =
 pub replaced_place : (anonymized : Bool) (source : Source) (path : Option (List ℕ)) (e : Edit) (start end : Loc) → overwrites source.text e ≡ true
     → is_blank_text e.text ≡ false → edit_place anonymized source path e start end ≡ place anonymized path start.line (Some (start.char + 1))
     ++ replaced_to anonymized start end
-replaced_place anonymized source path e start end over given =
-    cond-true (replaces source.text e) (place anonymized path start.line (Some (start.char + 1)) ++ replaced_to anonymized start end)
-    (place anonymized path start.line (column_unless (replaces_whole_line source start end e) start))
-    (and_from (overwrites source.text e) (not (is_blank_text e.text)) over (ap not given))
+replaced_place anonymized source path e start end over given = grind (arith, cond-true, and_from, source.text, start.line, start.char, e.text)
 
 -- the place of an edit that doesn't replace text is where it starts
 pub other_place : (anonymized : Bool) (source : Source) (path : Option (List ℕ)) (e : Edit) (start end : Loc) → replaces source.text e ≡ false
     → edit_place anonymized source path e start end ≡ place anonymized path start.line (column_unless (replaces_whole_line source start end e) start)
-other_place anonymized source path e start end other =
-    cond-false (replaces source.text e) (place anonymized path start.line (Some (start.char + 1)) ++ replaced_to anonymized start end)
-    (place anonymized path start.line (column_unless (replaces_whole_line source start end e) start)) other
+other_place anonymized source path e start end other = grind (arith, cond-false, source.text, start.line, start.char)
 
 -- what is added for one more patch
 pub edits_more : (f : Edit → List FormPiece) (old mid new : List FormPiece) (ps : List TrimmedPatch) (i : ℕ) (d : TrimmedPatch) → i < length ps
@@ -50,13 +45,4 @@ pub suggestion_added : (settings : SuggestionSettings) (at : SuggestionContext) 
     → new ≡ old ++ suggestion_form settings at p.snippet.now
 unfolding suggestion_form
 suggestion_added settings at p indent path old mid new is indents names first last =
-    let s : Snippet Patch = p.snippet.now in
-    let edits : List Edit = map trimmed_edit_of p.splice.patches.items in
-    let named : Option (List ℕ) = named_path at.names_path (option_map cow_str_bytes s.path) in
-    let forms : flat_map (edit_form settings p.map indent path) edits ≡ flat_map (edit_form settings (numbered_source s) (edit_indent at.option) named)
-    (trimmed_of s) = ap (λ source. flat_map (edit_form settings source indent path) edits) is.lines
-    ∙ ap (λ text. flat_map (edit_form settings (numbered_source s) text path) edits) indents
-    ∙ ap (λ to. flat_map (edit_form settings (numbered_source s) (edit_indent at.option) to) edits) names
-    ∙ ap (λ es. flat_map (edit_form settings (numbered_source s) (edit_indent at.option) named) es) is.edits in
-    added-two old mid new (option_form at.option) (flat_map (edit_form settings p.map indent path) edits) first last
-    ∙ ap (λ form. old ++ (option_form at.option ++ form)) forms
+    grind (arith, added-two, p.snippet.now, p.splice.patches.items, at.names_path, p.map, at.option, is.lines, is.edits)

@@ -1,4 +1,6 @@
-use Rattle.snippet_text_form.proofs.Common.{◌≡◌, ℕ, ◌+◌, ◌++◌, ◌∙◌, List, Option, Some, ap, false, not, sym, true, and_left, and_right}
+use Rattle.std.proofs.Common.{arith}
+use Rattle.std.proofs.lemmas.Grind.{common_steps}
+use Rattle.snippet_text_form.proofs.Common.{◌≡◌, ℕ, ◌+◌, ◌++◌, ◌∙◌, List, Option, Some, ap, false, sym, true, and_left, and_right}
 use Rattle.snippet_text_form.proofs.Common.{on_ok_weaker, option_copied, Edit, trimmed_edit_of, is_blank_text, column_unless, FormPiece, bare, place}
 use Rattle.snippet_text_form.proofs.Common.{replaces_whole_line, overwrites, replaced_to, replaces}
 use Rattle.snippet_text_form.proofs.AddedLemmas.{text-two}
@@ -43,10 +45,8 @@ returns-else-overwrites c =
     let seen : c.overwrites.result ≡ over = seen_over c.source.result.now map.text e c.overwrites.result c.source.ensures.value c.requires.span
     c.overwrites.ensures.value in
     let other : replaces map.text e ≡ false = elim c.else-overwrites.branch [
-      | else-overwrites-via-then-overwrites+else-not-is_blank w ↦
-          and_right over (not (is_blank_text e.text)) (ap not (sym w.is_blank.ensures.value ∙ w.if-not-is_blank.false))
-      | else-overwrites-via-else-overwrites w ↦
-          and_left over (not (is_blank_text e.text)) (sym seen ∙ w.if-overwrites.false)
+      | else-overwrites-via-then-overwrites+else-not-is_blank w ↦ grind (arith, common_steps, and_right, over, e, e.text)
+      | else-overwrites-via-else-overwrites w ↦ grind (arith, common_steps, and_left, over, e, seen, e.text)
     ] in
     let column : c.column_unless-column.result ≡ column_unless (replaces_whole_line map start end e) start = c.column_unless-column.ensures.value
     ∙ ap (λ whole. column_unless whole start) c.is_whole_line-whole.ensures.value in

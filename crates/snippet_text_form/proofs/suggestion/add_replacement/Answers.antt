@@ -1,6 +1,6 @@
-use Rattle.snippet_text_form.proofs.Common.{◌≡◌, ℕ, [], List, ◌++◌, ◌∙◌, ap, codes, false, if◌then◌else◌, refl, sym, cond-false}
-use Rattle.snippet_text_form.proofs.Common.{cond-true, on_ok_weaker, chars-encodes, Bor, cow_str_bytes, Edit, trimmed_edit_of, without_final_line_feeds}
-use Rattle.snippet_text_form.proofs.Common.{Addition, is_blank_text, norm, FormPiece, bare, styled, added_text, before_added, overwrites}
+use Rattle.snippet_text_form.proofs.Common.{◌≡◌, ℕ, [], List, ◌++◌, ◌∙◌, ap, codes, false, refl, sym, cond-false, cond-true, on_ok_weaker}
+use Rattle.snippet_text_form.proofs.Common.{chars-encodes, Bor, cow_str_bytes, Edit, trimmed_edit_of, Addition, is_blank_text, FormPiece, bare, styled}
+use Rattle.snippet_text_form.proofs.Common.{added_text, before_added, overwrites}
 use Rattle.std.proofs.Common.{chars}
 use Rattle.snippet_text_form.proofs.AddedLemmas.{added-two}
 use Rattle.snippet_text_form.proofs.suggestion.add_replacement.Goals as goal

@@ -1,20 +1,18 @@
-use Rattle.snippet_text_form.proofs.Common.{◌≡◌, ℕ, All, List, Option, ◌++◌, ◌∙◌, ap, map, subst, sym, take, append-nil, take_all, flat_map}
+use Rattle.std.proofs.lemmas.Grind.{common_steps}
+use Rattle.std.proofs.Common.{arith, chars}
+use Rattle.snippet_text_form.proofs.Common.{◌≡◌, ℕ, All, List, Option, ◌++◌, ◌∙◌, ap, map, take, append-nil, take_all, flat_map}
 use Rattle.snippet_text_form.proofs.Common.{option_copied, IsSpan, Edit, trimmed_edit_of, TrimmedPatch, known_spans, FormPiece, edit_form}
-use Rattle.std.proofs.Common.{chars}
 use Rattle.snippet_text_form.proofs.SuggestionLemmas.{edits_more, suggestion_added}
 use Rattle.snippet_text_form.proofs.suggestion.add_suggestion.Goals as goal
 
 pub loop-patch-init : goal.loop-patch-init
-loop-patch-init c =
-    let begun : List FormPiece = c.add_option.new.form in
-    sym (append-nil begun)
+loop-patch-init c = grind (arith, append-nil, c.add_option.new.form)
 
 pub add_patch-requires : goal.add_patch-requires
 add_patch-requires c =
     let p = c.args.suggestion.now in
-    let spans : All (λ (t : TrimmedPatch). IsSpan p.map.text t.span.start t.span.end) c.deref-patch-items.result.now = subst
-    (λ (ts : List TrimmedPatch). All (λ t. IsSpan p.map.text t.span.start t.span.end) ts) (sym c.deref-patch-items.ensures.value)
-    (known_spans p c.requires.prepared) in
+    let spans : All (λ (t : TrimmedPatch). IsSpan p.map.text t.span.start t.span.end) c.deref-patch-items.result.now =
+    grind (arith, common_steps, p, known_spans, p.map.text, c.deref-patch-items.ensures.value, c.requires.prepared) in
     record { span = spans c.loop-patch.patch-index _ c.loop-patch-test.true }
 
 pub loop-patch-preserved : goal.loop-patch-preserved

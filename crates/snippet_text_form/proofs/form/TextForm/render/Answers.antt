@@ -1,7 +1,7 @@
-use Rattle.snippet_text_form.proofs.Common.{◌≡◌, ◌∙◌, ◌++◌, ◌∷◌, [], ◌+◌, List, ℕ, nat_lt, ap, drop, get_or, subst, sym}
-use Rattle.snippet_text_form.proofs.Common.{string_bytes, flat_map, drop_all, drop_more, IsWoven, piece_text, form_bytes, form_text, woven_from, piece_of_kind}
-use Rattle.snippet_text_form.proofs.Common.{form_links, FormMark}
-use Rattle.std.proofs.Common.{chars}
+use Rattle.std.proofs.Common.{arith, chars}
+use Rattle.std.proofs.lemmas.Grind.{common_steps}
+use Rattle.snippet_text_form.proofs.Common.{◌≡◌, ◌∙◌, ◌++◌, ◌∷◌, [], ◌+◌, List, ℕ, nat_lt, ap, drop, get_or, subst, string_bytes}
+use Rattle.snippet_text_form.proofs.Common.{flat_map, drop_all, drop_more, piece_text, form_bytes, woven_from, piece_of_kind, FormMark}
 use Rattle.snippet_text_form.proofs.FormLaws.{form-woven}
 use Rattle.snippet_text_form.proofs.FormSteps.{IsRenderedTo, IsRenderedTo-all, IsRenderedTo-mark}
 use Rattle.snippet_text_form.proofs.MarkLemmas.{first_place, mark_here, no_mark, place_boundary}
@@ -64,6 +64,5 @@ returns c =
     (c.in_ok-push_some-2.ensures.bytes ∙ ap (λ (bs : List ℕ). string_bytes c.loop-mark.out ++ bs) c.range-2.ensures.value) in
     record {
       text = whole;
-      woven = subst (λ (t : List ℕ). IsWoven c.args.sheet.now t (form_text c.args.self.now) (form_links c.args.self.now)) (sym whole)
-          (form-woven c.args.sheet.now c.args.self.now);
+      woven = grind (arith, common_steps, whole, form-woven, c.args.sheet.now, c.args.self.now);
     }
