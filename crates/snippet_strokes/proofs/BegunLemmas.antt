@@ -1,10 +1,11 @@
 -- The rows that strokes are drawn into: as they are begun, read from the left or the right, and cut where entries are wide.
+use Rattle.std.proofs.lemmas.Grind.{common_steps}
 use Rattle.snippet_strokes.proofs.Common.{◌≡◌, ℕ, ◌+◌, ◌-◌, ◌<◌, ◌≤◌, ◌==◌, ◌&&◌, cond, Bool, true, false, List, []}
 use Rattle.snippet_strokes.proofs.Common.{◌∷◌, ◌++◌, length, take, drop, replicate, get_or, refl, sym, ap, ◌∙◌, subst, arith, inl, inr, All}
 use Rattle.snippet_strokes.proofs.Common.{Contains, zero, suc, map, slice_index_or, IsPermutation, and_parts, cases_lt, cases_eq, nat_tests, places}
 use Rattle.snippet_strokes.proofs.Common.{length-append, length-replicate, get_or_append_left, get_or_push, length_push, get_or-drop, get_or_past}
 use Rattle.snippet_strokes.proofs.Common.{get_or-replicate, ext_get_or, append-nil, append_assoc, take-append-drop, drop_all, get_or-take, replicate_more}
-use Rattle.snippet_strokes.proofs.Common.{and-false, and-true, drop-append_seam, All-get_or, Contains-permutation, IsPermutation-map, IsPermutation-trans}
+use Rattle.snippet_strokes.proofs.Common.{and-false, and-true, drop-append_seam, Contains-permutation, IsPermutation-map, IsPermutation-trans}
 use Rattle.snippet_strokes.proofs.Common.{sum_by-IsPermutation, AllPass-from_list_all, LineAnnotation, is_wide_entry, placeholder_of, DecorStyle, row_at, Cell}
 use Rattle.snippet_strokes.proofs.Common.{SPACE, written, take-written_past, drop-written, Layout, PlacedEntry, IsBarCell, IsFreeCell, IsFree, row_count}
 use Rattle.snippet_strokes.proofs.Common.{HasRows, bare_row, separator_row, painting_order, ArePlaced, get_or-map, length-map, Contains-get_or}
@@ -83,12 +84,10 @@ written_far row cells at short =
     take-written_past SPACE row (at + 1) cells (omega arith) ∙ ap (λ n. row ++ replicate n SPACE) one
     ∙ ap (λ xs. row ++ xs) (sym (replicate_more (at - length row) SPACE))
     ∙ sym (append_assoc row (replicate (at - length row) SPACE) (SPACE ∷ [])) in
-    let back : drop (at + 1) whole ≡ cells = drop-written SPACE row (at + 1) cells
-    ∙ ap (λ xs. cells ++ xs) (drop_all (at + 1 + length cells) row (omega arith)) ∙ append-nil cells in
+    let back : drop (at + 1) whole ≡ cells = grind (arith, common_steps, drop-written, drop_all, append-nil) in
     let all : whole ≡ pad ++ SPACE ∷ cells = sym (take-append-drop (at + 1) whole) ∙ ap (λ xs. xs ++ drop (at + 1) whole) front
     ∙ ap (λ xs. (pad ++ SPACE ∷ []) ++ xs) back ∙ append_assoc pad (SPACE ∷ []) cells in
-    let long : length pad ≡ at = length-append row (replicate (at - length row) SPACE) ∙ ap (λ n. length row + n) (length-replicate (at - length row) SPACE)
-    ∙ let full : length row + (at - length row) ≡ at = omega arith in full in
+    let long : length pad ≡ at = grind (arith, common_steps, length-append, length-replicate) in
     ap (λ n. drop n whole) (sym long) ∙ ap (drop (length pad)) all ∙ drop-append_seam pad (SPACE ∷ cells)
 
 -- two rows that are as long and agree from a cell on
@@ -100,7 +99,7 @@ same_after xs ys at long same =
 
 -- a cell of a row that is free, and the space after it
 pub free_cell : (row : List Cell) → IsFree row → (c : ℕ) → IsFreeCell (slice_index_or row c SPACE)
-free_cell row free c = grind (arith, cases_lt, All-get_or, get_or_past)
+free_cell row free c = grind (arith, cases_lt, get_or_past)
 
 -- the sole element of a list
 pub sole : {X : Type 0} (xs : List X) → length xs ≡ 1 → (x : X) × (xs ≡ x ∷ [])

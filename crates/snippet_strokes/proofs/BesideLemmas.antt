@@ -1,12 +1,13 @@
 -- Bars that are drawn into a source row before its code.
-use Rattle.snippet_strokes.proofs.Common.{◌≡◌, ◌≢◌, ℕ, ◌+◌, ◌-◌, ◌<◌, ◌≤◌, false, List, [], ◌∷◌, ◌++◌}
-use Rattle.snippet_strokes.proofs.Common.{length, get_or, refl, sym, ap, ◌∙◌, arith, inl, inr, All, not, cases_eq, cases_lt, false≢true, not-true}
-use Rattle.snippet_strokes.proofs.Common.{list_any_at, ext_get_or, All-head, All-tail, filter_passes, LineAnnotation, LineNumber, Cell, SPACE}
-use Rattle.snippet_strokes.proofs.Common.{text_cells, separator_of, length-text_cells, length-written, slice_index_or-written_after}
-use Rattle.snippet_strokes.proofs.Common.{slice_index_or-written_before, slice_index_or-written_inside, cells_written, Layout, bar_cell, separator_row-begun}
-use Rattle.snippet_strokes.proofs.Common.{BarStroke, Top, Solid, OpenBar, bars_apart, HasBarRoom, bar_cell_part, barred, has_depth, with_cells, highlighted_row}
+use Rattle.std.proofs.lemmas.Grind.{common_steps}
+use Rattle.snippet_strokes.proofs.Common.{◌≡◌, ◌≢◌, ℕ, ◌+◌, ◌-◌, ◌<◌, ◌≤◌, false, List, [], ◌∷◌, ◌++◌, length, get_or}
+use Rattle.snippet_strokes.proofs.Common.{refl, sym, ap, ◌∙◌, arith, inl, inr, All, not, cases_eq, cases_lt, false≢true, not-true, list_any_at}
+use Rattle.snippet_strokes.proofs.Common.{ext_get_or, All-head, All-tail, filter_passes, LineAnnotation, LineNumber, Cell, SPACE, text_cells, separator_of}
+use Rattle.snippet_strokes.proofs.Common.{length-text_cells, length-written, slice_index_or-written_after, slice_index_or-written_before}
+use Rattle.snippet_strokes.proofs.Common.{slice_index_or-written_inside, cells_written, Layout, bar_cell, separator_row-begun, BarStroke, Top, Solid, OpenBar}
+use Rattle.snippet_strokes.proofs.Common.{bars_apart, HasBarRoom, bar_cell_part, barred, has_depth, with_cells, highlighted_row}
 use Rattle.std.proofs.Common.{chars}
-use Rattle.snippet_strokes.proofs.CellLemmas.{with_bar, with_parts, role_in_source}
+use Rattle.snippet_strokes.proofs.CellLemmas.{with_bar, with_parts}
 use Rattle.snippet_strokes.proofs.BarLemmas.{BarsDrawn-with_parts}
 use Rattle.snippet_strokes.proofs.BarRows.{barred-below}
 use Rattle.snippet_strokes.proofs.LineFromValue.{highlighted_row_is}
@@ -62,13 +63,7 @@ module _ (layout : Layout) (dropped : ℕ) (es : List LineAnnotation) where
               ]
             ]
         | inr right ↦
-            let after : at + length part ≤ c = omega (arith, right, room.1) in
-            let reaches : c < length one = omega (arith, within, over.width) in
-            let inside : c < length cells = omega (arith, reaches, long, after) in
-            over.cells c reaches
-            ∙ ap (λ (cell : Cell). record cell { role = role_in_source layout.code dropped es c cell.role })
-            (slice_index_or-written_after SPACE cells at part c SPACE after)
-            ∙ sym (plain.cells c inside) ∙ sym (slice_index_or-written_after SPACE (lit cells) at part c SPACE after)
+            grind (arith, common_steps, at, part, one, over, long, slice_index_or-written_after, plain, room.1, over.width, over.cells, plain.cells)
       ])
 
   pub lit_bars : (stroke : BarStroke) (bars : List OpenBar) (row : List Cell) → All (HasBarRoom layout) bars

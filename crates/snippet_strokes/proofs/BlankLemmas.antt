@@ -99,7 +99,7 @@ passed_more text es i last next d within asks before = grind (arith, common_step
 -- a bar more
 pub bar_passed : (text : List ℕ) (es : List LineAnnotation) (i last next depth : ℕ) (d : LineAnnotation) → i < length es
     → (get_or es i d).annotation_type ≡ MultilineLine depth → next ≡ last → PassedTo text es i last → PassedTo text es (i + 1) next
-bar_passed text es i last next depth d within bar is = grind (arith, common_steps, nat_tests, passed_more, true_last)
+bar_passed text es i last next depth d within bar is = grind (arith, common_steps, nat_tests, true_last)
 
 -- the greater of two numbers, as it is computed
 greater_is : (a b : ℕ) → ord_max nat_cmp a b ≡ max a b
@@ -109,4 +109,4 @@ greater_is a b = grind (arith, nat_tests)
 pub start_passed : (text : List ℕ) (es : List LineAnnotation) (i last next depth : ℕ) (d : LineAnnotation) → i < length es
     → (get_or es i d).annotation_type ≡ MultilineStart depth → next ≡ ord_max nat_cmp last (get_or es i d).start.display
     → PassedTo text es i last → PassedTo text es (i + 1) next
-start_passed text es i last next depth d within starts is = grind (arith, common_steps, nat_tests, passed_more, greater_is, blank_both)
+start_passed text es i last next depth d within starts is = grind (arith, common_steps, nat_tests, greater_is, blank_both)

@@ -1,16 +1,17 @@
 -- The cells of a window, and how they are written.
-use Rattle.snippet_strokes.proofs.Common.{◌≡◌, ℕ, ◌+◌, ◌-◌, ◌<◌, ◌≤◌, ◌^◌, ◌==◌, cond, true, false, Option, None, Some}
-use Rattle.snippet_strokes.proofs.Common.{IfSome, List, [], ◌∷◌, ◌++◌, length, drop, refl, sym, ap, ◌∙◌, arith, add-zero, All, IsUtf8, nat_lt}
-use Rattle.snippet_strokes.proofs.Common.{places, same_lists, All-take, All-drop, chars-nil, each_fails, uncovered_short, part_short, Margin, nat_tests}
-use Rattle.snippet_strokes.proofs.Common.{width_of, reaching, fitting, window_left, window_right, inner_part, covered_columns, uncovered_part, covered_end}
-use Rattle.snippet_strokes.proofs.Common.{DecorStyle, Ascii, Unicode, ElementStyle, LineNumber, Quotation, placeholder_of, cells_written, Cell, SPACE}
-use Rattle.snippet_strokes.proofs.Common.{text_cells, written, cells_written_last, length-text_cells, length-written, is_listed, norm, IsFree, window_cells}
-use Rattle.snippet_strokes.proofs.Common.{with_cells, begun_cells, ended_cells, free_drawn, free_written, chars_some, Layout, with_bars, part_glyph, BarStroke}
-use Rattle.snippet_strokes.proofs.Common.{OpenBar, bar_cell, bar_cell_part, Write, if◌then◌else◌, flat_map, code_cell, PlacedEntry, is_primary}
-use Rattle.snippet_strokes.proofs.Common.{strokes_of, stroke_role, stems_of, connector_of, corner_of, label_of, first_glyph, mark_end, connectors_of}
-use Rattle.snippet_strokes.proofs.Common.{corners_of, labels_of, glyph_at, stretch_of, Bool, ◌&&◌, option_map_or, inner_cell, label_role, label_text}
-use Rattle.snippet_strokes.proofs.Common.{is_start_part, label_place, LineAnnotationType, gives_way, separator_row, bar_at, foot_glyph, bare_row, column_of}
-use Rattle.snippet_strokes.proofs.Common.{list_any, LineAnnotation, UnderlinePrimary, UnderlineSecondary, highlights, replaced_within, rules}
+use Rattle.std.proofs.lemmas.Grind.{common_steps}
+use Rattle.snippet_strokes.proofs.Common.{◌≡◌, ℕ, ◌+◌, ◌-◌, ◌<◌, ◌≤◌, ◌^◌, ◌==◌, false, Option, None, Some, IfSome, List, []}
+use Rattle.snippet_strokes.proofs.Common.{◌∷◌, ◌++◌, length, refl, sym, ap, ◌∙◌, arith, add-zero, All, IsUtf8, nat_lt, places, same_lists}
+use Rattle.snippet_strokes.proofs.Common.{All-take, All-drop, chars-nil, each_fails, uncovered_short, part_short, Margin, nat_tests, inner_part}
+use Rattle.snippet_strokes.proofs.Common.{covered_columns, uncovered_part, covered_end, DecorStyle, Ascii, Unicode, ElementStyle, LineNumber, Quotation}
+use Rattle.snippet_strokes.proofs.Common.{placeholder_of, cells_written, Cell, SPACE, text_cells, written, cells_written_last, length-text_cells}
+use Rattle.snippet_strokes.proofs.Common.{length-written, is_listed, norm, IsFree, window_cells, with_cells, begun_cells, ended_cells, free_drawn, free_written}
+use Rattle.snippet_strokes.proofs.Common.{chars_some, Layout, with_bars, part_glyph, BarStroke, OpenBar, bar_cell, bar_cell_part, Write, if◌then◌else◌}
+use Rattle.snippet_strokes.proofs.Common.{flat_map, code_cell, PlacedEntry, is_primary, strokes_of, stroke_role, stems_of, connector_of, corner_of, label_of}
+use Rattle.snippet_strokes.proofs.Common.{first_glyph, mark_end, connectors_of, corners_of, labels_of, glyph_at, stretch_of, Bool, ◌&&◌, option_map_or}
+use Rattle.snippet_strokes.proofs.Common.{inner_cell, label_role, label_text, is_start_part, label_place, LineAnnotationType, gives_way, separator_row, bar_at}
+use Rattle.snippet_strokes.proofs.Common.{foot_glyph, bare_row, column_of, list_any, LineAnnotation, UnderlinePrimary, UnderlineSecondary, highlights}
+use Rattle.snippet_strokes.proofs.Common.{replaced_within, rules}
 use Rattle.std.proofs.Common.{chars}
 use Rattle.std.specs.Prelude.{replicate, fold}
 use Rattle.snippet_strokes.proofs.CutWords.{Stretch}
@@ -73,7 +74,7 @@ placeholder_some Unicode cells k = refl
 
 -- a number above zero isn't zero
 pub above_zero : (n : ℕ) → 0 < n → (n == 0) ≡ false
-above_zero n some = grind (arith, nat_tests, some)
+above_zero n some = grind (arith, nat_tests)
 
 pub put_begun : (decor : DecorStyle) (columns : ℕ) (cs : List ℕ)
     → put columns (put 0 [] (text_cells LineNumber (placeholder_of decor))) (text_cells Quotation cs) ≡ begun_cells decor (Some columns) cs
@@ -124,16 +125,7 @@ shown_short decor start text (Some at) few short ends = grind (arith, begun_shor
 -- the text of a window holds no listed character
 pub unlisted_part : (left room from right : ℕ) (placeholder text : List ℕ) → All (λ c. is_listed c ≡ false) text
     → All (λ c. is_listed c ≡ false) (uncovered_part left placeholder (inner_part room from right text))
-unlisted_part left room from right placeholder text free =
-    let P : ℕ → Type 0 = λ c. is_listed c ≡ false in
-    let rest = drop (reaching (window_left from text) text) text in
-    let inner = inner_part room from right text in
-    let free_inner : All P inner = All-take P (fitting (window_right room from right text - window_left from text) rest) rest
-    (All-drop P (reaching (window_left from text) text) text free) in
-    elim (left == 0) as (λ b. All P (cond b inner (drop (reaching (width_of placeholder) inner) inner))) [
-      | true ↦ free_inner
-      | false ↦ All-drop P (reaching (width_of placeholder) inner) inner free_inner
-    ]
+unlisted_part left room from right placeholder text free = grind (arith, common_steps, All-take, All-drop)
 
 -- the beginning of a window is written, where lines aren't cut on the left
 pub begun_plain : (decor : DecorStyle) (start : Option ℕ) (above old new : List (List Cell)) (row : List Cell) (r code : ℕ) (text : List ℕ)

@@ -1,4 +1,5 @@
 -- Rows that are kept cell by cell, after a write and as they are added to a grid.
+use Rattle.std.proofs.lemmas.Grind.{common_steps}
 use Rattle.snippet_strokes.proofs.Common.{◌≡◌, ℕ, zero, suc, ◌+◌, ◌-◌, ◌<◌, ◌≤◌, List, [], ◌∷◌, ◌++◌, length, ◌⊎◌}
 use Rattle.snippet_strokes.proofs.Common.{map, take, drop, get_or, replicate, All, inl, inr, refl, sym, ap, ◌∙◌, arith, append_assoc, append-nil}
 use Rattle.snippet_strokes.proofs.Common.{length-append, length-map, length-replicate, map-append, map-set, places, same_lists, drop-map, take-map, get_or-map}
@@ -154,13 +155,7 @@ pub row_written : (rows : List (List Cell)) (items : List (Vec StyledChar)) (old
     → map cells_of items ≡ rows ++ replicate (row + 1 - length rows) [] → old ≡ get_or items row old
     → cells_of new ≡ written SPACE (cells_of old) at cells → map cells_of (set items row new) ≡ cells_written rows row at cells
 row_written rows items old new row at cells made is writes =
-    let many : row < length items = omega (
-      arith,
-      ap length made,
-      length-map items cells_of,
-      length-append rows (replicate (row + 1 - length rows) []),
-      length-replicate {A = List Cell} (row + 1 - length rows) [],
-    ) in
+    let many : row < length items = grind (arith, common_steps, length-map, length-append, length-replicate) in
     let here : cells_of old ≡ get_or (map cells_of items) row [] = ap cells_of is ∙ sym (get_or-map cells_of items row old [] many) in
     map-set cells_of items row new ∙ ap (set (map cells_of items) row) (writes ∙ ap (λ r. written SPACE r at cells) here)
     ∙ row_set rows (map cells_of items) row at cells made

@@ -1,12 +1,10 @@
 -- What most proofs of this crate cite, given on from one place.
 pub use Rattle.snippet_grid.proofs.ReplaceLemmas.{length-changed_within, slice_index_or-changed_within_after, slice_index_or-changed_within_before}
-pub use Rattle.snippet_grid.proofs.ReplaceLemmas.{slice_index_or-changed_within_inside, changed_within_one}
-pub use Rattle.snippet_grid.proofs.GridShown.{row_at-cells_written_same, WritesCells-cells_written, row_at-cells_written_other, cells_written_last}
-pub use Rattle.snippet_grid.proofs.GridShown.{WritesCells-from_equal}
-pub use Rattle.snippet_grid.proofs.GridShown.{chars_some}
-pub use Rattle.snippet_grid.proofs.RunLemmas.{on_ok_two, if_ok_weaker, on_ok_value}
-pub use Rattle.snippet_grid.proofs.ReplaceLemmas.{replaced_there, replaced_empty, replaced_past}
+pub use Rattle.snippet_grid.proofs.ReplaceLemmas.{slice_index_or-changed_within_inside, changed_within_one, replaced_there, replaced_empty, replaced_past}
 pub use Rattle.snippet_grid.proofs.ReplaceLemmas.{row_text-text_cells, begun_by_text, texted, text_put, separator_row-begun}
+pub use Rattle.snippet_grid.proofs.GridShown.{row_at-cells_written_same, WritesCells-cells_written, row_at-cells_written_other, cells_written_last}
+pub use Rattle.snippet_grid.proofs.GridShown.{WritesCells-from_equal, chars_some}
+pub use Rattle.snippet_grid.proofs.RunLemmas.{on_ok_two, if_ok_weaker, on_ok_value}
 pub use Rattle.snippet_grid.specs.Calls.{WritesCells, cells_replaced, cells_restyled, cells_changed}
 pub use Rattle.snippet_grid.specs.Grid.{row_at, cell_at, cells_written, restyled}
 unfoldable pub use Rattle.snippet_grid.specs.Grid.{changed_within, replaced_within}
@@ -16,14 +14,13 @@ pub use Rattle.snippet_grid.specs.Print.{row_text}
 pub use Rattle.snippet_grid.specs.StyledChars.{cell_of}
 pub use Rattle.snippet_grid.specs.declared.styled_char.StyledChar.{StyledChar}
 pub use Rattle.snippet_labels.proofs.CharLemmas.{norm_short, is_empty-chars}
-pub use Rattle.snippet_labels.proofs.PlacedLemmas.{label_text, crowds, flipped, is_start, label_chars, labelled, placed_at, up_to}
+pub use Rattle.snippet_labels.proofs.PlacedLemmas.{label_text, crowds, flipped, label_chars, labelled, placed_at, entries_all, placed_of-at, ArePlaced-from}
+pub use Rattle.snippet_labels.proofs.PlacedLemmas.{line_positions-changed, look_counts-changed}
 pub use Rattle.snippet_labels.proofs.RowLemmas.{sorted_same, stable_same}
-pub use Rattle.snippet_labels.proofs.PlacedLemmas.{entries_all, placed_of-at, ArePlaced-from, line_positions-changed, look_counts-changed}
 pub use Rattle.snippet_labels.specs.PlacedEntries.{shifted, label_role, is_end_part, entry_width}
 pub use Rattle.snippet_labels.specs.Placing.{ArePlaced, HasPlace, HasItsLabel, HasItsBytes, unplaced, IsFromRight, StandsLeft}
 pub use Rattle.snippet_labels.specs.Positions.{has_label, has_stem, label_place, is_start_part, takes_space, placed_of, line_positions, do_overlap, position_at}
-pub use Rattle.snippet_labels.specs.Positions.{position_after, positions, look_counts, is_placed_before, ends_no_later, blocks, crosses, is_same_place}
-pub use Rattle.snippet_labels.specs.Positions.{are_starts, looked_after, reaches}
+pub use Rattle.snippet_labels.specs.Positions.{position_after, positions, look_counts, is_placed_before, crosses, are_starts}
 pub use Rattle.snippet_labels.specs.declared.positions.PlacedEntry.{PlacedEntry}
 pub use Rattle.snippet_lines.proofs.NumberLemmas.{shown_number_unlisted, chars-shown_number}
 pub use Rattle.snippet_lines.proofs.OrderLemmas.{All-put_in, map-ordered_by, sorted-only}
@@ -102,12 +99,12 @@ pub use Rattle.snippet_window.proofs.LineWindowLemmas.{reaching-none, uncovered_
 pub use Rattle.snippet_window.proofs.NearLemmas.{part_of_norm}
 pub use Rattle.snippet_window.specs.Measures.{StandsClear}
 pub use Rattle.snippet_window.specs.Window.{AreReplaced, inner_part, covered_columns, uncovered_part, covered_end, dropped_part, reaching, window_left}
-pub use Rattle.snippet_window.specs.Window.{window_right, window, fitting}
+pub use Rattle.snippet_window.specs.Window.{window_right, window}
 pub use Rattle.snippet_window.specs.declared.margin.Margin.{Margin}
 pub use Rattle.std.proofs.Common.{◌≡◌, ◌∙◌, ap, arith, length, sym, ℕ, List, ◌+◌, [], ◌∷◌, ◌<◌, ◌++◌, ◌-◌, refl, ◌≤◌}
 pub use Rattle.std.proofs.Common.{false, true, All, map, Bool, subst, inl, inr, take, get_or, replicate, ◌==◌, drop, cond, suc, ◌&&◌, zero, nat_lt, not}
 pub use Rattle.std.proofs.Common.{◌||◌, None, ◌^◌, max, ◌≢◌, Some, Option, nat_le, Contains, ◌⊎◌, fold, reverse, IfSome, IsUtf8, filter}
-pub use Rattle.std.proofs.Common.{string_bytes, count_by, nat_cmp, codes, set, is_lt, encode_utf8_all, add-zero, min, ltb, unwrap_or, rules}
+pub use Rattle.std.proofs.Common.{string_bytes, count_by, nat_cmp, codes, set, is_lt, encode_utf8_all, add-zero, min, ltb, rules}
 pub use Rattle.std.proofs.Math.Bool.{and-false, and-true}
 pub use Rattle.std.proofs.Math.Seq.{drop-append_seam, get_or-append_seam, set-append_seam}
 pub use Rattle.std.proofs.Math.Utf8.{scalars}
@@ -141,10 +138,9 @@ pub use Rattle.std.proofs.lemmas.Str.Ascii.{IsAscii-from_all}
 pub use Rattle.std.specs.Char.{is_whitespace}
 pub use Rattle.std.specs.Cmp.{IsStrictWeakOrder}
 pub use Rattle.std.specs.Cow.{cow_str_bytes}
-pub use Rattle.std.specs.Fmt.{decimal}
 pub use Rattle.std.specs.Global.{Vec}
-pub use Rattle.std.specs.List.{list_any, flat_map, slice_index_or, range_with_len, list_all, zip, filter_map, repeat, enumerate_from, position, position_or_len}
-pub use Rattle.std.specs.List.{swap, cons_option, slice_range}
+pub use Rattle.std.specs.List.{list_any, flat_map, slice_index_or, range_with_len, list_all, zip, filter_map, repeat, enumerate_from, swap, cons_option}
+pub use Rattle.std.specs.List.{slice_range}
 pub use Rattle.std.specs.List.Sorted.{IsPermutation, IsSortedBy, IsStableBy}
 pub use Rattle.std.specs.Option.{option_to_list, option_map_or}
 pub use Rattle.std.specs.Ordering.{ord_max, ordering_then, bool_cmp}

@@ -1,12 +1,12 @@
 -- Laws of the cells of bars in all rows of a line: where no bar has its place nothing stands but lines that lead from other bars.
 use Rattle.snippet_strokes.proofs.Common.{◌≡◌, ◌≢◌, ℕ, zero, suc, ◌+◌, ◌-◌, ◌<◌, Bool, true, false, cond, List, [], ◌∷◌}
 use Rattle.snippet_strokes.proofs.Common.{◌++◌, All, map, length, replicate, take, get_or, ap, ◌∙◌, refl, sym, subst, arith, inl, inr, cases_Bool}
-use Rattle.snippet_strokes.proofs.Common.{cases_lt, get_or-map, get_or_past, length-map, All-append, All-cons, All-filter, All-get_or, All-map, All-nil}
-use Rattle.snippet_strokes.proofs.Common.{All-replicate, All-weaker, Cell, SPACE, unlinked_cell, strokes_of, closing_row, separator_row, cell_at, row_at}
-use Rattle.snippet_strokes.proofs.Common.{is_primary, LineAnnotation, Layout, PlacedEntry, shifted, painting_order, stroke_role, bare_row, Write, painted}
-use Rattle.snippet_strokes.proofs.Common.{entries_all, Solid, Top, Bar, bars_apart, ends_of_bars, row_count, IsNoBar, connector_of, corner_of, connectors_of}
-use Rattle.snippet_strokes.proofs.Common.{corners_of, labels_of, has_depth, is_whole_line, stems_of, slice_index_or, and_right, ext_get_or, list_any_none}
-use Rattle.snippet_strokes.proofs.Common.{ElementStyle, row_text, highlights, rules}
+use Rattle.snippet_strokes.proofs.Common.{cases_lt, get_or-map, get_or_past, length-map, All-append, All-cons, All-filter, All-map, All-nil, All-replicate}
+use Rattle.snippet_strokes.proofs.Common.{All-weaker, Cell, SPACE, unlinked_cell, strokes_of, closing_row, separator_row, cell_at, row_at, is_primary}
+use Rattle.snippet_strokes.proofs.Common.{LineAnnotation, Layout, PlacedEntry, shifted, painting_order, stroke_role, bare_row, Write, painted, entries_all}
+use Rattle.snippet_strokes.proofs.Common.{Solid, Top, Bar, bars_apart, ends_of_bars, row_count, IsNoBar, connector_of, corner_of, connectors_of, corners_of}
+use Rattle.snippet_strokes.proofs.Common.{labels_of, has_depth, is_whole_line, stems_of, slice_index_or, and_right, ext_get_or, list_any_none, ElementStyle}
+use Rattle.snippet_strokes.proofs.Common.{row_text, highlights, rules}
 use Rattle.std.specs.Prelude.{not}
 use Rattle.snippet_strokes.proofs.CellLemmas.{with_parts, drawn_strokes, marks_of, begun_rows, role_in_source}
 use Rattle.snippet_strokes.proofs.WriteLaws.{AreLineRows, AreOwnRows, StrokesPainted, All-flat_map, painted-cell, IsHighlighted}
@@ -79,7 +79,7 @@ module _ (layout : Layout) (depth : ℕ) (some : 0 < depth) (room : layout.gutte
   HasSpace row = get_or row cell SPACE ≡ SPACE
 
   spaces_in : (rows : List (List Cell)) → All HasSpace rows → (r : ℕ) → NoBar (cell_at rows r cell)
-  spaces_in rows all r = grind (arith, cases_lt, All-get_or, get_or_past)
+  spaces_in rows all r = grind (arith, cases_lt, get_or_past)
 
   bare_space : (closes : Bool) → HasSpace (bare_row layout.decor layout.gutter closes)
   bare_space closes = bare_row_right layout.decor layout.gutter closes cell (omega (arith, some))

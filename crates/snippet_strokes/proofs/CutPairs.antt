@@ -69,7 +69,7 @@ rows_cut_within decor row (cut ∷ cuts) rows =
 -- what is cut for an entry is cut of each
 pub entry_cut : (layout : Layout) (room row : ℕ) (pair : PlacedEntry × Bool) (rows : List (List Cell))
     → cut_rows layout.decor row (cut_of layout room pair) rows ≡ changed_within (λ cells. cut_middle layout room cells pair) row (row + 2) rows
-entry_cut layout room row pair rows = grind (arith, rows_cut_within, alike, cut_one)
+entry_cut layout room row pair rows = grind (arith, rows_cut_within, cut_one)
 
 -- for one that isn't wide, or is overlapped, nothing
 pub nothing_cut : (layout : Layout) (room row : ℕ) (pair : PlacedEntry × Bool) (rows : List (List Cell))

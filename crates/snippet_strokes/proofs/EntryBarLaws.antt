@@ -1,4 +1,5 @@
 -- Laws of the bars of a line's entries: what the last entry of a bar's depth leaves in the bar's cells, and which strokes leave them.
+use Rattle.std.proofs.lemmas.Grind.{common_steps}
 use Rattle.snippet_strokes.proofs.Common.{◌≡◌, ◌≢◌, ℕ, zero, suc, ◌+◌, ◌-◌, ◌<◌, ◌≤◌, ◌==◌, ◌||◌, Bool, true, false}
 use Rattle.snippet_strokes.proofs.Common.{cond, List, [], ◌∷◌, ◌++◌, All, Contains, map, length, get_or, refl, ap, ◌∙◌, arith, inl, inr}
 use Rattle.snippet_strokes.proofs.Common.{flat_map, list_any, range_with_len, both_ways, cases_Bool, cases_lt, eq-eqb, or_parts, flat_map-append, All-append}
@@ -8,8 +9,7 @@ use Rattle.snippet_strokes.proofs.Common.{contains-there, Layout, PlacedEntry, s
 use Rattle.snippet_strokes.proofs.Common.{corner_of, label_of, bar_cell_part, first_glyph, mark_end, connectors_of, corners_of, labels_of, stems_of, sym}
 use Rattle.snippet_strokes.proofs.Common.{map-range_with_len_more, text_cells, cells_written, label_role, label_text, has_label, label_place, foot_glyph, rules}
 use Rattle.std.specs.Prelude.{nat_lt}
-use Rattle.snippet_strokes.proofs.CellLemmas.{written_by, corner_by, bar_writes, drawn_mark, drawn_strokes, marks_of, stem_write}
-use Rattle.snippet_strokes.proofs.CellLemmas.{drawn_under_marks}
+use Rattle.snippet_strokes.proofs.CellLemmas.{written_by, corner_by, bar_writes, drawn_mark, drawn_strokes, marks_of, stem_write, drawn_under_marks}
 use Rattle.snippet_strokes.proofs.WriteLaws.{painted-append, All-label_of, All-flat_map, cell-unwritten, cell-written, painted-last, painted-untouched}
 use Rattle.snippet_strokes.proofs.BarFacts.{end_corner, start_corner}
 use Rattle.snippet_strokes.proofs.Reach.{Reaches}
@@ -29,9 +29,7 @@ pub record HasLast {X : Type 0} (p : X → Bool) (xs : List X) : Type 0 where
 
 none_pass : {X : Type 0} (p : X → Bool) (xs : List X) → list_any p xs ≡ false → All (λ x. p x ≡ false) xs
 none_pass p [] none = All-nil (λ x. p x ≡ false)
-none_pass p (x ∷ xs) none =
-    let parts = or_parts (p x) (list_any p xs) none in
-    All-cons (λ y. p y ≡ false) x xs parts.0 (none_pass p xs parts.1)
+none_pass p (x ∷ xs) none = grind (arith, common_steps, or_parts, All-cons)
 
 pub last_passing : {X : Type 0} (p : X → Bool) (xs : List X) → list_any p xs ≡ true → HasLast p xs
 last_passing p [] some = absurd cc

@@ -1,6 +1,7 @@
 -- A mark that is drawn from its first glyph on is its underline, and over it the glyph of its own.
+use Rattle.std.proofs.lemmas.Grind.{common_steps}
 use Rattle.snippet_strokes.proofs.Common.{◌≡◌, ℕ, ◌+◌, ◌-◌, ◌<◌, ◌≤◌, ◌==◌, ◌&&◌, ◌||◌, nat_le, cond, Bool, true, false}
-use Rattle.snippet_strokes.proofs.Common.{List, [], ◌∷◌, ◌++◌, replicate, inl, inr, refl, sym, ap, ◌∙◌, arith, flat_map, cases_Bool, cases_lt}
+use Rattle.snippet_strokes.proofs.Common.{List, [], ◌∷◌, ◌++◌, replicate, inl, inr, refl, ap, ◌∙◌, arith, flat_map, cases_Bool, cases_lt}
 use Rattle.snippet_strokes.proofs.Common.{nat_tests, places, same_lists, row_at-cells_written_same, cells_written, row_at, Layout, PlacedEntry, has_stem}
 use Rattle.snippet_strokes.proofs.Common.{takes_space, is_primary, Cell, SPACE, text_cells, written, strokes_of, Strokes, ElementStyle, mark_of, stroke_role}
 use Rattle.snippet_strokes.proofs.Common.{first_glyph, mark_end, Write, glyph_at, painted, stretch_of, line_strokes, strokes_under_marks, rules}
@@ -52,7 +53,7 @@ pub mark_whole : (layout : Layout) (row : ℕ) (e : PlacedEntry) (first underlin
     → new ≡ painted (stretch_of row (layout.code + e.entry.start.display) (layout.code + end) first role) old
     → new ≡ painted (drawn_mark layout row e) old
 mark_whole layout row e first underline role end old new some is_end is_first is_underline is_role same drawn =
-    grind (arith, stretch_whole, glyph_and_stretch, less)
+    grind (arith, stretch_whole, glyph_and_stretch)
 
 -- ---- the mark of an entry
 
@@ -118,36 +119,15 @@ module _ (layout : Layout) (row : ℕ) (e : PlacedEntry) (rows : List (List Cell
   pub mark_same : painted (mark_of layout row e) rows ≡ painted (drawn_mark layout row e) rows
   mark_same =
       elim (cases_lt end start) [
-        | inl turned ↦
-            let out : (nat_le start end) ≡ false = grind (arith, nat_tests, turned) in
-            let apart : (start == end) ≡ false = grind (arith, nat_tests, turned) in
-            ruled false (ap (λ b. b && has_own) out) ∙ nothing line ∙ ap (λ ws. painted ws rows) (no_line (omega (arith, turned)))
-            ∙ sym (ap (λ ws. painted ws rows) (drawn_mark-none layout row e (omega (arith, end_apart apart, turned))))
+        | inl turned ↦ grind (arith, common_steps, nat_le, nat_tests, ruled, drawn_mark-none, end_apart)
         | inr up ↦ elim (cases_Bool has_own) [
           | inr none ↦ ruled false (le_test has_own up ∙ none) ∙ nothing line ∙ elim (cases_lt start end) [
-            | inl some ↦ stretch_whole row from (layout.code + end) strokes.underline (stroke_role e) rows (omega (arith, some))
-                ∙ sym (drawn end (end_plain none) some
-                ∙ glyph_and_stretch row from (layout.code + end) (first_glyph layout.decor e) strokes.underline (stroke_role e) rows (omega (arith, some))
-                ∙ ap (λ g. cells_written rows row from
-                (text_cells (stroke_role e) (g ∷ replicate (layout.code + end - (from + 1)) strokes.underline))) (first_plain none))
-            | inr empty ↦ ap (λ ws. painted ws rows) (no_line (omega (arith, empty)))
-                ∙ sym (ap (λ ws. painted ws rows) (drawn_mark-none layout row e (omega (arith, end_plain none, empty))))
+            | inl some ↦ grind (arith, common_steps, stretch_whole, end_plain, none, glyph_and_stretch, first_plain)
+            | inr empty ↦ grind (arith, common_steps, drawn_mark-none, end_plain, none)
           ]
           | inl some_own ↦ ruled true (le_test has_own up ∙ some_own) ∙ elim (cases_lt start end) [
-            | inl some ↦
-                let apart : (start == end) ≡ false = grind (arith, nat_tests, some) in
-                stretch_and_glyph row from (layout.code + end) own strokes.underline (stroke_role e) rows (omega (arith, some))
-                ∙ sym (drawn end (end_apart apart) some
-                ∙ glyph_and_stretch row from (layout.code + end) (first_glyph layout.decor e) strokes.underline (stroke_role e) rows (omega (arith, some))
-                ∙ ap (λ g. cells_written rows row from
-                (text_cells (stroke_role e) (g ∷ replicate (layout.code + end - (from + 1)) strokes.underline))) (first_own some_own))
-            | inr empty ↦
-                let same : start ≡ end = omega (arith, up, empty) in
-                ap (λ ws. painted (ws ++ glyph_at row from own (stroke_role e) ∷ []) rows) (no_line (omega (arith, empty)))
-                ∙ sym (drawn (end + 1) (end_own same some_own) (omega (arith, same))
-                ∙ ap (λ ws. painted (glyph_at row from (first_glyph layout.decor e) (stroke_role e) ∷ ws) rows)
-                (stretch_of-none row (from + 1) (layout.code + (end + 1)) strokes.underline (stroke_role e) (omega (arith, same)))
-                ∙ ap (λ g. painted (glyph_at row from g (stroke_role e) ∷ []) rows) (first_own some_own))
+            | inl some ↦ grind (arith, common_steps, nat_tests, some, stretch_and_glyph, end_apart, glyph_and_stretch, first_own, some_own)
+            | inr empty ↦ grind (arith, common_steps, up, empty, end_own, some_own, stretch_of-none, first_own)
           ]
         ]
       ]

@@ -1,4 +1,5 @@
 -- The stem of an entry that the next one's covers leaves nothing of its own: to draw all stems is to draw those that none covers.
+use Rattle.std.proofs.lemmas.Grind.{common_steps}
 use Rattle.snippet_strokes.proofs.Common.{◌≡◌, ℕ, zero, suc, ◌+◌, ◌-◌, ◌<◌, ◌≤◌, ◌==◌, ◌&&◌, nat_le, cond, true, List, []}
 use Rattle.snippet_strokes.proofs.Common.{◌∷◌, ◌++◌, map, inl, inr, refl, sym, ap, ◌∙◌, arith, All, flat_map, range_with_len, and_parts}
 use Rattle.snippet_strokes.proofs.Common.{cases_Bool, eqb-true, leb-true, All-cons, All-nil, row_at-cells_written_same, cells_written, Layout, code_cell}
@@ -116,6 +117,5 @@ stems_painted layout row (e ∷ later) rows =
     painted-append own all rows ∙ elim (cases_Bool (is_stem_covered e later)) [
       | inl covered ↦ hidden layout row e later rows covered ∙ stems_painted layout row later rows
           ∙ ap (λ b. painted (cond b [] own ++ drawn) rows) (sym covered)
-      | inr seen ↦ stems_painted layout row later (painted own rows) ∙ sym (painted-append own drawn rows)
-          ∙ ap (λ b. painted (cond b [] own ++ drawn) rows) (sym seen)
+      | inr seen ↦ grind (arith, common_steps, stems_painted layout row later (painted own rows), own, painted-append, drawn)
     ]

@@ -89,13 +89,8 @@ changed_last f above x =
     let row : ℕ = length above in
     let rows : List (List Cell) = above ++ x ∷ [] in
     changed_is f row (row + 1) rows (above ++ f x ∷ []) [] (length_push above (f x) ∙ sym (length_push above x)) (λ r within. elim (cases_eq r row) [
-      | inl own ↦
-          get_or_push above (f x) [] r (sym own) ∙ sym (ap f (get_or_push above x [] r (sym own)))
-          ∙ sym (cond-true (here row rows r) (f (row_at rows r)) (row_at rows r) (grind (arith, nat_tests, own)))
-      | inr other ↦
-          let before : r < length above = omega (arith, within, length_push above x, other) in
-          get_or_append_left above (f x ∷ []) [] r before ∙ sym (get_or_append_left above (x ∷ []) [] r before)
-          ∙ sym (cond-false (here row rows r) (f (row_at rows r)) (row_at rows r) (grind (arith, nat_tests, other)))
+      | inl own ↦ grind (arith, common_steps, get_or_push, cond-true, row, rows, nat_tests)
+      | inr other ↦ grind (arith, common_steps, length_push, get_or_append_left, cond-false, row, rows, nat_tests)
     ])
 
 -- two stretches of a row that begin at one cell of it, and end at one, are the same cells

@@ -1,9 +1,10 @@
 -- Marks, painted later, leave each label as it stands.
+use Rattle.std.proofs.lemmas.Grind.{common_steps}
 use Rattle.snippet_strokes.proofs.Common.{◌≡◌, ℕ, zero, suc, ◌+◌, ◌<◌, ◌≤◌, ◌&&◌, ◌||◌, nat_le, nat_lt, Bool, true, false, List}
 use Rattle.snippet_strokes.proofs.Common.{[], ◌∷◌, length, map, get_or, refl, sym, ap, ◌∙◌, subst, arith, inl, inr, ◌⊎◌, All, list_any}
 use Rattle.snippet_strokes.proofs.Common.{cases_lt, nat_tests, All-cons, All-nil, All-weaker, length-chars_le, LineAnnotation, Layout, PlacedEntry, has_label}
 use Rattle.snippet_strokes.proofs.Common.{crosses, position_at, position_after, positions, label_place, get_or-map, length-map, list_all_at, All-permutation}
-use Rattle.snippet_strokes.proofs.Common.{Cell, SPACE, cell_at, mark_end, HasPlace, HasItsLabel, ArePlaced, crowds, label_text, rules}
+use Rattle.snippet_strokes.proofs.Common.{Cell, cell_at, mark_end, HasPlace, HasItsLabel, ArePlaced, crowds, label_text, rules}
 use Rattle.snippet_strokes.proofs.PositionLemmas.{length-positions}
 use Rattle.snippet_strokes.proofs.PaintedMarks.{AreMarked, IsPaintedAt, StandsWhole}
 
@@ -85,7 +86,7 @@ label_parts e = search rules
 
 -- an entry farther left that doesn't reach the other one ends, with its label and a gap, before it
 pub apart : (fs fe es ee more : ℕ) → ((nat_le es fs && nat_lt fs ee) || (nat_le fs es && nat_lt es (fe + more))) ≡ false → fs ≤ es → fe + more ≤ es
-apart fs fe es ee more is left = grind (arith, nat_tests, is, left)
+apart fs fe es ee more is left = grind (arith, nat_tests)
 
 -- a label has no more characters than bytes
 pub label_chars_le : (e : PlacedEntry) → HasItsLabel e → length (label_text e.entry) ≤ length e.label
@@ -171,7 +172,5 @@ labels_kept layout row given es old new placed places marked stand k d within ha
           ap (λ r. cell_at new r (layout.code + (label_place e).1 + n)) here ∙ ap (cell_at new row) there
           ∙ marked.painted.unmarked p (All-permutation (λ (f : PlacedEntry). IsPaintedAt f p → ⊥) es marked.order marked.same clear)
           ∙ sym (ap (cell_at old row) there) ∙ sym (ap (λ r. cell_at old r (layout.code + (label_place e).1 + n)) here) ∙ before
-      | inr at ↦
-          ap (λ cells. get_or cells (layout.code + (label_place e).1 + n) SPACE)
-          (marked.painted.others (row + (label_place e).0) (λ same. omega (arith, same, at.row))) ∙ before
+      | inr at ↦ grind (arith, common_steps, label_place, e, at, before, layout.code, marked.painted.others, at.row)
     ]

@@ -1,4 +1,5 @@
 -- The rows of lines, drawn below those that are there.
+use Rattle.std.proofs.lemmas.Grind.{common_steps}
 use Rattle.snippet_strokes.proofs.Common.{◌≡◌, ℕ, ◌+◌, ◌<◌, ◌==◌, ◌&&◌, ◌++◌, ◌∷◌, [], All, Bool, true, false, List, drop}
 use Rattle.snippet_strokes.proofs.Common.{get_or, length, map, refl, sym, ap, ◌∙◌, arith, nat_tests, append_assoc, drop_more, get_or_push, length-drop}
 use Rattle.snippet_strokes.proofs.Common.{shown_number, AnnotatedLineInfo, LineAnnotation, Cell, norm, width_of, dropped_part, changed_within, row_at, Layout}
@@ -74,8 +75,7 @@ module _ (layout : Layout) (view : LineView) (open_bars : List OpenBar) (info : 
 -- the window closes with the last line
 last_closes : (closes : Bool) (infos : List AnnotatedLineInfo) (i : ℕ) → i < length infos
     → (closes && i + 1 == length infos) ≡ (closes && length (drop (i + 1) infos) == 0)
-last_closes true infos i within =
-    grind (arith, nat_tests, length-drop (i + 1) infos, within)
+last_closes true infos i within = grind (arith, nat_tests, length-drop (i + 1) infos)
 last_closes false infos i within = refl
 
 -- the line that stands next is drawn, and what stands in place of lines that are left out after it
@@ -92,10 +92,8 @@ next_added layout view infos i info closes open_bars below before mid new all wi
     let first : List (List Cell) = info_rows layout (record view { closes = view.closes && length later == 0 }) open_bars info in
     let between : List (List Cell) = gap_rows layout now info.line_index later in
     let rest : List (List Cell) = infos_rows layout view now later in
-    let mid_is : mid ≡ before ++ first = line
-    ∙ ap (λ b. before ++ info_rows layout (record view { closes = b }) open_bars info) (closes_is ∙ last_closes view.closes infos i within) in
-    let new_is : new ≡ (before ++ first) ++ between = gap ∙ ap (λ bars. mid ++ gap_rows layout bars info.line_index later) below_is
-    ∙ ap (λ rows. rows ++ between) mid_is in
+    let mid_is : mid ≡ before ++ first = grind (arith, common_steps, last_closes, view.closes) in
+    let new_is : new ≡ (before ++ first) ++ between = grind (arith, common_steps, later, between, mid_is, info.line_index) in
     ap (λ bars. new ++ infos_rows layout view bars later) below_is ∙ ap (λ rows. rows ++ rest) new_is
     ∙ append_assoc (before ++ first) between rest ∙ append_assoc before first (between ++ rest)
     ∙ ap (λ xs. before ++ infos_rows layout view open_bars xs) (sym next) ∙ so_far

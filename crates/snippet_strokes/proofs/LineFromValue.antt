@@ -1,4 +1,5 @@
 -- What is known of the rows of a line that painters promise, from the value alone: its source row, and the rows of its strokes.
+use Rattle.std.proofs.lemmas.Grind.{common_steps}
 use Rattle.snippet_strokes.proofs.Common.{◌≡◌, ℕ, suc, ◌+◌, ◌-◌, ◌<◌, ◌≤◌, ◌^◌, Bool, false, List, [], ◌∷◌, ◌++◌, All}
 use Rattle.snippet_strokes.proofs.Common.{drop, filter, get_or, length, map, not, take, refl, sym, ap, ◌∙◌, subst, arith, inl, inr, cases_lt, cond-false}
 use Rattle.snippet_strokes.proofs.Common.{cond-true, false≢true, get_or-map-range_with_len, length-map-range_with_len, shown_number, LineNumbers}
@@ -128,10 +129,7 @@ reached_near : (n : ℕ) (cs : List ℕ) → width_of (take (reaching n cs) cs) 
 reached_near n [] = omega arith
 reached_near n (c ∷ cs) =
     elim (cases_lt 0 n) [
-      | inr none ↦
-          let zero : n ≡ 0 = omega (arith, none) in
-          let stop : reaching n (c ∷ cs) ≡ 0 = ap (λ k. reaching k (c ∷ cs)) zero ∙ reaching-none (c ∷ cs) in
-          omega (arith, ap (λ k. width_of (take k (c ∷ cs))) stop)
+      | inr none ↦ grind (arith, common_steps, reaching-none)
       | inl some ↦
           let rest : ℕ = n - char_width c in
           let next : reaching rest cs + 1 ≡ suc (reaching rest cs) = omega arith in

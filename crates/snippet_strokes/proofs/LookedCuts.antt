@@ -1,8 +1,9 @@
 -- Which entries are overlapped: what the code finds step by step is what the rule says.
+use Rattle.std.proofs.lemmas.Grind.{common_steps}
 use Rattle.snippet_strokes.proofs.Common.{◌≡◌, ◌∙◌, ℕ, zero, suc, ◌+◌, ◌-◌, ◌≤◌, Bool, true, false, ◌&&◌, ◌||◌, List, []}
-use Rattle.snippet_strokes.proofs.Common.{◌∷◌, ◌++◌, take, drop, length, map, refl, sym, ap, inl, inr, arith, enumerate_from, list_any}
-use Rattle.snippet_strokes.proofs.Common.{append_assoc, length-append, get_or-append_seam, cases_lt, nat_tests, PlacedEntry, do_overlap}
-use Rattle.snippet_strokes.proofs.Common.{overlapped, sees, is_met, look_ends, meets, overlapped_by}
+use Rattle.snippet_strokes.proofs.Common.{◌∷◌, ◌++◌, take, drop, length, map, refl, sym, ap, inl, inr, arith, enumerate_from, list_any, append_assoc}
+use Rattle.snippet_strokes.proofs.Common.{length-append, get_or-append_seam, cases_lt, nat_tests, PlacedEntry, do_overlap, overlapped, sees, is_met, look_ends}
+use Rattle.snippet_strokes.proofs.Common.{meets, overlapped_by}
 use Rattle.std.specs.Prelude.{nat_le, nat_lt}
 
 -- ---- tests of a list
@@ -29,7 +30,7 @@ abbrev is_within : {X : Type 0} → (X → Bool) → ℕ → ℕ → ℕ × X �
 is_within p from to y = nat_le from y.0 && (nat_lt y.0 to && p y.1)
 
 past_end : {X : Type 0} (p : X → Bool) (from to : ℕ) (y : ℕ × X) → to ≤ y.0 → is_within p from to y ≡ false
-past_end p from to y past = grind (arith, nat_tests, past)
+past_end p from to y past = grind (arith, nat_tests)
 
 nothing : {X : Type 0} (m n : ℕ) → drop {A = X} m (take n []) ≡ []
 nothing zero zero = refl
@@ -47,10 +48,7 @@ pub any_within : {X : Type 0} (p : X → Bool) (from to s : ℕ) (xs : List X)
 any_within p from to s [] = ap (list_any p) (nothing (from - s) (to - s))
 any_within {X = X} p from to s (x ∷ xs) =
     elim (cases_lt s to) [
-      | inr past ↦
-          let none : to - s ≡ 0 = omega (arith, past) in
-          ap (λ n. list_any p (drop (from - s) (take n (x ∷ xs)))) none ∙ ap (list_any p) (nothing_more (from - s) (x ∷ xs))
-          ∙ sym (none_from (is_within p from to) s (x ∷ xs) (λ y at. past_end p from to y (omega (arith, past, at))))
+      | inr past ↦ grind (arith, common_steps, nothing_more, none_from)
       | inl inside ↦
           let more : to - s ≡ suc (to - (s + 1)) = omega (arith, inside) in
           let rest : List X = take (to - (s + 1)) xs in
@@ -97,8 +95,7 @@ flags_from : (placed : List PlacedEntry) (front : List ℕ) (k : ℕ) (es : List
     ≡ map (λ x. list_any (λ y. sees x.0 x.1 y.0 y.1 || sees y.0 y.1 x.0 x.1) (enumerate_from 0 placed)) (enumerate_from k es)
 flags_from placed front k [] parts count = refl
 flags_from placed front k (e ∷ es) parts count =
-    let next : look_ends 0 placed ≡ (front ++ (k + 1 + e.looked) ∷ []) ++ look_ends (k + 1) es = parts
-    ∙ sym (append_assoc front ((k + 1 + e.looked) ∷ []) (look_ends (k + 1) es)) in
+    let next : look_ends 0 placed ≡ (front ++ (k + 1 + e.looked) ∷ []) ++ look_ends (k + 1) es = grind (arith, common_steps, append_assoc, e.looked) in
     let rest = flags_from placed (front ++ (k + 1 + e.looked) ∷ []) (k + 1) es next (omega (arith, count, length-append front ((k + 1 + e.looked) ∷ []))) in
     grind (arith, get_or-append_seam, is_seen)
 

@@ -4,8 +4,7 @@ use Rattle.snippet_strokes.proofs.Common.{refl, sym, ap, ◌∙◌, arith, flat_
 use Rattle.snippet_strokes.proofs.Common.{written, strokes_of, ElementStyle, LineAnnotationType, Singleline, MultilineStart, MultilineEnd, MultilineLine}
 use Rattle.snippet_strokes.proofs.Common.{Layout, PlacedEntry, stroke_role, has_stem, corner_of, stem_of, column_of, foot_glyph, connectors_of, corners_of}
 use Rattle.snippet_strokes.proofs.Common.{labels_of, stems_of, Write, glyph_at, painted, stretch_of, rules}
-use Rattle.snippet_strokes.proofs.CellLemmas.{bar_writes, corner_by, drawn_strokes, marks_of, stem_write}
-use Rattle.snippet_strokes.proofs.CellLemmas.{written_by}
+use Rattle.snippet_strokes.proofs.CellLemmas.{bar_writes, corner_by, drawn_strokes, marks_of, stem_write, written_by}
 
 -- a write so many rows farther down
 abbrev pub lowered : ℕ → Write → Write

@@ -1,9 +1,9 @@
 -- Which bars are open, and where they have their place.
 use Rattle.snippet_strokes.proofs.Common.{◌≡◌, ℕ, ◌+◌, ◌<◌, ◌++◌, ◌∷◌, [], Bool, Option, List, All, length, take, get_or, arith}
 use Rattle.snippet_strokes.proofs.Common.{option_to_list, take_more, All-append, All-cons, All-nil, All-filter, All-same, All-tail, filter_map-append}
-use Rattle.snippet_strokes.proofs.Common.{LineAnnotation, LineAnnotationType, Singleline, MultilineStart, MultilineEnd, MultilineLine, Layout, OpenBar}
-use Rattle.snippet_strokes.proofs.Common.{is_primary, bar_at, bars_apart, ends_of_bars, HasBarRoom, bar_of, has_depth, open_below, HasBarCell, HasBarCellAt}
-use Rattle.snippet_strokes.proofs.Common.{common_steps, nat_tests, rules}
+use Rattle.snippet_strokes.proofs.Common.{LineAnnotation, LineAnnotationType, Singleline, MultilineStart, MultilineEnd, MultilineLine, Layout, OpenBar, bar_at}
+use Rattle.snippet_strokes.proofs.Common.{bars_apart, ends_of_bars, HasBarRoom, bar_of, has_depth, open_below, HasBarCell, HasBarCellAt, common_steps}
+use Rattle.snippet_strokes.proofs.Common.{nat_tests, rules}
 use Rattle.std.specs.Prelude.{not}
 
 -- the bars of one entry
@@ -30,8 +30,7 @@ room_ends layout [] all = All-nil (HasBarRoom layout)
 room_ends layout (e ∷ es) all =
     let P : LineAnnotation → Type 0 = HasBarCell layout in
     let head : P e = all 0 e (omega arith) in
-    let first : All (HasBarRoom layout) (ends_of_bars (e ∷ [])) = All-same (HasBarRoom layout) (ends_of_bars (e ∷ [])) (option_to_list (bar_of e)) (one_end e)
-    (room_at layout e.annotation_type (is_primary e.kind) head) in
+    let first : All (HasBarRoom layout) (ends_of_bars (e ∷ [])) = grind (arith, common_steps, All-same, one_end, head, e.annotation_type, e.kind) in
     All-same (HasBarRoom layout) (ends_of_bars (e ∷ es)) (ends_of_bars (e ∷ []) ++ ends_of_bars es) (filter_map-append bar_of (e ∷ []) es)
     (All-append (HasBarRoom layout) (ends_of_bars (e ∷ [])) (ends_of_bars es) first (room_ends layout es (All-tail P e es all)))
 

@@ -1,4 +1,5 @@
 -- Painting marks into a row: one cell after another, and one entry over another.
+use Rattle.std.proofs.lemmas.Grind.{common_steps}
 use Rattle.snippet_strokes.proofs.Common.{◌≡◌, ◌⊎◌, ℕ, ◌+◌, ◌-◌, ◌<◌, ◌≤◌, max, Bool, List, [], ◌∷◌, ◌++◌, length}
 use Rattle.snippet_strokes.proofs.Common.{replicate, take, get_or, refl, sym, ap, ◌∙◌, subst, arith, inl, inr, All, cases_lt, length-replicate}
 use Rattle.snippet_strokes.proofs.Common.{get_or-replicate, length_push, get_or_append_left, get_or_push, take_more, PlacedEntry, ElementStyle, strokes_of}
@@ -91,8 +92,7 @@ shows_new layout es e d k p mid new row paints within covers =
       later = omega (arith, length_push es e);
       within = omega (arith, length_push es e);
       covers = subst (λ x. IsPaintedAt x p) (sym here) covers;
-      holds = paints.inside (layout.code + p) (omega (arith, covers.0)) (omega (arith, covers.1))
-          ∙ ap (λ (x : PlacedEntry). mark_cell layout x (layout.code + p)) (sym here);
+      holds = grind (arith, common_steps, here, paints.inside, layout.code, covers.0, covers.1);
     }
 
 -- what an earlier entry shows where the last one doesn't cover the column
@@ -117,12 +117,7 @@ Painted-more layout es e row old mid new done paints =
       marked = λ k p d within covers. elim (covers_or_not e p) [
         | inl last ↦ shows_new layout es e d k p mid new row paints within last
         | inr not_last ↦
-            let old_one : k < length es = elim (cases_lt k (length es)) as (λ _. k < length es) [
-              | inl less ↦ less
-              | inr more ↦
-                  let here : k ≡ length es = omega (arith, length_push es e) in
-                  absurd (not_last (subst (λ x. IsPaintedAt x p) (ap (λ n. get_or (es ++ e ∷ []) n d) here ∙ new_place es e d) covers))
-            ] in
+            let old_one : k < length es = grind (arith, common_steps, cases_lt, length_push, not_last, new_place) in
             shows_old layout es e d k p (cell_at mid row (layout.code + p)) (cell_at new row (layout.code + p))
             (untouched layout mid new row p e paints not_last) (done.marked k p d old_one
             (subst (λ x. IsPaintedAt x p) (old_place es e d k old_one) covers))

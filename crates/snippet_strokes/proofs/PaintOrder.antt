@@ -1,11 +1,12 @@
 -- The order that entries are painted in.
+use Rattle.std.proofs.lemmas.Grind.{common_steps}
 use Rattle.snippet_strokes.proofs.Common.{◌≡◌, ℕ, zero, suc, ◌==◌, ◌&&◌, ◌||◌, nat_lt, not, Bool, true, false, List, [], ◌∷◌, map}
-use Rattle.snippet_strokes.proofs.Common.{get_or, refl, All, ◌<◌, ◌++◌, ◌∙◌, ap, sym, subst, arith, inl, inr, nat_cmp, is_lt, reverse}
-use Rattle.snippet_strokes.proofs.Common.{IsStrictWeakOrder, IsPermutation, IsSortedBy, IsStableBy, ordering_then, bool_cmp, Reverse, cases_Bool, cond-false}
-use Rattle.snippet_strokes.proofs.Common.{cond-true, nat_tests, reverse-append, All-cons, All-nil, All-head, All-tail, All-permutation, IsPermutation-cons}
-use Rattle.snippet_strokes.proofs.Common.{IsPermutation-middle, IsPermutation-refl, IsPermutation-sym, IsPermutation-trans, ordered_by, put_in, All-put_in}
-use Rattle.snippet_strokes.proofs.Common.{map-ordered_by, sorted-only, LineAnnotation, PlacedEntry, entry_width, is_primary, is_painted_before, painting_order}
-use Rattle.snippet_strokes.proofs.Common.{sorted_same, stable_same, rules}
+use Rattle.snippet_strokes.proofs.Common.{refl, All, ◌<◌, ◌++◌, ◌∙◌, ap, sym, subst, arith, inl, inr, nat_cmp, is_lt, reverse, IsStrictWeakOrder}
+use Rattle.snippet_strokes.proofs.Common.{IsPermutation, IsSortedBy, IsStableBy, ordering_then, bool_cmp, Reverse, cases_Bool, cond-false, cond-true, nat_tests}
+use Rattle.snippet_strokes.proofs.Common.{reverse-append, All-cons, All-nil, All-head, All-tail, All-permutation, IsPermutation-cons, IsPermutation-middle}
+use Rattle.snippet_strokes.proofs.Common.{IsPermutation-refl, IsPermutation-sym, IsPermutation-trans, ordered_by, put_in, All-put_in, map-ordered_by}
+use Rattle.snippet_strokes.proofs.Common.{sorted-only, LineAnnotation, PlacedEntry, entry_width, is_primary, is_painted_before, painting_order, sorted_same}
+use Rattle.snippet_strokes.proofs.Common.{stable_same, rules}
 use Rattle.snippet_strokes.proofs.PaintedMarks.{CoversOver, IsPaintingOrder}
 
 -- the key that entries are sorted by
@@ -33,19 +34,19 @@ painted_before : PlacedEntry → PlacedEntry → Bool
 painted_before x y = is_painted_before x.entry y.entry
 
 paint_one_way : (m n : ℕ) (x y : Bool) → (nat_lt n m || (m == n && (not x && y))) ≡ true → (nat_lt m n || (n == m && (not y && x))) ≡ false
-paint_one_way m n true true h = grind (arith, nat_tests, h)
-paint_one_way m n true false h = grind (arith, nat_tests, h)
-paint_one_way m n false true h = grind (arith, nat_tests, h)
-paint_one_way m n false false h = grind (arith, nat_tests, h)
+paint_one_way m n true true h = grind (arith, nat_tests)
+paint_one_way m n true false h = grind (arith, nat_tests)
+paint_one_way m n false true h = grind (arith, nat_tests)
+paint_one_way m n false false h = grind (arith, nat_tests)
 
 paint_chain : (m n o : ℕ) (x y z : Bool) → (nat_lt n m || (m == n && (not x && y))) ≡ false → (nat_lt o n || (n == o && (not y && z))) ≡ false
     → (nat_lt o m || (m == o && (not x && z))) ≡ false
-paint_chain m n o true y true g h = grind (arith, nat_tests, g, h)
-paint_chain m n o true y false g h = grind (arith, nat_tests, g, h)
-paint_chain m n o false true true g h = grind (arith, nat_tests, g, h)
-paint_chain m n o false true false g h = grind (arith, nat_tests, g, h)
-paint_chain m n o false false true g h = grind (arith, nat_tests, g, h)
-paint_chain m n o false false false g h = grind (arith, nat_tests, g, h)
+paint_chain m n o true y true g h = grind (arith, nat_tests)
+paint_chain m n o true y false g h = grind (arith, nat_tests)
+paint_chain m n o false true true g h = grind (arith, nat_tests)
+paint_chain m n o false true false g h = grind (arith, nat_tests)
+paint_chain m n o false false true g h = grind (arith, nat_tests)
+paint_chain m n o false false false g h = grind (arith, nat_tests)
 
 paint_order : IsStrictWeakOrder painted_before
 unfolding painted_before
@@ -78,10 +79,7 @@ AllCover-put_in e (f ∷ fs) up =
       | inl over ↦
           subst AllCover (sym (cond-true (is_painted_before f e) here there over))
           (All-put_in is_painted_before (CoversOver f) e fs (covers_after f e over) up.0, AllCover-put_in e fs up.1)
-      | inr under ↦
-          let first = covers_before f e under in
-          subst AllCover (sym (cond-false (is_painted_before f e) here there under))
-          (All-cons (CoversOver e) f fs first (λ k d within. CoversOver-trans e f (get_or fs k d) first (up.0 k d within)), up)
+      | inr under ↦ grind (arith, common_steps, cond-false, here, there, All-cons, up.0)
     ]
 
 AllCover-ordered_by : (es : List LineAnnotation) → AllCover (ordered_by is_painted_before es)

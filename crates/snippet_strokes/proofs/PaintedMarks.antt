@@ -1,9 +1,9 @@
 -- What is seen of marks that are painted one over another.
 use Rattle.std.specs.Prelude.{◌≡◌, ◌≢◌, ℕ, ◌+◌, ◌<◌, ◌≤◌, ◌==◌, max, true, List, [], ◌∷◌, All, IsPermutation, length, map}
+use Rattle.std.specs.Prelude.{slice_index_or}
 use Rattle.snippet_strokes.proofs.Common.{if◌then◌else◌, LineAnnotation, strokes_of, underline_role, cell_at, row_at, Cell, unlinked_cell, Layout}
 use Rattle.snippet_strokes.proofs.Common.{code_cell, IsFreeCell, PlacedEntry, entry_width, label_role, label_text, is_primary, has_label, label_place}
 use Rattle.snippet_strokes.proofs.Common.{first_glyph, mark_end}
-use Rattle.std.specs.Prelude.{slice_index_or}
 
 -- the later entry may be painted over the earlier one: it is narrower, or as wide, and then primary if the earlier one is
 pub record CoversOver (earlier later : LineAnnotation) : Type 0 where

@@ -1,4 +1,5 @@
 -- The entries of a line that are placed are those of the value.
+use Rattle.std.proofs.lemmas.Grind.{common_steps}
 use Rattle.snippet_strokes.proofs.Common.{◌≡◌, ℕ, List, [], ◌∷◌, map, All, refl, sym, ap, ◌∙◌, zip, All-head, All-tail, ordered_by}
 use Rattle.snippet_strokes.proofs.Common.{LineAnnotation, PlacedEntry, is_placed_before, line_positions, look_counts, placed_of, ArePlaced, HasItsBytes}
 use Rattle.snippet_strokes.proofs.Common.{unplaced, line_positions-changed, look_counts-changed, placed_of-at, labelled, placed_at, arith}
@@ -35,8 +36,7 @@ placed_are es placed are =
     let bytes = all_unplaced placed are.bytes in
     let alike : line_positions placed ≡ line_positions (labelled (map entry placed)) = sym (line_positions-unplaced placed)
     ∙ ap line_positions bytes ∙ line_positions-unplaced (labelled (map entry placed)) in
-    let counted : look_counts 0 placed ≡ look_counts 0 (labelled (map entry placed)) = sym (look_counts-unplaced placed)
-    ∙ ap (look_counts 0) bytes ∙ look_counts-unplaced (labelled (map entry placed)) in
+    let counted : look_counts 0 placed ≡ look_counts 0 (labelled (map entry placed)) = grind (arith, common_steps, look_counts-unplaced, bytes, entry) in
     let at : map position placed ≡ line_positions (labelled ordered) = are.positions_are ∙ alike ∙ ap (λ xs. line_positions (labelled xs)) are.order in
     let counts : map count placed ≡ look_counts 0 (labelled ordered) = are.looked_are ∙ counted ∙ ap (λ xs. look_counts 0 (labelled xs)) are.order in
     all_placed placed are.bytes ∙ ap (λ xs. map placed_at (zip xs (places placed))) are.order

@@ -1,10 +1,11 @@
 -- The placed entries of a line, as the value that the rule gives: they are placed as painters place them, where labels are texts.
-use Rattle.snippet_strokes.proofs.Common.{◌≡◌, ℕ, suc, zero, true, false, IfSome, List, [], ◌∷◌, ◌++◌, All, IsUtf8, encode_utf8_all, get_or}
-use Rattle.snippet_strokes.proofs.Common.{length, map, refl, sym, ap, ◌∙◌, subst, arith, inl, inr, scalars, zip, cases_Bool, cond-false, cond-true}
-use Rattle.snippet_strokes.proofs.Common.{nat_tests, length-map, All-cons, All-head, All-nil, All-tail, IsPermutation-map, chars-encodes, chars-nil}
-use Rattle.snippet_strokes.proofs.Common.{scalars-chars, ordered_by, put_in, All-put_in, LineAnnotation, norm, shown, shifted, is_placed_before, line_positions}
-use Rattle.snippet_strokes.proofs.Common.{look_counts, placed_of, position_after, position_at, ArePlaced, HasItsBytes, HasItsLabel, IsFromRight, StandsLeft}
-use Rattle.snippet_strokes.proofs.Common.{unplaced, PlacedEntry, labelled, label_text, placed_at, ArePlaced-from, placed_of-at, rules}
+use Rattle.std.proofs.lemmas.Grind.{common_steps}
+use Rattle.snippet_strokes.proofs.Common.{◌≡◌, ℕ, suc, zero, true, false, IfSome, List, [], ◌∷◌, ◌++◌, All, IsUtf8, encode_utf8_all, length}
+use Rattle.snippet_strokes.proofs.Common.{map, refl, sym, ap, ◌∙◌, subst, arith, inl, inr, scalars, zip, cases_Bool, cond-false, cond-true, nat_tests}
+use Rattle.snippet_strokes.proofs.Common.{length-map, All-cons, All-head, All-nil, All-tail, IsPermutation-map, chars-encodes, chars-nil, scalars-chars}
+use Rattle.snippet_strokes.proofs.Common.{ordered_by, put_in, All-put_in, LineAnnotation, norm, shown, shifted, is_placed_before, line_positions, look_counts}
+use Rattle.snippet_strokes.proofs.Common.{placed_of, position_after, position_at, ArePlaced, HasItsBytes, HasItsLabel, IsFromRight, StandsLeft, unplaced}
+use Rattle.snippet_strokes.proofs.Common.{PlacedEntry, labelled, label_text, placed_at, ArePlaced-from, placed_of-at, rules}
 use Rattle.std.proofs.Common.{chars}
 use Rattle.snippet_strokes.proofs.PositionLemmas.{length-line_positions}
 use Rattle.snippet_strokes.proofs.PaintOrder.{IsPermutation-ordered_by}
@@ -17,15 +18,15 @@ HasTextLabel e = IfSome e.label IsUtf8
 
 scalars-append : (xs ys : List ℕ) → scalars xs ≡ true → scalars ys ≡ true → scalars (xs ++ ys) ≡ true
 scalars-append [] ys first rest = rest
-scalars-append (x ∷ xs) ys first rest = grind (arith, scalars, scalars-append xs ys (grind (arith, first)) rest)
+scalars-append (x ∷ xs) ys first rest = grind (arith, scalars-append xs ys (grind (arith, first)) rest)
 
 scalars-shown : (c : ℕ) → scalars (c ∷ []) ≡ true → scalars (shown c) ≡ true
-scalars-shown c is = grind (arith, nat_tests, is)
+scalars-shown c is = grind (arith, nat_tests)
 
 scalars-norm : (cs : List ℕ) → scalars cs ≡ true → scalars (norm cs) ≡ true
 unfolding norm
 scalars-norm [] are = refl
-scalars-norm (c ∷ cs) are = grind (arith, scalars, scalars-append, scalars-shown, scalars-norm cs (grind (arith, are)))
+scalars-norm (c ∷ cs) are = grind (arith, scalars-append, scalars-shown, scalars-norm cs (grind (arith, are)))
 
 -- the bytes of a label spell the characters that it shows
 label_spelled : (e : LineAnnotation) → HasTextLabel e → chars (encode_utf8_all (label_text e)) ≡ label_text e
@@ -57,12 +58,7 @@ Falls-put_in x (y ∷ ys) falls =
       | inl is ↦
           subst Falls (sym (cond-true (is_placed_before y x) after before is))
           (All-put_in is_placed_before (StandsLeft y) x ys (StandsLeft-before y x is) falls.0, Falls-put_in x ys falls.1)
-      | inr not ↦
-          subst Falls (sym (cond-false (is_placed_before y x) after before not)) (
-            All-cons (StandsLeft x) y ys (StandsLeft-after y x not)
-                (λ k d within. StandsLeft-over x y (get_or ys k d) (StandsLeft-after y x not) (falls.0 k d within)),
-            falls,
-          )
+      | inr not ↦ grind (arith, common_steps, cond-false, after, before, All-cons, falls.0)
     ]
 
 Falls-ordered_by : (es : List LineAnnotation) → Falls (ordered_by is_placed_before es)

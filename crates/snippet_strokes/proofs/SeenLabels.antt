@@ -1,6 +1,6 @@
 -- What is seen of the labels of a line: none is lost.
-use Rattle.std.specs.Prelude.{ℕ, Bool, true, ◌+◌, ◌<◌, ◌≤◌, ◌≡◌, ◌⊎◌, ◌==◌, ◌&&◌, ◌||◌, nat_le, nat_lt, max, All, List, [], count_by, length, map}
-use Rattle.std.specs.Prelude.{slice_index_or}
+use Rattle.std.specs.Prelude.{ℕ, Bool, true, ◌+◌, ◌<◌, ◌≤◌, ◌≡◌, ◌⊎◌, ◌==◌, ◌&&◌, ◌||◌, nat_le, nat_lt, max, All, List}
+use Rattle.std.specs.Prelude.{[], count_by, length, map, slice_index_or}
 use Rattle.snippet_strokes.proofs.Common.{Cell, unlinked_cell, DecorStyle, cell_at, is_bar, LineAnnotation, Layout, code_cell, label_role, label_text}
 use Rattle.snippet_strokes.proofs.Common.{is_start_part, IsStrokeCell, IsStemCell}
 

@@ -1,4 +1,5 @@
 -- Entries of a line of which columns are dropped.
+use Rattle.std.proofs.lemmas.Grind.{common_steps}
 use Rattle.snippet_strokes.proofs.Common.{ℕ, List, All, map, arith, All-map, Layout, LineAnnotation, shifted, HasBarCell, HasPlace}
 
 -- and they have their places, and their bars
@@ -6,8 +7,7 @@ pub shifted_places : (dropped : ℕ) (es : List LineAnnotation) → All HasPlace
 shifted_places dropped es places =
     All-map HasPlace (shifted dropped) es (λ k d within. record {
       ordered = omega (arith, (places k d within).ordered);
-      near = omega
-          (arith, (places k d within).near);
+      near = grind (arith, common_steps);
     })
 
 -- bars have their cells also where entries are shifted

@@ -4,8 +4,7 @@ use Rattle.snippet_strokes.proofs.Common.{slice_index_or, take-take, All-from_ge
 use Rattle.snippet_strokes.proofs.Common.{Layout, IsBarCell, IsFreeCell, IsFree, rules}
 use Rattle.snippet_strokes.proofs.DrawnCells.{DrawsBarCells}
 use Rattle.snippet_strokes.proofs.SeenRows.{HasNoBars, IsBeside, IsCut}
-use Rattle.snippet_strokes.proofs.BegunLemmas.{free_cell, cut_left}
-use Rattle.snippet_strokes.proofs.BegunLemmas.{same_front}
+use Rattle.snippet_strokes.proofs.BegunLemmas.{free_cell, cut_left, same_front}
 
 module _ (layout : Layout) (n : ℕ) (plain_row source : List Cell) (joined barred : List (List Cell)) (place : layout.gutter + 3 ≤ layout.code)
     (bare_bars : HasNoBars layout plain_row)

@@ -1,4 +1,5 @@
 -- Laws of the cells of bars beside a line and beside lines that are left out: where no bar has its place the row stays as it is.
+use Rattle.std.proofs.lemmas.Grind.{common_steps}
 use Rattle.snippet_strokes.proofs.Common.{◌≡◌, ℕ, ◌+◌, ◌<◌, ◌≤◌, ◌∷◌, ◌++◌, [], List, length, replicate, get_or, All, refl, ap}
 use Rattle.snippet_strokes.proofs.Common.{◌∙◌, arith, get_or_past, each_fails, length-text_cells, DecorStyle, Ascii, Unicode, LineNumber, elision_of}
 use Rattle.snippet_strokes.proofs.Common.{Cell, SPACE, text_cells, is_listed, Layout, OpenBar, Dotted, HasBarRoom, barred, gap_row, IsFree, IsElisionRow}
@@ -66,9 +67,7 @@ gap_drawn layout open_bars place room =
     let few = bare_elision_short layout.decor layout.gutter in
     record {
       left = drawn.left;
-      bar_cells = λ c from to. drawn.bar_cells c (bar_space layout.decor (get_or bare c SPACE)
-          (ap (λ (cell : Cell). cell.ch) (get_or_past bare c SPACE (omega (arith, few, from))))
-          (ap (λ (cell : Cell). cell.link) (get_or_past bare c SPACE (omega (arith, few, from)))));
+      bar_cells = grind (arith, common_steps, drawn, bar_space, bare, get_or_past, few, drawn.bar_cells, layout.decor);
       ends = omega (arith, drawn.short, few, place);
       free = drawn.free (free_bare_elision layout.decor layout.gutter);
     }
@@ -242,7 +241,7 @@ not_space role keeps ch same =
 
 -- the source row of a line reaches to the separator, and spaces stand in the place of bars
 source_row_long : (layout : Layout) (shown : List ℕ) (cells row : List Cell) → IsSourceRow layout shown cells row → layout.gutter + 2 ≤ length row
-source_row_long layout shown cells row is = grind (arith, cases_lt, not_space, get_or_past)
+source_row_long layout shown cells row is = grind (arith, cases_lt, get_or_past)
 
 -- highlighting changes roles alone
 highlighted_cell : (code dropped : ℕ) (es : List LineAnnotation) (plain row : List Cell) → IsHighlighted code dropped es plain row → (c : ℕ)

@@ -1,4 +1,5 @@
 -- Strokes are painted into the source row of a line apart from the rows below it: what stands in these is the same over any source row.
+use Rattle.std.proofs.lemmas.Grind.{common_steps}
 use Rattle.snippet_strokes.proofs.Common.{All, ◌≡◌, drop, ℕ, ◌+◌, ◌-◌, ◌<◌, ◌≤◌, ◌^◌, List, [], ◌∷◌, ◌++◌, Bool, length}
 use Rattle.snippet_strokes.proofs.Common.{map, replicate, refl, sym, ap, ◌∙◌, subst, arith, LineAnnotation, Cell, separator_row, Layout, PlacedEntry}
 use Rattle.snippet_strokes.proofs.Common.{shifted, entries_all, row_at, painting_order, bare_row, painted, AreDrawable, IsReady, HasBarCell, row_count}
@@ -30,14 +31,14 @@ abbrev rest_written : List (List Cell) → Write → List (List Cell)
 rest_written rows w = cond (w.row == 0) rows (cells_written rows (w.row - 1) w.cell (text_cells w.role w.text))
 
 not_first : (r : ℕ) → 0 < r → (r == 0) ≡ false
-not_first r below = grind (arith, nat_tests, below)
+not_first r below = grind (arith, nat_tests)
 
 written-first : (x : List Cell) (xs : List (List Cell)) (new : List Cell) → written [] (x ∷ xs) 0 (new ∷ []) ≡ new ∷ xs
 unfolding written
 written-first x xs new = refl
 
 one_written : (row : List Cell) (rows : List (List Cell)) (w : Write) → written_by (row ∷ rows) w ≡ top_written row w ∷ rest_written rows w
-one_written row rows w = grind (arith, written-first, written-cons, not_first)
+one_written row rows w = grind (arith, written-first, written-cons)
 
 -- so it is with writes one after another
 split : (ws : List Write) (row : List Cell) (rows : List (List Cell)) → painted ws (row ∷ rows) ≡ fold top_written row ws ∷ fold rest_written rows ws
@@ -285,9 +286,8 @@ painted_seen layout room closes es source rows place places bar_cells bare_bars 
     let marked = painted (marks_of layout 1 order) labelled in
     let many : length joined ≡ length begun = (DrawsFrom-connectors layout 1 placed begun (HasRows-row_count 1 (length begun) placed long)).count in
     let under = under_painted layout 0 (length joined) (length begun) placed begun joined barred stemmed labelled many refl refl refl refl in
-    let all : painted (drawn_strokes layout 0 (row_count placed + 1) placed order) begun ≡ marked = ap (λ n.
-    painted (drawn_strokes layout 0 n placed order) begun) (omega (arith, long))
-    ∙ sym (marks_painted layout 0 (length begun) placed order begun labelled marked under refl) in
+    let all : painted (drawn_strokes layout 0 (row_count placed + 1) placed order) begun ≡ marked =
+    grind (arith, common_steps, placed, order, begun, long, marks_painted, labelled, marked, under) in
     let Cut : List (List Cell) → Type 0 = λ drawn.
     CutsRows layout (wide_entries room layout.decor es) (is_uncut room layout.decor es) (row_at drawn 0) (row_at drawn 1) (drop 2 drawn) rows in
     strokes_seen layout room closes es placed [] source begun joined barred stemmed labelled marked place is.are

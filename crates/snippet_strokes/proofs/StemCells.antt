@@ -1,4 +1,5 @@
 -- Stems lead to labels: below a mark whose label hangs, a stem stands in each row down to the label, unless a label stands there.
+use Rattle.std.proofs.lemmas.Grind.{common_steps}
 use Rattle.snippet_strokes.proofs.Common.{◌≡◌, ℕ, zero, suc, ◌+◌, ◌-◌, ◌<◌, ◌≤◌, ◌==◌, ◌&&◌, ◌||◌, nat_lt, cond, Bool}
 use Rattle.snippet_strokes.proofs.Common.{true, false, List, [], ◌∷◌, ◌++◌, length, get_or, map, refl, sym, ap, subst, arith, inl, inr, All, list_any}
 use Rattle.snippet_strokes.proofs.Common.{range_with_len, cases_Bool, nat_tests, All-cons, All-head, All-nil, All-tail, get_or-map-range_with_len}
@@ -244,12 +245,8 @@ painted_rows-count layout closes placed order source =
     let seps : List (List Cell) = replicate (count - 1) (separator_row layout.decor layout.gutter) in
     let last : List Cell = bare_row layout.decor layout.gutter closes in
     let some : 0 < count = row_count_some placed in
-    let bare : count + 1 ≡ length (begun_rows layout closes count source) = omega (
-      arith,
-      some,
-      length-append seps (last ∷ []),
-      length-replicate (count - 1) (separator_row layout.decor layout.gutter),
-    ) in
+    let bare : count + 1 ≡ length (begun_rows layout closes count source) =
+    grind (arith, common_steps, some, length-append, seps, last, length-replicate, count, layout.decor, layout.gutter) in
     let rows : All (HasRows 1 (count + 1)) placed = HasRows-row_count 1 (count + 1) placed (omega arith) in
     painted-count (drawn_strokes layout 0 (count + 1) placed order) (begun_rows layout closes count source) (count + 1) bare
     (strokes_inside layout (count + 1) placed order (omega (arith, some)) rows)
@@ -274,19 +271,7 @@ map-replicate f (suc n) x = ap (λ ys. f x ∷ ys) (map-replicate f n x)
 
 row_text-written : (cells : List Cell) (at : ℕ) (new : List Cell) → row_text (written SPACE cells at new) ≡ written 32 (row_text cells) at (row_text new)
 unfolding written
-row_text-written cells at new =
-    let f : Cell → ℕ = λ c. c.ch in
-    let pad : map f (replicate (at - length cells) SPACE) ≡ replicate (at - length (map f cells)) 32 = map-replicate f (at - length cells) SPACE
-    ∙ ap (λ n. replicate (at - n) 32) (sym (length-map cells f)) in
-    let front : map f (take at (cells ++ replicate (at - length cells) SPACE)) ≡ take at (map f cells ++ replicate (at - length (map f cells)) 32) =
-    sym (take-map f at (cells ++ replicate (at - length cells) SPACE))
-    ∙ ap (take at) (map-append f cells (replicate (at - length cells) SPACE) ∙ ap (λ p. map f cells ++ p) pad) in
-    let back : map f (drop (at + length new) cells) ≡ drop (at + length (map f new)) (map f cells) = sym (drop-map f (at + length new) cells)
-    ∙ ap (λ n. drop (at + n) (map f cells)) (sym (length-map new f)) in
-    map-append f (take at (cells ++ replicate (at - length cells) SPACE) ++ new) (drop (at + length new) cells)
-    ∙ ap (λ xs. xs ++ map f (drop (at + length new) cells))
-    (map-append f (take at (cells ++ replicate (at - length cells) SPACE)) new ∙ ap (λ xs. xs ++ map f new) front)
-    ∙ ap (λ xs. (take at (map f cells ++ replicate (at - length (map f cells)) 32) ++ map f new) ++ xs) back
+row_text-written cells at new = grind (arith, common_steps, map-replicate, length-map, take-map, map-append, drop-map)
 
 -- a text, which stands after as many columns, if lines are cut on the left, with the placeholder at their beginning, and with the
 -- placeholder over its end, from this cell on

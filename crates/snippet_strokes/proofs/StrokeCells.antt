@@ -225,8 +225,7 @@ paints_some layout row e old some =
     let begun : Paints old mid row from (from + 1) marks = Paints-more old old mid row from from (from + 1) marks (Paints-none old row from marks) one
     (omega arith) refl in
     let is_line = other_cell_is layout e glyph (is_primary e.entry.kind) role refl refl refl in
-    let is : painted (drawn_mark layout row e) old ≡ new = ap (λ b. painted
-    (cond b (glyph_at row from first role ∷ stretch_of row (from + 1) to glyph role) []) old) (less from to (omega (arith, some))) in
+    let is : painted (drawn_mark layout row e) old ≡ new = grind (arith, common_steps, from, first, role, to, glyph) in
     subst (λ (rows : List (List Cell)). Paints old rows row from to marks) (sym is) (elim (cases_lt (from + 1) to) [
       | inl more ↦
           let writes : WritesCells mid new row (from + 1) (replicate n line) =
@@ -235,10 +234,7 @@ paints_some layout row e old some =
           (text_cells role (replicate n glyph))) (sym (ap (λ b. painted (cond b (w ∷ []) []) mid) (less (from + 1) to more)))
           (WritesCells-cells_written mid row (from + 1) (text_cells role (replicate n glyph)))) in
           Paints-rest old mid new row from to line marks begun (λ c past. is_line c past) more writes
-      | inr none ↦
-          let all : from + 1 ≡ to = omega (arith, none, some) in
-          let same : mid ≡ new = sym (ap (λ ws. painted ws mid) (stretch_of-none row (from + 1) to glyph role none)) in
-          subst (λ (rows : List (List Cell)). Paints old rows row from to marks) same (subst (λ m. Paints old mid row from m marks) all begun)
+      | inr none ↦ grind (arith, common_steps, from, to, mid, new, stretch_of-none, glyph, role, marks, begun)
     ])
 
 pub Paints-mark : (layout : Layout) (row : ℕ) (e : PlacedEntry) (old : List (List Cell))

@@ -1,4 +1,5 @@
 -- The rows of a line's strokes, once all are drawn.
+use Rattle.std.proofs.lemmas.Grind.{common_steps}
 use Rattle.snippet_strokes.proofs.Common.{◌≡◌, ◌≢◌, ℕ, zero, suc, ◌+◌, ◌-◌, ◌<◌, ◌≤◌, ◌==◌, ◌&&◌, max, not, Bool, true}
 use Rattle.snippet_strokes.proofs.Common.{false, List, [], ◌∷◌, ◌++◌, length, map, drop, replicate, get_or, refl, sym, ap, ◌∙◌, subst, arith}
 use Rattle.snippet_strokes.proofs.Common.{All, slice_index_or, IsPermutation, cases_lt, nat_tests, length-append, length-replicate, length-drop}
@@ -316,8 +317,7 @@ module _ (layout : Layout) (room : ℕ) (closes : Bool) (es : List LineAnnotatio
   unmarked : plain ≡ true → (p : ℕ) → All (λ e. EntryCovers e p → ⊥) es → is_mark_role (cell_at new row (layout.code + p)).role ≡ false
   unmarked flat p uncovered =
       let N : LineAnnotation → Type 0 = λ e. layout.code + p ≢ layout.code + e.start.display in
-      let beside : All N es = λ k d within here. uncovered k d within
-      (omega (arith, here), omega (arith, here, (plain_entries room layout.decor es flat k d within).1)) in
+      let beside : All N es = grind (arith, common_steps, plain_entries) in
       let bare_space : is_mark_role (cell_at barred row (layout.code + p)).role
       ≡ false = ap (λ rows. is_mark_role (cell_at rows row (layout.code + p)).role) (barless flat)
       ∙ ap (λ cells. is_mark_role (slice_index_or cells (layout.code + p) SPACE).role) first_begun ∙ ap (λ (c : Cell). is_mark_role c.role) (space_at p) in

@@ -36,4 +36,4 @@ whole_between decor room right text fits = grind (arith, end_none, inner-whole)
 pub window_cells-whole : (decor : DecorStyle) (margin : Margin) (text : List ℕ) → margin.computed_left ≡ 0 → width_of text ≤ margin.term_width
     → window_cells decor margin text ≡ text_cells Quotation text
 unfolding cells_between
-window_cells-whole decor margin text uncut fits = grind (arith, cells_between, whole_between)
+window_cells-whole decor margin text uncut fits = grind (arith, whole_between)

@@ -39,7 +39,7 @@ painted_more f xs i x old mid within is so_far = grind (arith, common_steps, nat
 
 -- the test answers yes for a lesser number
 pub less : (a b : ℕ) → a < b → nat_lt a b ≡ true
-less a b is = grind (arith, nat_tests, is)
+less a b is = grind (arith, nat_tests)
 
 -- where a stretch has no cell nothing is written
 pub stretch_of-none : (row from to glyph : ℕ) (role : ElementStyle) → to ≤ from → stretch_of row from to glyph role ≡ []
@@ -92,7 +92,7 @@ reached w r c = search rules
 
 kept_written : (P : Cell → Type 0) (w : Write) (rows : List (List Cell)) (r c : ℕ) → P (cell_at rows r c) → (Reaches r c w → P (cell_of_write w c))
     → P (cell_at (written_by rows w) r c)
-kept_written P w rows r c before leaves = grind (arith, reached, cell-written, cell-unwritten)
+kept_written P w rows r c before leaves = grind (arith, cell-written, cell-unwritten)
 
 -- what holds of a cell, and of what each write leaves there that reaches it, holds after the writes
 pub painted-cell : (P : Cell → Type 0) (ws : List Write) (rows : List (List Cell)) (r c : ℕ) → P (cell_at rows r c)
@@ -150,8 +150,7 @@ DrawsFrom-painted row from ws rows within =
     let W : Write → Type 0 = IsWithin row n from in
     record {
       above = λ r high. painted-other ws rows r (All-weaker W (λ w. r ≢ w.row) (λ w is same. omega (arith, is.below, high, same)) ws within);
-      left = λ r c before. painted-untouched ws rows r c (All-weaker W (λ w. Reaches r c w → ⊥) (λ w is there.
-          omega (arith, is.right, there.from, before)) ws within);
+      left = grind (arith, common_steps, painted-untouched, All-weaker, W);
       free = λ r free c. painted-cell IsFreeCell ws rows r c (free c)
           (All-weaker W (λ w. Reaches r c w → IsFreeCell (cell_of_write w c)) (λ w is there.
           (is.free (c - w.cell) 0 (omega (arith, there.from, there.to)), refl)) ws within);

@@ -1,5 +1,5 @@
-use Rattle.snippet_strokes.proofs.Common.{◌≡◌, ◌==◌, ◌∙◌, [], ap, arith, length, refl, sym, true, ℕ, nat_tests, nil_from_length, barred}
-use Rattle.snippet_strokes.proofs.CellLemmas.{with_parts}
+use Rattle.std.proofs.lemmas.Grind.{common_steps}
+use Rattle.snippet_strokes.proofs.Common.{◌≡◌, ◌==◌, ◌∙◌, arith, length, sym, true, ℕ, nat_tests, nil_from_length}
 use Rattle.snippet_strokes.proofs.BarRows.{changed_same}
 use Rattle.snippet_strokes.proofs.bars.draw_bars.Goals as goal
 
@@ -14,6 +14,5 @@ returns-then-is_empty c =
     let bars = c.args.bars.now in
     let none = nil_from_length bars (zero_told (length bars) (sym c.if-is_empty.true ∙ c.is_empty.ensures)) in
     record {
-      value = sym (ap (λ bs. barred layout stroke bs c.args.row c.args.buffer.now) none
-          ∙ changed_same (with_parts layout stroke []) c.args.row c.args.buffer.now (λ cells. refl));
+      value = grind (arith, common_steps, layout, stroke, none, changed_same, c.args.row, c.args.buffer.now);
     }

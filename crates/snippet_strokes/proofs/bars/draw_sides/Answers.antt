@@ -1,15 +1,13 @@
-use Rattle.snippet_strokes.proofs.Common.{◌≡◌, ◌∙◌, ◌-◌, ◌+◌, ◌<◌, ℕ, List, [], ap, sym, get_or, replicate, take, refl, subst, arith}
-use Rattle.snippet_strokes.proofs.Common.{get_or_default, take_all, OpenBar, Cell, SPACE, written, StandsBeside, bar_cell_part, barred, changed_from}
+use Rattle.std.proofs.lemmas.Grind.{common_steps}
+use Rattle.snippet_strokes.proofs.Common.{◌≡◌, ◌∙◌, ◌-◌, ◌+◌, ◌<◌, ℕ, List, ap, get_or, replicate, take, subst, arith, get_or_default}
+use Rattle.snippet_strokes.proofs.Common.{take_all, OpenBar, Cell, SPACE, written, StandsBeside, bar_cell_part, barred, changed_from}
 use Rattle.snippet_strokes.proofs.CellLemmas.{with_parts}
 use Rattle.snippet_strokes.proofs.BarRows.{changed-more, changed_same, side_drawn}
 use Rattle.snippet_strokes.proofs.BarLemmas.{no_bar}
 use Rattle.snippet_strokes.proofs.bars.draw_sides.Goals as goal
 
 pub loop-from-init : goal.loop-from-init
-loop-from-init c = (
-  omega arith,
-  sym (changed_same (with_parts c.args.layout c.args.stroke []) c.args.row c.args.buffer.now (λ cells. refl)),
-)
+loop-from-init c = grind (arith, changed_same, c.args.layout, c.args.stroke, c.args.row, c.args.buffer.now)
 
 pub side_end-to-requires-clause-right : goal.side_end-to-requires-clause-right
 side_end-to-requires-clause-right c =
@@ -22,11 +20,7 @@ draw_side-requires c =
     let beside = to.ensures.beside last no_bar (omega (arith, to.ensures.more)) (omega (arith, to.ensures.more)) in
     let room = c.requires.room last no_bar (omega (arith, to.ensures.more, to.ensures.within)) in
     record {
-      side = record {
-        left = (c.requires.room c.loop-from.from no_bar c.loop-from-test.true).0;
-        room = omega (arith, beside.depth, room.1, to.ensures.more);
-        some = omega (arith, to.ensures.more);
-      };
+      side = grind (arith, common_steps, room, beside, to, c.requires.room, c.loop-from.from, c.loop-from-test.true, beside.depth, room.1, to.ensures.more);
     }
 
 pub loop-from-preserved : goal.loop-from-preserved

@@ -4,14 +4,7 @@ use Rattle.snippet_strokes.proofs.CellRowLemmas.{are_blanks, more_blanks, writte
 use Rattle.snippet_strokes.proofs.cell_rows.add_blanks.Goals as goal
 
 pub loop-left-init : goal.loop-left-init
-loop-left-init c =
-    let cells = map cell_of c.args.cells.now.items in
-    let none : c.args.at - length c.args.cells.now.items - (c.args.at - c.len.result) ≡ 0 =
-    omega (arith, c.len.ensures, c.args.cells.now.ok.0) in
-    record {
-      low = omega (arith, c.len.ensures, c.args.cells.now.ok.0);
-      so_far = sym (ap (λ n. cells ++ replicate n SPACE) none ∙ append-nil cells);
-    }
+loop-left-init c = grind (arith, append-nil, c.args.cells.now.items, c.args.at, c.len.result, c.len.ensures, c.args.cells.now.ok.0)
 
 pub push_part-requires-clause-blanks : goal.push_part-requires-clause-blanks
 push_part-requires-clause-blanks c = are_blanks (record { ch = 32; role = NoStyle }) refl

@@ -1,6 +1,7 @@
+use Rattle.std.proofs.Common.{arith, ◌/◌}
+use Rattle.std.proofs.lemmas.Grind.{common_steps}
 use Rattle.snippet_strokes.proofs.Common.{◌≡◌, ◌∙◌, ◌+◌, ◌-◌, ◌∷◌, [], Bool, ℕ, List, ap, false, true, length, max, refl, sym}
 use Rattle.snippet_strokes.proofs.Common.{on_ok_weaker, is_wide_entry, Layout, code_cell, Cell, placeholder_of}
-use Rattle.std.proofs.Common.{◌/◌}
 use Rattle.std.specs.Prelude.{◌&&◌, not}
 use Rattle.snippet_strokes.proofs.CutPairs.{middle_cut, nothing_cut}
 use Rattle.snippet_strokes.proofs.CutWords.{cut_rows}
@@ -24,10 +25,7 @@ returns-then-overlapped c =
     let wide : Bool = is_wide_entry c.args.room (length (placeholder_of layout.decor)) e.entry in
     let stays : (wide && not flag) ≡ false = elim c.then-overlapped.branch [
       | then-overlapped-via-then-overlapped w ↦ overlapped_stays wide flag w.if-overlapped.true
-      | then-overlapped-via-else-overlapped+then-not-is_wide w ↦
-          let narrow : w.is_wide.result ≡ false = cc in
-          ap (λ b. b && not flag) (ap (λ (l : Layout). is_wide_entry c.args.room (length (placeholder_of l.decor)) e.entry) (sym c.layout.view_is)
-          ∙ sym w.is_wide.ensures.value ∙ narrow)
+      | then-overlapped-via-else-overlapped+then-not-is_wide w ↦ grind (arith, common_steps, flag, e, c.args.room, e.entry, c.layout.view_is)
     ] in
     record { value = nothing_cut layout c.args.room c.args.row (e, flag) c.args.buffer.now stays }
 

@@ -1,5 +1,7 @@
-use Rattle.snippet_strokes.proofs.Common.{◌≡◌, ◌∙◌, ◌++◌, ◌∷◌, [], ap, sym, replicate, on_ok_weaker, DecorStyle, LineNumber, elision_of}
-use Rattle.snippet_strokes.proofs.Common.{SPACE, text_cells, Layout, separator_cell, begun_by_text}
+use Rattle.std.proofs.Common.{arith}
+use Rattle.std.proofs.lemmas.Grind.{common_steps}
+use Rattle.snippet_strokes.proofs.Common.{◌≡◌, ◌∙◌, ◌++◌, ◌∷◌, [], ap, sym, replicate, on_ok_weaker, LineNumber, elision_of, SPACE}
+use Rattle.snippet_strokes.proofs.Common.{text_cells, Layout, begun_by_text}
 use Rattle.snippet_strokes.proofs.SourceCellLaws.{bare_elision_is, elision_cell, elision_some}
 use Rattle.snippet_strokes.proofs.elision.begin_elision_row.Goals as goal
 use Rattle.snippet_strokes.proofs.elision.begin_elision_row.Goals.{in-Ascii, in-Unicode}
@@ -9,11 +11,8 @@ returns c =
     let decor = c.layout.inside.decor in
     let gutter = c.layout.inside.gutter in
     let old = c.args.buffer.now in
-    let at : c.match-layout.cell ≡ elision_cell decor gutter = elim c.match-layout.branch [
-      | in-Ascii w ↦ w.cell-is ∙ sym (ap (λ (d : DecorStyle). elision_cell d gutter) w.in-Ascii.is)
-      | in-Unicode w ↦ w.cell-is ∙ w.separator_cell-cell.ensures.value ∙ ap separator_cell (sym c.layout.view_is)
-          ∙ sym (ap (λ (d : DecorStyle). elision_cell d gutter) w.in-Unicode.is)
-    ] in
+    let at : c.match-layout.cell ≡ elision_cell decor gutter =
+    grind (arith, common_steps, in-Ascii, gutter, in-Unicode, c.match-layout.branch, c.layout.view_is) in
     let shown = c.elision.ensures.value ∙ ap (λ (l : Layout). elision_of l.decor) (c.layout-2.view_is ∙ sym c.layout.view_is) in
     rw (← c.layout.view_is) (record {
       added = on_ok_weaker c.puts.result

@@ -1,5 +1,6 @@
-use Rattle.snippet_strokes.proofs.Common.{◌≡◌, ◌∙◌, ◌+◌, ap, arith, length, sym, take, take_all, changed_within, row_at, highlighted_row}
-use Rattle.snippet_strokes.proofs.HighlightLaws.{asking, lit_by-asked, lit_by-end, lit_by-none, lit_by-unasked, lit_by-width}
+use Rattle.std.proofs.lemmas.Grind.{common_steps}
+use Rattle.snippet_strokes.proofs.Common.{◌≡◌, ◌∙◌, ap, arith, length, take, take_all, row_at}
+use Rattle.snippet_strokes.proofs.HighlightLaws.{lit_by-asked, lit_by-end, lit_by-none, lit_by-unasked, lit_by-width}
 use Rattle.snippet_strokes.proofs.highlight.highlight_source.Goals as goal
 use Rattle.snippet_strokes.proofs.highlight.highlight_source.Goals.{then-entry+then-not-is_end_part+in_ok-highlight_entry, else-entry}
 use Rattle.snippet_strokes.proofs.highlight.highlight_source.Goals.{else-entry-via-then-entry+else-not-is_end_part, else-entry-via-else-entry}
@@ -30,11 +31,9 @@ loop-entry-preserved c =
     let is = c.entry-item.is in
     elim c.if-entry.branch [
       | then-entry+then-not-is_end_part+in_ok-highlight_entry w ↦
-          w.buffer-is ∙ w.in_ok-highlight_entry.ensures.value ∙ (rw c.loop-entry.invariant
-          (lit_by-asked code dropped row old es i item is within (sym w.is_end_part.ensures.value ∙ grind (arith, w.if-not-is_end_part.true)) w.if-entry.true))
+          grind (arith, common_steps, lit_by-asked, code, dropped, row, old, es, i, item, is, within, c.loop-entry.invariant)
       | else-entry w ↦ w.buffer-is ∙ c.loop-entry.invariant ∙ elim w.else-entry.branch [
-        | else-entry-via-then-entry+else-not-is_end_part v ↦
-            lit_by-end code dropped row old es i item is within (sym v.is_end_part.ensures.value ∙ grind (arith, v.if-not-is_end_part.false))
+        | else-entry-via-then-entry+else-not-is_end_part v ↦ grind (arith, common_steps, lit_by-end, code, dropped, row, old, es, i, item, is, within)
         | else-entry-via-else-entry v ↦ lit_by-unasked code dropped row old es i item is within v.if-entry.false
       ]
     ]
@@ -45,6 +44,5 @@ returns c =
     let row = c.args.row in
     let all : take c.loop-entry.entry-index es ≡ es = take_all c.loop-entry.entry-index es (omega (arith, c.loop-entry-test.false)) in
     record {
-      value = c.loop-entry.invariant
-          ∙ ap (λ xs. changed_within (highlighted_row c.args.layout.code c.args.dropped (asking xs)) row (row + 1) c.args.buffer.now) all;
+      value = grind (arith, common_steps, row, all, c.loop-entry.invariant, c.args.layout.code, c.args.dropped, c.args.buffer.now);
     }

@@ -1,4 +1,4 @@
-use Rattle.snippet_strokes.proofs.Common.{◌≡◌, ◌∙◌, ◌-◌, ◌<◌, ap, sym, arith, length, replicate, length-replicate, on_ok_weaker, painted}
+use Rattle.snippet_strokes.proofs.Common.{◌≡◌, ◌∙◌, ◌-◌, ◌<◌, ap, arith, length, replicate, length-replicate, on_ok_weaker}
 use Rattle.std.specs.Str.{chars}
 use Rattle.snippet_strokes.proofs.LineLemmas.{some_bytes}
 use Rattle.snippet_strokes.proofs.WriteLaws.{stretch_of-none, stretch_painted}
@@ -12,10 +12,7 @@ puts-requires-clause-end c =
 
 pub returns-then-end-start : goal.returns-then-end-start
 returns-then-end-start c =
-    record {
-      painted = sym (ap (λ ws. painted ws c.args.buffer.now)
-          (stretch_of-none c.args.row c.args.cells.start c.args.cells.end c.args.glyph c.args.role (omega (arith, c.if-end-start.true))));
-    }
+    grind (arith, stretch_of-none, c.args.buffer.now, c.args.row, c.args.cells.start, c.args.cells.end, c.args.glyph, c.args.role, c.if-end-start.true)
 
 pub returns : goal.returns
 returns c =

@@ -13,7 +13,4 @@ loop-entry-preserved c rest =
 
 pub returns : goal.returns
 returns c =
-    record {
-      yes = λ _. reversed_order 0 c.args.placed.now (c.loop-entry.invariant (subst (Widens c.loop-entry.widest)
-          (sym (drop_all c.loop-entry.entry-index c.args.placed.now (omega (arith, c.loop-entry-test.false)))) tt));
-    }
+    grind (arith, reversed_order, drop_all, c.args.placed.now, c.loop-entry.invariant, c.loop-entry.widest, c.loop-entry.entry-index, c.loop-entry-test.false)

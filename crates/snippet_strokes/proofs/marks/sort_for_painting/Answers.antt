@@ -1,13 +1,10 @@
-use Rattle.snippet_strokes.proofs.Common.{◌≡◌, ◌∙◌, List, reverse, rules, subst, answers_always, on_ok_weaker, PlacedEntry, painting_order}
+use Rattle.std.proofs.Common.{arith}
+use Rattle.snippet_strokes.proofs.Common.{rules, answers_always, on_ok_weaker}
 use Rattle.snippet_strokes.proofs.PaintOrder.{paint_key, painting_order_of_sort}
 use Rattle.snippet_strokes.proofs.marks.sort_for_painting.Goals as goal
 
 pub returns-then-is_order_reversed : goal.returns-then-is_order_reversed
-returns-then-is_order_reversed c =
-    record {
-      order = c.reverse.ensures.items ∙ subst (λ (es : List PlacedEntry). reverse es ≡ painting_order es) c.deref.ensures.value
-          (c.is_order_reversed.ensures.yes c.if-is_order_reversed.true);
-    }
+returns-then-is_order_reversed c = grind (arith, c.reverse.ensures.items, c.deref.ensures.value, c.is_order_reversed.ensures.yes, c.if-is_order_reversed.true)
 
 pub returns : goal.returns
 returns c =

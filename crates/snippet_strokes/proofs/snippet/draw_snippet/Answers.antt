@@ -1,16 +1,14 @@
+use Rattle.std.proofs.lemmas.Grind.{common_steps}
 use Rattle.snippet_strokes.proofs.Common.{◌≡◌, ◌∙◌, ◌+◌, ◌-◌, ◌++◌, take, ◌==◌, ◌&&◌, [], All, sym, ap, subst, arith, length}
 use Rattle.snippet_strokes.proofs.Common.{drop, append-nil, drop_all, take_rest, All-nil, All-same, ShownLine, infos_of, infos_of-at, infos_of-drop}
-use Rattle.snippet_strokes.proofs.Common.{infos_of-length, gap_rows, infos_rows, HasBarRoom, HasBarCell}
+use Rattle.snippet_strokes.proofs.Common.{infos_of-length, gap_rows, HasBarRoom, HasBarCell}
 use Rattle.snippet_strokes.proofs.LineAdded.{next_added}
 use Rattle.snippet_strokes.proofs.OpenLemmas.{room_below}
 use Rattle.snippet_strokes.proofs.snippet.draw_snippet.Goals as goal
 use Rattle.snippet_strokes.proofs.snippet.draw_snippet.Goals.{then-view, else-view}
 
 pub loop-i-init : goal.loop-i-init
-loop-i-init c = (
-  All-same (HasBarRoom c.args.layout) c.new.result.items [] c.new.ensures.items (All-nil (HasBarRoom c.args.layout)),
-  ap (λ bars. c.args.buffer.now ++ infos_rows c.args.layout c.args.view bars (infos_of c.args.lines.now)) c.new.ensures.items,
-)
+loop-i-init c = grind (arith, All-same, All-nil, c.args.layout, c.new.result.items, c.new.ensures.items, c.args.buffer.now, c.args.view, c.args.lines.now)
 
 pub draw_line-requires-clause-room : goal.draw_line-requires-clause-room
 draw_line-requires-clause-room c =
@@ -40,10 +38,8 @@ loop-i-preserved c =
     let info = line.info in
     let at = infos_of-at lines i line c.loop-i-test.true c.index-lines-i.is in
     let count : length infos ≡ length lines = infos_of-length lines in
-    let closes : c.if-view.closes ≡ (view.closes && i + 1 == length infos) = elim c.if-view.branch [
-      | then-view w ↦ w.closes-is ∙ sym (ap (λ n. view.closes && i + 1 == n) count ∙ ap (λ b. b && i + 1 == length lines) w.if-view.true)
-      | else-view w ↦ w.closes-is ∙ w.if-view.false ∙ sym (ap (λ b. b && i + 1 == length infos) w.if-view.false)
-    ] in
+    let closes : c.if-view.closes ≡ (view.closes && i + 1 == length infos) =
+    grind (arith, common_steps, then-view, view, i, count, lines, else-view, infos, c.if-view.branch, view.closes) in
     let rest : infos_of (take (length lines - (i + 1)) (drop (i + 1) lines)) ≡ drop (i + 1) infos = ap infos_of (take_rest lines (i + 1))
     ∙ infos_of-drop lines (i + 1) in
     let gap = c.in_ok-draw_gap.ensures.added
@@ -64,6 +60,5 @@ returns c =
     let i = c.loop-i.i in
     let none : drop i infos ≡ [] = drop_all i infos (omega (arith, c.loop-i-test.false, c.loop-i.auto.i-end, infos_of-length c.args.lines.now)) in
     record {
-      added = sym (append-nil c.loop-i.buffer)
-          ∙ ap (λ xs. c.loop-i.buffer ++ infos_rows c.args.layout c.args.view c.loop-i.bars.open_bars.items xs) (sym none) ∙ c.loop-i.invariant.1;
+      added = grind (arith, common_steps, append-nil, none, c.loop-i.buffer, c.args.layout, c.args.view, c.loop-i.bars.open_bars.items, c.loop-i.invariant.1);
     }

@@ -1,13 +1,11 @@
-use Rattle.snippet_strokes.proofs.Common.{◌≡◌, ◌∙◌, ◌≤◌, ◌+◌, ◌++◌, ◌∷◌, [], ℕ, List, None, ap, arith, length, subst, sym}
-use Rattle.snippet_strokes.proofs.Common.{chars-nil, cow_str_bytes, Layout, layout_of, Cell, source_row, begun_cells, ended_cells, Solid, Top}
+use Rattle.snippet_strokes.proofs.Common.{◌≡◌, ◌∙◌, ◌++◌, ◌∷◌, [], ℕ, List, None, ap, arith, length, subst, sym, chars-nil}
+use Rattle.snippet_strokes.proofs.Common.{cow_str_bytes, Layout, layout_of, Cell, source_row, begun_cells, ended_cells, Solid, Top}
 use Rattle.std.proofs.Common.{chars}
 use Rattle.snippet_strokes.proofs.CellLemmas.{with_parts}
 use Rattle.snippet_strokes.proofs.source_row.draw_empty_row.Goals as goal
 
 pub write_source_row-requires-clause-number : goal.write_source_row-requires-clause-number
-write_source_row-requires-clause-number c =
-    let short = subst (λ (l : Layout). length (chars (cow_str_bytes c.args.number.now)) ≤ l.gutter + 1) (sym c.layout.view_is) c.requires.number in
-    rw (← c.layout.view_is) (omega (arith, short, ap length (ap chars c.as_str.ensures.value)))
+write_source_row-requires-clause-number c = grind (arith, c.args.number.now, c.layout.view_is, c.requires.number, c.as_str.ensures.value)
 
 pub write_source_row-requires-clause-text : goal.write_source_row-requires-clause-text
 write_source_row-requires-clause-text c = omega (arith, ap length chars-nil)

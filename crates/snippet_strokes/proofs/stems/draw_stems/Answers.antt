@@ -1,5 +1,6 @@
-use Rattle.snippet_strokes.proofs.Common.{◌≡◌, ◌∙◌, ◌+◌, ◌-◌, ◌∷◌, false, true, ap, sym, subst, arith, drop, length, take, drop_more}
-use Rattle.snippet_strokes.proofs.Common.{drop_all, length-drop, take_all, HasPlaceAmong, HasRows, is_stem_covered, stems_of, painted}
+use Rattle.std.proofs.lemmas.Grind.{common_steps}
+use Rattle.snippet_strokes.proofs.Common.{◌≡◌, ◌∙◌, ◌+◌, ◌-◌, ◌∷◌, ap, sym, subst, arith, drop, length, take, drop_more, drop_all}
+use Rattle.snippet_strokes.proofs.Common.{length-drop, take_all, HasPlaceAmong, HasRows, is_stem_covered, stems_of, painted}
 use Rattle.snippet_strokes.proofs.EveryStem.{stems_painted}
 use Rattle.snippet_strokes.proofs.BarWrites.{stem_count, stems_next, stems_skip}
 use Rattle.snippet_strokes.proofs.stems.draw_stems.Goals.{then-not-is_stem_covered+in_ok-draw_stem, else-not-is_stem_covered}
@@ -30,18 +31,9 @@ loop-i-preserved g c =
     (subst (HasRows row (length (g.C.Canvas.rows c.args.buffer.now))) (sym c.index-placed-i.is) (c.requires.places i e c.loop-i-test.true).rows) in
     elim c.if-not-is_stem_covered.branch [
       | then-not-is_stem_covered+in_ok-draw_stem w ↦
-          let shown : is_stem_covered e later ≡ false = sym hidden ∙ cc in (
-            ap (λ b. painted (stems_of layout row later) (g.C.Canvas.rows b)) w.buffer-is
-                ∙ stems_next layout row e later mid (g.C.Canvas.rows w.draw_stem.new.buffer) shown (cc w.in_ok-draw_stem.ensures.painted) ∙ so_far,
-            ap (λ b. length (g.C.Canvas.rows b)) w.buffer-is
-                ∙ ap length (cc w.in_ok-draw_stem.ensures.painted) ∙ stem_count layout row e mid has ∙ c.loop-i.invariant.1,
-          )
+          grind (arith, common_steps, e, later, hidden, layout, row, stems_next, mid, so_far, stem_count, has, g.C.Canvas.rows, c.loop-i.invariant.1)
       | else-not-is_stem_covered w ↦
-          let covered : is_stem_covered e later ≡ true = sym hidden ∙ cc in (
-            ap (λ b. painted (stems_of layout row later) (g.C.Canvas.rows b)) w.buffer-is ∙ stems_skip layout row e later mid covered ∙ so_far,
-            ap (λ b. length (g.C.Canvas.rows b)) w.buffer-is
-                ∙ c.loop-i.invariant.1,
-          )
+          grind (arith, common_steps, e, later, hidden, layout, row, stems_skip, mid, so_far, g.C.Canvas.rows, c.loop-i.invariant.1)
     ]
 
 pub returns : goal.returns

@@ -1,7 +1,8 @@
+use Rattle.std.proofs.lemmas.Grind.{common_steps}
 use Rattle.snippet_strokes.proofs.Common.{ℕ, Bool, ◌≡◌, ◌+◌, ◌-◌, ◌<◌, ◌≤◌, ◌^◌, ◌∙◌, ◌++◌, ◌∷◌, [], List, All}
-use Rattle.snippet_strokes.proofs.Common.{ap, arith, drop, length, replicate, subst, sym, on_ok_weaker, on_ok_two, append_assoc, length-append, length-drop}
-use Rattle.snippet_strokes.proofs.Common.{flat_map, Layout, IsReady, HasBarCell, AreEnough, HasRows, PlacedEntry, Cell, separator_row, mark_of, painting_order}
-use Rattle.snippet_strokes.proofs.Common.{bare_row, line_strokes, strokes_under_marks, tops_of, painted}
+use Rattle.snippet_strokes.proofs.Common.{ap, arith, drop, length, replicate, subst, sym, on_ok_weaker, append_assoc, length-append, length-drop, flat_map}
+use Rattle.snippet_strokes.proofs.Common.{Layout, IsReady, AreEnough, HasRows, PlacedEntry, Cell, separator_row, mark_of, painting_order, bare_row}
+use Rattle.snippet_strokes.proofs.Common.{line_strokes, strokes_under_marks, tops_of, painted}
 use Rattle.snippet_strokes.proofs.CellLemmas.{drawn_strokes, marks_of}
 use Rattle.snippet_strokes.proofs.EveryMark.{every_mark, strokes_painted, under_marks_painted}
 use Rattle.snippet_strokes.proofs.ReadyLemmas.{ready_bar_cells}
@@ -10,12 +11,7 @@ use Rattle.snippet_strokes.proofs.EntryBarLaws.{marks_painted}
 use Rattle.snippet_strokes.proofs.strokes.draw_many.Goals as goal
 
 pub draw_tops-requires : goal.draw_tops-requires
-draw_tops-requires c =
-    record {
-      source = omega (arith, c.requires.last);
-      bar_cells = subst (All (λ (e : PlacedEntry). HasBarCell c.args.layout e.entry)) (sym c.deref.ensures.value)
-          (ready_bar_cells c.args.layout c.args.placed.now.items c.requires.ready);
-    }
+draw_tops-requires c = grind (arith, ready_bar_cells, c.requires.last, c.args.layout, c.deref.ensures.value, c.args.placed.now.items, c.requires.ready)
 
 -- the rows that are begun below one for the source row are enough
 module _ (layout : Layout) (closes : Bool) (row count : ℕ) (placed : List PlacedEntry) (old source begun : List (List Cell)) (some : 0 < count)
@@ -33,9 +29,7 @@ module _ (layout : Layout) (closes : Bool) (row count : ℕ) (placed : List Plac
       source_long lifted begins ∙ ap (λ n. n + count) source_long
 
   dense_enough : length begun ≤ 2 ^ 60 → AreEnough layout 0 (length begun) placed
-  dense_enough small = begun_enough layout 0 count placed source begun (separator_row layout.decor layout.gutter)
-      (bare_row layout.decor layout.gutter closes) some
-      source_long lifted begins ready small
+  dense_enough small = grind (arith, common_steps, begun_enough, source_long)
 
 pub draw_under_marks-requires : goal.draw_under_marks-requires
 draw_under_marks-requires c =
@@ -63,10 +57,7 @@ module _ (layout : Layout) (closes : Bool) (row count : ℕ) (placed after : Lis
   as_drawn = marks ∙ every_mark layout 1 after under ∙ ap (λ ps. painted (marks_of layout 1 ps) under) order
 
   pub all_painted : marked ≡ painted (drawn_strokes layout 0 (count + 1) placed (painting_order placed)) begun
-  all_painted =
-      marks_painted layout 0 (length begun) placed (painting_order placed) begun under marked (below ∙ under_marks_painted layout 0 (length begun) placed begun)
-      as_drawn ∙ ap (λ n. painted (drawn_strokes layout 0 n placed (painting_order placed)) begun)
-      (dense_long layout closes row count placed old source begun some last rows ready one begins ∙ (let swap : 1 + count ≡ count + 1 = omega arith in swap))
+  all_painted = grind (arith, common_steps, marks_painted, under_marks_painted, as_drawn, dense_long)
 
   pub all_long : length marked ≡ 1 + count
   all_long = count_marks under marked (enough_after begun under enough same) (painting_order placed) as_drawn ∙ same
@@ -114,9 +105,8 @@ returns c =
     let begun_is : begun ≡ [] ∷ bare = c.in_ok-begin_rows.ensures.added ∙ ap (λ rows. rows ++ replicate (count - 1) (separator_row layout.decor layout.gutter)
     ++ bare_row layout.decor layout.gutter closes ∷ []) c.in_ok-rows.ensures.source
     ∙ append_assoc ([] ∷ []) (replicate (count - 1) (separator_row layout.decor layout.gutter)) (bare_row layout.decor layout.gutter closes ∷ []) in
-    let tops : topped ≡ painted (tops_of layout row placed) old = c.in_ok-draw_tops.ensures.painted
-    ∙ ap (λ ps. painted (tops_of layout (length old - 1) ps) old) c.deref.ensures.value
-    ∙ ap (λ n. painted (tops_of layout n placed) old) (let here : length old - 1 ≡ row = omega (arith, c.requires.last) in here) in
+    let tops : topped ≡ painted (tops_of layout row placed) old =
+    grind (arith, common_steps, layout, old, placed, row, c.in_ok-draw_tops.ensures.painted, c.deref.ensures.value, c.requires.last) in
     let whole : old ++ replicate (count - 1) (separator_row layout.decor layout.gutter) ++ bare_row layout.decor layout.gutter closes ∷ [] ≡ old ++ bare =
     append_assoc old (replicate (count - 1) (separator_row layout.decor layout.gutter)) (bare_row layout.decor layout.gutter closes ∷ []) in
     let Painted : List (List Cell) → Type 0 = λ rows. rows ≡ painted (line_strokes layout row (length old + count) placed (painting_order placed))
@@ -127,18 +117,11 @@ returns c =
     ∙ sym (strokes_painted layout row (length old + count) placed (painting_order placed) (old ++ replicate (count - 1)
     (separator_row layout.decor layout.gutter) ++ bare_row layout.decor layout.gutter closes ∷ [])) in
     let topped_long : length topped ≡ length old = tops_count layout row placed old topped c.requires.last tops in
-    let many : new ≡ topped ++ drop 1 marked → length new ≡ length old + count = λ added. omega (
-      arith,
-      ap length added,
-      length-append topped (drop 1 marked),
-      length-drop 1 marked,
-      long,
-      topped_long,
-    ) in
+    let many : new ≡ topped ++ drop 1 marked → length new ≡ length old + count =
+    grind (arith, common_steps, length-append, topped, marked, length-drop, long, topped_long) in
     record {
       order = on_ok_weaker c.append_below_source.result (λ _. c.in_ok-draw_marks.ensures.order) c.append_below_source.ensures.added;
       painted = on_ok_weaker c.append_below_source.result full c.append_below_source.ensures.added;
-      small = on_ok_two c.append_below_source.result (λ added small. subst (λ n. n ≤ 2 ^ 60) (many added) small) c.append_below_source.ensures.added
-          c.append_below_source.ensures.small;
+      small = grind (arith, common_steps, many, c.append_below_source.result, c.append_below_source.ensures.added, c.append_below_source.ensures.small);
       count = on_ok_weaker c.append_below_source.result many c.append_below_source.ensures.added;
     }

@@ -1,8 +1,8 @@
+use Rattle.std.proofs.lemmas.Grind.{common_steps}
 use Rattle.snippet_strokes.proofs.Common.{◌≡◌, ◌∙◌, ◌+◌, ◌-◌, ◌<◌, ◌≤◌, ◌^◌, List, ◌++◌, ◌∷◌, [], Bool, true, ℕ}
 use Rattle.snippet_strokes.proofs.Common.{All, map, replicate, ap, sym, subst, refl, arith, length, on_ok_weaker, Layout, append_assoc, length_push}
 use Rattle.snippet_strokes.proofs.Common.{All-permutation, length_permutation, LineAnnotation, PlacedEntry, painting_order, row_count, AreEnough, HasRows}
-use Rattle.snippet_strokes.proofs.Common.{AreDrawable, Cell, shifted, ArePlaced, HasPlace, if◌then◌else◌, list_any, overlapped, is_wide_at, bare_row}
-use Rattle.snippet_strokes.proofs.Common.{closing_row, separator_row, painted}
+use Rattle.snippet_strokes.proofs.Common.{AreDrawable, Cell, shifted, ArePlaced, HasPlace, list_any, overlapped, is_wide_at, bare_row, separator_row, painted}
 use Rattle.snippet_strokes.proofs.CutWords.{cut_rows, cuts_of}
 use Rattle.snippet_strokes.proofs.CutPairs.{entries_cut}
 use Rattle.snippet_strokes.proofs.PaintOrder.{IsPermutation-painting_order}
@@ -53,9 +53,7 @@ module _ (layout : Layout) (dropped : ℕ) (entries : List LineAnnotation) (row 
 
   rows_long : length (old ++ replicate (count - 1) (separator_row layout.decor layout.gutter) ++ bare_row layout.decor layout.gutter closes ∷ [])
       ≡ length old + count
-  rows_long =
-      rows_begun old (old ++ replicate (count - 1) (separator_row layout.decor layout.gutter) ++ bare_row layout.decor layout.gutter closes ∷ [])
-      (separator_row layout.decor layout.gutter) (bare_row layout.decor layout.gutter closes) count some_rows refl
+  rows_long = grind (arith, rows_begun, some_rows)
 
   enough_rows : length old + count ≤ 2 ^ 60
       → AreEnough layout row (length (old ++ replicate (count - 1) (separator_row layout.decor layout.gutter)
@@ -116,16 +114,7 @@ cut_wide-requires c =
 
 pub returns-then-is_empty : goal.returns-then-is_empty
 returns-then-is_empty c =
-    let given : length c.args.entries.now ≡ 0 = grind arith in
-    let place = c.args.place in
-    let layout = c.args.layout in
-    let end : List (List Cell) = if place.closes then closing_row layout.decor layout.gutter ∷ [] else [] in
-    record {
-      value = on_ok_weaker c.close_below.result (λ adds text above source other old_is.
-          adds ∙ ap (λ rows. rows ++ end) old_is ∙ append_assoc above (source ∷ []) end
-          ∙ ap (λ rows. above ++ rows) (sym (own_none layout place.room place.closes text place.dropped c.args.entries.now source given)))
-          c.close_below.ensures.added;
-    }
+    grind (arith, on_ok_weaker, append_assoc, own_none, c.args.entries.now, c.args.place, c.args.layout, c.close_below.result, c.close_below.ensures.added)
 
 pub returns : goal.returns
 returns c =
@@ -155,9 +144,8 @@ returns c =
     let flags = c.in_ok-overlapped.overlapped.items in
     let final = c.cut_wide.new.buffer in
     let cut_to : List PlacedEntry → List Bool → List (List Cell) = λ ps fs. cut_rows layout.decor row (cuts_of layout c.args.place.room ps fs) new in
-    let final_is : final ≡ cut_to c.deref-3.result.now c.deref-4.result.now → final ≡ cut_to after flags = λ value.
-    value ∙ ap (λ ps. cut_to ps c.deref-4.result.now) (c.deref-3.ensures.value ∙ c.in_ok-draw_rows.ensures.order)
-    ∙ ap (cut_to after) c.deref-4.ensures.value in
+    let final_is : final ≡ cut_to c.deref-3.result.now c.deref-4.result.now → final ≡ cut_to after flags =
+    grind (arith, common_steps, cut_to, after, c.deref-4.result.now, c.deref-3.ensures.value, c.in_ok-draw_rows.ensures.order, c.deref-4.ensures.value) in
     let last_row : (above : List (List Cell)) (source : List Cell) → old ≡ above ++ source ∷ [] → row ≡ length above = λ above source old_is.
     omega (arith, c.requires.last, ap length old_is, length_push above source) in
     record {

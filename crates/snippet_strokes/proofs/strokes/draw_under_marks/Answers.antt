@@ -1,3 +1,4 @@
+use Rattle.std.proofs.Common.{arith}
 use Rattle.snippet_strokes.proofs.Common.{◌∙◌, ◌+◌, length, sym, on_ok_weaker}
 use Rattle.snippet_strokes.proofs.EveryStem.{stems_painted}
 use Rattle.snippet_strokes.proofs.EveryMark.{under_marks_painted}
@@ -8,9 +9,7 @@ use Rattle.snippet_strokes.proofs.EntryBarLaws.{under_painted}
 use Rattle.snippet_strokes.proofs.strokes.draw_under_marks.Goals as goal
 
 pub draw_connectors-requires : goal.draw_connectors-requires
-draw_connectors-requires g c =
-    let enough = c.requires.enough in
-    record { places = places_among enough; bar_cells = ready_bar_cells c.args.layout c.args.placed.now enough.ready }
+draw_connectors-requires g c = grind (arith, places_among, ready_bar_cells, c.requires.enough, c.args.layout, c.args.placed.now)
 
 pub draw_corners-requires : goal.draw_corners-requires
 draw_corners-requires g c =

@@ -1,18 +1,9 @@
-use Rattle.snippet_strokes.proofs.Common.{◌≡◌, ◌∙◌, ◌+◌, ◌-◌, ◌++◌, ◌∷◌, [], ap, arith, length, map, replicate, sym, append_assoc}
+use Rattle.snippet_strokes.proofs.Common.{◌≡◌, ◌∙◌, ◌+◌, ◌-◌, ◌++◌, ◌∷◌, [], ap, arith, length, map, replicate, append_assoc}
 use Rattle.snippet_strokes.proofs.Common.{append-nil, length-map, length_push, map-append, replicate_more, cell_of, cells_of}
 use Rattle.snippet_strokes.proofs.cell_rows.CellRows.add_rows.Goals as goal
 
 pub loop-init : goal.loop-init
-loop-init c =
-    let items = c.self.inside.rows.items in
-    let len : c.len-counter.result ≡ length items = omega (arith, c.len-counter.ensures, c.self.inside.rows.ok.0) in
-    let none : c.len-counter.result - length items ≡ 0 = omega (arith, len) in
-    record {
-      made = sym (ap (λ n. map cells_of items ++ replicate n []) none ∙ append-nil (map cells_of items));
-      count = sym len;
-      above = omega (arith, len);
-      below = omega (arith, len);
-    }
+loop-init c = grind (arith, append-nil, c.self.inside.rows.items, c.len-counter.result, c.len-counter.ensures, c.self.inside.rows.ok.0)
 
 pub invariant_of-self : goal.invariant_of-self
 invariant_of-self c =
@@ -44,12 +35,4 @@ loop-preserved c =
     }
 
 pub returns : goal.returns
-returns c =
-    let so_far = c.loop.invariant in
-    let items = c.self.inside.rows.items in
-    let many : c.loop.counter - length items ≡ c.args.row + 1 - length (map cells_of items) =
-    omega (arith, length-map items cells_of, c.loop-test.false, so_far.above, so_far.below) in
-    record {
-      made = so_far.made ∙ ap (λ n. map cells_of items ++ replicate n []) many
-          ∙ ap (λ rows. rows ++ replicate (c.args.row + 1 - length rows) []) c.self.view_is;
-    }
+returns c = grind (arith, length-map, c.loop.invariant, c.self.inside.rows.items, c.loop.counter, c.args.row, c.loop-test.false, c.self.view_is)
