@@ -1,7 +1,7 @@
 -- Laws of what stands around the elements of a group.
 use Rattle.annotate_snippets.proofs.Common.{◌≡◌, ℕ, ◌+◌, ◌-◌, nat_eq, ◌&&◌, not, Bool, true, false, if◌then◌else◌, Option, None, Some}
-use Rattle.annotate_snippets.proofs.Common.{List, [], ◌∷◌, drop, length, zero, suc, refl, sym, ap, ◌∙◌, arith, subst, slice_get, is_some, nat_tests}
-use Rattle.annotate_snippets.proofs.Common.{Element, Cause, Message, Origin, Padding, Suggestion, Opening, Path, first_two_share, is_end, next_of, CanStandIn}
+use Rattle.annotate_snippets.proofs.Common.{List, [], ◌∷◌, drop, length, zero, suc, refl, sym, ap, arith, slice_get, is_some, nat_tests, Element, Cause}
+use Rattle.annotate_snippets.proofs.Common.{Message, Origin, Padding, Suggestion, Opening, Path, first_two_share, is_end, next_of, CanStandIn}
 use Rattle.annotate_snippets.proofs.Common.{begins_in_row_above, is_next_start, is_other_file, path_bytes, share_file, context_at, GroupPosition}
 use Rattle.snippet_suggest.specs.declared.SuggestionStart.TheVariants.{Next}
 
@@ -43,17 +43,13 @@ first_alone e (d ∷ rest) never = never d
 
 shared_not : (es : List Element) (i : ℕ) (e : Element) → slice_get es i ≡ Some e → ((d : Element) → share_file e d ≡ false)
     → first_two_share (drop i es) ≡ false
-shared_not es i e is never =
-    let from = from_element es i e is in
-    ap first_two_share from.1 ∙ first_alone e from.0 never
+shared_not es i e is never = grind (arith, from_element, first_alone)
 
 -- nor with the one before it
 pair_not : (es : List Element) (k : ℕ) (e : Element) → slice_get es (suc k) ≡ Some e → is_patches e ≡ false → first_two_share (drop k es) ≡ false
 pair_not [] k e is other = absurd (cc)
 pair_not (d ∷ []) zero e is other = refl
-pair_not (d ∷ x ∷ es) zero e is other =
-    let same : x ≡ e = cc in
-    subst (λ y. share_file d y ≡ false) (sym same) (shares_none d e other)
+pair_not (d ∷ x ∷ es) zero e is other = grind (arith, shares_none)
 pair_not (d ∷ es) (suc k) e is other = pair_not es k e is other
 
 and_false : (a b : Bool) → b ≡ false → a && b ≡ false
@@ -62,9 +58,7 @@ and_false false b none = refl
 
 before_alone : (es : List Element) (i : ℕ) (e : Element) → slice_get es i ≡ Some e → is_patches e ≡ false → shares_before es i ≡ false
 before_alone es zero e is other = refl
-before_alone es (suc k) e is other =
-    let at : suc k - 1 ≡ k = omega arith in
-    and_false (not (nat_eq (suc k) 0)) (first_two_share (drop (suc k - 1) es)) (ap (λ j. first_two_share (drop j es)) at ∙ pair_not es k e is other)
+before_alone es (suc k) e is other = grind (arith, and_false, nat_eq, pair_not)
 
 -- after the last element there is none to share a row
 last_not : (es : List Element) (k : ℕ) → length es ≡ suc k → first_two_share (drop k es) ≡ false
@@ -76,17 +70,11 @@ last_not (d ∷ es) (suc k) is = last_not es k (omega (arith, is))
 -- after the last element nothing is shared
 pub shares_end : (es : List Element) → shares_before es (length es) ≡ false
 shares_end [] = refl
-shares_end (d ∷ es) =
-    let at : length (d ∷ es) - 1 ≡ length es = omega arith in
-    and_false (not (nat_eq (length (d ∷ es)) 0)) (first_two_share (drop (length (d ∷ es) - 1) (d ∷ es)))
-    (ap (λ j. first_two_share (drop j (d ∷ es))) at ∙ last_not (d ∷ es) (length es) (omega arith))
+shares_end (d ∷ es) = grind (arith, and_false, nat_eq, last_not)
 
 -- an element begins in the row above it where the one before it shares that
 pub shares_after : (es : List Element) (i : ℕ) → shares_before es (i + 1) ≡ first_two_share (drop i es)
-shares_after es i =
-    let at : i + 1 - 1 ≡ i = omega arith in
-    let some : nat_eq (i + 1) 0 ≡ false = grind (arith, nat_tests) in
-    ap (λ b. not b && first_two_share (drop (i + 1 - 1) es)) some ∙ ap (λ j. first_two_share (drop j es)) at
+shares_after es i = grind (arith, nat_eq, nat_tests)
 
 -- where an element shares its last row with the next one, that follows it
 pub shared_goes_on : (es : List Element) (i : ℕ) → first_two_share (drop i es) ≡ true → is_end (next_of (drop (i + 1) es)) ≡ false
@@ -101,9 +89,7 @@ shared_goes_on (d ∷ x ∷ es) zero shares = follows x
     follows (Suggestion snippet) = refl
     follows (Origin origin) = refl
     follows (Padding padding) = refl
-shared_goes_on (d ∷ es) (suc i) shares =
-    let at : suc i + 1 ≡ suc (i + 1) = omega arith in
-    ap (λ n. is_end (next_of (drop n (d ∷ es)))) at ∙ shared_goes_on es i shares
+shared_goes_on (d ∷ es) (suc i) shares = grind (arith, shared_goes_on es i shares)
 
 -- where a suggestion begins below its path it has one
 other_has : (file path : Option (List ℕ)) → is_other_file file path ≡ true → is_some path ≡ true

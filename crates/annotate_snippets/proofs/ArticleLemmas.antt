@@ -1,11 +1,10 @@
 -- What stands in an article: what is added piece by piece, and what is read of an escaped text.
+use Rattle.std.proofs.Common.{arith, append_assoc, chars}
 use Rattle.annotate_snippets.proofs.Common.{◌≡◌, ◌∙◌, ℕ, Bool, true, List, [], ◌∷◌, ◌++◌, Option, Some, None, map, refl, sym, ap}
 use Rattle.annotate_snippets.proofs.Common.{encode_utf8_all, codes, cow_str_bytes, flat_map, list_all, option_map, made-append, adds_both, adds_piece}
 use Rattle.annotate_snippets.proofs.Common.{adds_three, text_html, html_says_pieces, is_made, piece_says, tags_are, AddsHtml, AnchorEnd, AnchorStart, HtmlPiece}
-use Rattle.annotate_snippets.proofs.Common.{html_text, html_says, piece_tag, tags_of, Heading, is_hidden, name_of, Id, norm, closing_bracket_of, colon_of}
-use Rattle.annotate_snippets.proofs.Common.{opening_bracket_of, address_of, bracketed_html, id_html, linked_html, title_html}
-use Rattle.std.proofs.Common.{append_assoc}
-use Rattle.std.proofs.Common.{chars}
+use Rattle.annotate_snippets.proofs.Common.{html_text, html_says, piece_tag, tags_of, Heading, Id, norm, closing_bracket_of, opening_bracket_of, address_of}
+use Rattle.annotate_snippets.proofs.Common.{bracketed_html, id_html, linked_html, title_html}
 use Rattle.snippet_grid.specs.Html.{Text, escaped}
 
 -- ---- what is read
@@ -36,11 +35,7 @@ linked-made (Some address) text = made-append (map Text text) (AnchorEnd ∷ [])
 
 bracketed-made : (hidden : Bool) (address text : Option (List ℕ)) → list_all is_made (bracketed_html hidden address text) ≡ true
 bracketed-made hidden address None = refl
-bracketed-made hidden address (Some text) =
-    let opened : List HtmlPiece = map Text (opening_bracket_of hidden) in
-    let linked : List HtmlPiece = linked_html address (norm (chars text)) in
-    made-append (opened ++ linked) (map Text (closing_bracket_of hidden))
-    (made-append opened linked (texts-made (opening_bracket_of hidden)) (linked-made address (norm (chars text)))) (texts-made (closing_bracket_of hidden))
+bracketed-made hidden address (Some text) = grind (arith, made-append, texts-made, linked-made)
 
 id-made : (links hidden : Bool) (id : Option Id) → list_all is_made (id_html links hidden id) ≡ true
 id-made links hidden None = refl
@@ -49,16 +44,7 @@ id-made links hidden (Some id) = bracketed-made hidden (address_of links (option
 -- so its tags are those of a link
 pub heading-tags : (links : Bool) (heading : Heading)
     → tags_of None (html_text (title_html links heading)) ≡ flat_map piece_tag (title_html links heading)
-heading-tags links heading =
-    let hidden : Bool = is_hidden heading.level.name in
-    let name : List ℕ = norm (chars (name_of heading.level)) in
-    let led : List ℕ = colon_of hidden heading.id in
-    let text : List ℕ = norm (chars heading.text) in
-    let id : List HtmlPiece = id_html links hidden heading.id in
-    tags_are (title_html links heading)
-    (made-append ((map Text name ++ id) ++ map Text led) (map Text text)
-    (made-append (map Text name ++ id) (map Text led)
-    (made-append (map Text name) id (texts-made name) (id-made links hidden heading.id)) (texts-made led)) (texts-made text))
+heading-tags links heading = grind (arith, tags_are, made-append, texts-made, id-made, heading.level.name, heading.level, heading.id, heading.text)
 
 -- ---- what is added
 

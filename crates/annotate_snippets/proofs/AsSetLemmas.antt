@@ -1,18 +1,19 @@
 -- What the report that is shown has in common with the one in whose place it is, and that what is shown of it shows the report.
+use Rattle.std.proofs.lemmas.Grind.{common_steps}
+use Rattle.std.proofs.Common.{arith, chars}
 use Rattle.annotate_snippets.proofs.Common.{◌≡◌, ◌∙◌, ℕ, Bool, true, false, List, [], ◌∷◌, Option, None, ◌⊎◌, inl, inr, sym, subst}
 use Rattle.annotate_snippets.proofs.Common.{refl, All, if◌then◌else◌, false≢true, All-contains, All-weaker, AllZip, Contains, flat_map, AllZip-weaker}
 use Rattle.annotate_snippets.proofs.Common.{ReportFits, trusted_texts, Element, Group, Title, IsElementMasked, IsGroupMasked, IsTitleMasked, IsElementAsSet}
 use Rattle.annotate_snippets.proofs.Common.{IsGroupAsSet, IsTitleAsSet, IsElementWrapped, IsGroupWrapped, IsTitleWrapped, IsGroupMade, Stays}
 use Rattle.annotate_snippets.proofs.Common.{IsElementWithContext, IsGroupWithContext, Stylesheet, is_listed, form_text, lines_of_paragraphs, IsAsSet}
-use Rattle.annotate_snippets.proofs.Common.{IsMaskedFor, IsRemade, IsShownFor, IsStep, adds_context, shows_as_given, wraps, IsDrawableAsSet, first_fault}
-use Rattle.annotate_snippets.proofs.Common.{form_of, missing_title, refusal_in, AreFree, ShowsForm, ShowsReport, TextsShown, links_in, plain_in, graphic_form}
-use Rattle.annotate_snippets.proofs.Common.{gutter_of_report, ShowsLinesAround, HasOneLineTexts, page_lines, text_lines, FormLaws, HasLaws, LawsIn, IsFreeBut}
-use Rattle.annotate_snippets.proofs.Common.{HasNoControls, report_paragraphs, AreRewrapped, page_text, text_form, IsTextIn, ShowsIn, WritesPart, WritesText}
-use Rattle.annotate_snippets.proofs.Common.{Renderer, Form, Graphic, Short, Text}
-use Rattle.std.proofs.Common.{chars}
+use Rattle.annotate_snippets.proofs.Common.{IsMaskedFor, IsRemade, IsShownFor, IsStep, adds_context, shows_as_given, wraps, IsDrawableAsSet, form_of}
+use Rattle.annotate_snippets.proofs.Common.{refusal_in, AreFree, ShowsForm, ShowsReport, TextsShown, links_in, plain_in, graphic_form, gutter_of_report}
+use Rattle.annotate_snippets.proofs.Common.{ShowsLinesAround, HasOneLineTexts, page_lines, text_lines, FormLaws, HasLaws, LawsIn, IsFreeBut, HasNoControls}
+use Rattle.annotate_snippets.proofs.Common.{report_paragraphs, AreRewrapped, page_text, text_form, IsTextIn, ShowsIn, WritesPart, WritesText, Renderer, Form}
+use Rattle.annotate_snippets.proofs.Common.{Graphic, Short, Text}
 use Rattle.annotate_snippets.proofs.AsSetSteps.{context-set, feeds-set, mask-set, remade-set, unset-same, wrap-set}
 use Rattle.annotate_snippets.proofs.ContextShown.{around-set, context-faithful, plain-around}
-use Rattle.annotate_snippets.proofs.FaultLemmas.{groups-drawable, titled, unrefused}
+use Rattle.annotate_snippets.proofs.FaultLemmas.{groups-drawable, titled}
 use Rattle.annotate_snippets.proofs.FeedsShown.{feeds-faithful, plain-fed}
 use Rattle.annotate_snippets.proofs.FormsShown.{are-free, free-in}
 use Rattle.annotate_snippets.proofs.MaskLaws.{around-clean, masked-clean, wrapped-clean}
@@ -73,13 +74,7 @@ set-keeps form r groups shown set = by (shows_as_given form r) set
 -- where it isn't refused, and its texts fit, it can be drawn
 pub drawable-set : (form : Form) (r : Renderer) (groups shown : List Group) → IsAsSet form r groups shown → ReportFits shown → refusal_in form groups ≡ None
     → IsDrawableAsSet form r groups shown
-drawable-set form r groups shown set fits none =
-    let same : refusal_in form shown ≡ None = refusal-kept form groups shown (set-keeps form r groups shown set) ∙ none in
-    record {
-      set = set;
-      drawable = groups-drawable shown fits (unrefused (missing_title form shown) (first_fault shown) same);
-      titled = titled (missing_title form shown) (first_fault shown) same;
-    }
+drawable-set form r groups shown set fits none = grind (arith, refusal-kept, set-keeps, groups-drawable, titled)
 
 -- what goes over to a report that a step makes goes over to what is shown after it
 over : (P : List Group → Type 0) (Made : Group → Group → Type 0) (asked : Bool) (xs ys : List Group) → (AllZip Made xs ys → P xs → P ys)
@@ -247,11 +242,7 @@ module _ (form : Form) (r : Renderer) (groups shown : List Group) (is : form ≡
 
   -- what is written of it is written of the report
   pub written-shows : (old new : Option (List ℕ)) → WritesText (IsTextIn form r shown) old new → WritesText (ShowsReport r groups r.stylesheet) old new
-  written-shows old new writes = record {
-    text = writes.text;
-    is = (shows-all (r.stylesheet ∷ []) (writes.text ∷ []) writes.is.shows (writes.is.laws, tt)).shows;
-    appended = writes.appended;
-  }
+  written-shows old new writes = grind (arith, shows-all, writes.text, writes.is.shows, writes.is.laws, writes.appended)
 
   pub written-laws : (old new : Option (List ℕ)) → WritesText (IsTextIn form r shown) old new → WritesText (HasLaws r groups r.stylesheet) old new
   written-laws old new writes = record {
@@ -268,8 +259,7 @@ module _ (form : Form) (r : Renderer) (groups shown : List Group) (is : form ≡
         | inl same ↦ inl same
         | inr writes ↦ inr (record {
           text = writes.text;
-          is = set-shows r groups shown here (r.stylesheet ∷ []) (writes.text ∷ [])
-              (subst (λ (f : Form). ShowsForm f r shown (r.stylesheet ∷ []) (writes.text ∷ [])) is writes.is);
+          is = grind (arith, common_steps, here, writes, writes.text, writes.is);
           part = writes.part;
         })
       ]

@@ -1,14 +1,13 @@
 -- When a report is within bounds: laws for those who make one.
-use Rattle.annotate_snippets.proofs.Common.{◌≡◌, ◌⊎◌, ℕ, suc, ◌+◌, ◌^◌, ◌<◌, ◌≤◌, ◌&&◌, ◌||◌, ◌==◌, nat_lt, Bool}
-use Rattle.annotate_snippets.proofs.Common.{true, false, List, [], ◌∷◌, ◌++◌, Some, None, All, length, map, slice_index, refl, ap, ◌∙◌, arith}
-use Rattle.annotate_snippets.proofs.Common.{inl, inr, if◌then◌else◌, cow_str_bytes, position_from, sum_by, option_map, option_or, option_to_list}
-use Rattle.annotate_snippets.proofs.Common.{IsCharBoundary, Range, cases_lt, le-leb, le-ltb, nat_tests, get_or_past, All-head, All-tail, All-weaker}
-use Rattle.annotate_snippets.proofs.Common.{count_by-le-length, sum_by-le-sum_by, max_usize, Lf, Reversed, PastEnd, OffBoundary, Line, lines_of, source_lines}
-use Rattle.annotate_snippets.proofs.Common.{with_first_byte, is_span_border, is_character_border, span_fault, Annotation, Cause, Suggestion, Group, Patch}
-use Rattle.annotate_snippets.proofs.Common.{Snippet, GroupFits, put_in, Edit, edit_of, in_order, precedes, AreApart, first_overlap, first_overlap_from, overlap}
-use Rattle.annotate_snippets.proofs.Common.{IsWithinBounds, added_lines, element_faults, faults_from, first_fault, first_of, group_faults, IsGroupWithinBounds}
-use Rattle.annotate_snippets.proofs.Common.{number_after_lines, number_faults, overlap_faults, refusal_of, span_faults, plain_settings, RenderError}
-use Rattle.annotate_snippets.proofs.Common.{LineNumberTooLarge, PatchesOverlap}
+use Rattle.annotate_snippets.proofs.Common.{◌≡◌, ◌⊎◌, ℕ, suc, ◌+◌, ◌^◌, ◌<◌, ◌≤◌, ◌||◌, ◌==◌, nat_lt, Bool, true, false}
+use Rattle.annotate_snippets.proofs.Common.{List, [], ◌∷◌, ◌++◌, None, All, length, map, slice_index, refl, ap, ◌∙◌, arith, inl, inr}
+use Rattle.annotate_snippets.proofs.Common.{if◌then◌else◌, cow_str_bytes, position_from, sum_by, option_map, option_to_list, IsCharBoundary, Range}
+use Rattle.annotate_snippets.proofs.Common.{cases_lt, le-leb, le-ltb, nat_tests, get_or_past, All-head, All-tail, All-weaker, count_by-le-length}
+use Rattle.annotate_snippets.proofs.Common.{sum_by-le-sum_by, max_usize, Lf, Line, lines_of, source_lines, with_first_byte, is_span_border, is_character_border}
+use Rattle.annotate_snippets.proofs.Common.{span_fault, Annotation, Cause, Suggestion, Group, Patch, Snippet, put_in, Edit, edit_of, in_order, precedes}
+use Rattle.annotate_snippets.proofs.Common.{AreApart, first_overlap, first_overlap_from, overlap, IsWithinBounds, added_lines, element_faults, faults_from}
+use Rattle.annotate_snippets.proofs.Common.{first_fault, IsGroupWithinBounds, number_after_lines, number_faults, overlap_faults, span_faults, plain_settings}
+use Rattle.annotate_snippets.proofs.Common.{RenderError, LineNumberTooLarge, PatchesOverlap}
 use Rattle.std.specs.List.{count_by}
 
 -- a place between characters of a source is a border of spans
@@ -36,36 +35,22 @@ border-between source b between = by_cases (cases_lt b (length source))
 pub span-faultless : (source : List ℕ) (start end : ℕ) → start ≤ end → IsCharBoundary source start → IsCharBoundary source end
     → span_fault source start end ≡ None
 unfolding span_fault
-span-faultless source start end ordered starts ends =
-    let forward : nat_lt end start ≡ false = le-ltb end start ordered in
-    let inside : nat_lt (length source + 1) end ≡ false = le-ltb (length source + 1) end (omega (arith, ends.0)) in
-    ap (λ t. if t then Some Reversed else if nat_lt (length source + 1) end then Some PastEnd else if is_span_border source start
-    && is_span_border source end then None else Some OffBoundary) forward
-    ∙ ap (λ t. if t then Some PastEnd else if is_span_border source start && is_span_border source end then None else Some OffBoundary) inside
-    ∙ ap (λ t. if t && is_span_border source end then None else Some OffBoundary) (border-between source start starts)
-    ∙ ap (λ t. if t then None else Some OffBoundary) (border-between source end ends)
+span-faultless source start end ordered starts ends = grind (arith, nat_lt, le-ltb, border-between, ends.0)
 
 -- an edit and one after it don't overlap
 overlap-apart : (d e : Edit) → d.start ≤ d.end → d.end ≤ e.start → e.start ≤ e.end → overlap d e ≡ false
-overlap-apart d e first apart second =
-    let before : nat_lt e.start d.start ≡ false = le-ltb e.start d.start (omega arith) in
-    let short : (e.start == d.start && nat_lt e.end d.end) ≡ false = grind (arith, nat_tests) in
-    let after : precedes e d ≡ false = ap (λ t. t || (e.start == d.start && nat_lt e.end d.end)) before ∙ short in
-    ap (λ t. if t then nat_lt d.start e.end else nat_lt e.start d.end) after ∙ le-ltb e.start d.end apart
+overlap-apart d e first apart second = grind (arith, nat_lt, le-ltb, nat_tests, e.start, d.start, e.end, d.end)
 
 -- nor does it with any of those after it
 clear-after : (d : Edit) (at n : ℕ) (es : List Edit) → d.start ≤ d.end → d.end ≤ at → AreApart at es → position_from (overlap d) n es ≡ None
 clear-after d at n [] first before apart = refl
 clear-after d at n (e ∷ es) first before apart =
-    ap (λ t. if t then Some n else position_from (overlap d) (n + 1) es) (overlap-apart d e first (omega (arith, apart.0)) apart.1)
-    ∙ clear-after d e.end (n + 1) es first (omega (arith, apart.0, apart.1)) apart.2
+    grind (arith, clear-after d e.end (n + 1) es first (omega (arith, apart.0, apart.1)) apart.2, overlap-apart, apart.0, apart.1, e.end, apart.2)
 
 -- edits one after the other don't overlap
 first-clear : (at n : ℕ) (es : List Edit) → AreApart at es → first_overlap_from n es ≡ None
 first-clear at n [] apart = refl
-first-clear at n (e ∷ es) apart =
-    ap (λ p. option_or (option_map (λ k. (n, k)) p) (first_overlap_from (n + 1) es)) (clear-after e e.end (n + 1) es apart.1 (omega arith) apart.2)
-    ∙ first-clear e.end (n + 1) es apart.2
+first-clear at n (e ∷ es) apart = grind (arith, first-clear e.end (n + 1) es apart.2, first_overlap_from, clear-after, e.end, apart.1, apart.2)
 
 pub apart-clear : (at : ℕ) (es : List Edit) → AreApart at es → first_overlap es ≡ None
 unfolding first_overlap
@@ -100,10 +85,7 @@ none-clear f n (x ∷ xs) all =
 spans-clear : {X : Type 0} (span_of : X → Range ℕ) (group element : ℕ) (source : List ℕ) (marks : List X)
     → All (λ x. span_fault source (span_of x).start (span_of x).end ≡ None) marks
     → faults_from (λ m x. span_faults group element source m (span_of x)) 0 marks ≡ []
-spans-clear span_of group element source marks all =
-    none-clear (λ m x. span_faults group element source m (span_of x)) 0 marks
-    (All-weaker (λ x. span_fault source (span_of x).start (span_of x).end ≡ None) (λ x. (m : ℕ) → span_faults group element source m (span_of x) ≡ [])
-    (λ x none m. ap (λ f. option_to_list (option_map (refusal_of group element m) f)) none) marks all)
+spans-clear span_of group element source marks all = grind (arith, none-clear, All-weaker)
 
 number-clear : (group element number : ℕ) → number < 2 ^ 64 → number_faults group element number ≡ []
 number-clear group element number fits = ap (λ t. if t then [] else LineNumberTooLarge group element ∷ []) (le-leb number max_usize (omega (arith, fits)))
@@ -142,19 +124,11 @@ suggestion-clear group element s spans apart numbers =
 -- a report of groups that are within bounds, in the graphic form
 pub within-bounds : (groups : List Group) → All IsGroupWithinBounds groups → IsWithinBounds plain_settings groups
 unfolding first_fault
-within-bounds groups all =
-    record {
-      faultless = ap first_of (none-clear group_faults 0 groups (All-weaker IsGroupWithinBounds (λ g. (n : ℕ) → group_faults n g ≡ []) (λ g within.
-          within.faultless) groups all));
-      fits = All-weaker IsGroupWithinBounds GroupFits (λ g within. within.fits) groups all;
-    }
+within-bounds groups all = grind (arith, none-clear, All-weaker)
 
 -- an edit doesn't precede one that ends before it
 not-before : (d e : Edit) → d.start ≤ d.end → d.end ≤ e.start → e.start ≤ e.end → precedes e d ≡ false
-not-before d e first apart second =
-    let before : nat_lt e.start d.start ≡ false = le-ltb e.start d.start (omega arith) in
-    let short : (e.start == d.start && nat_lt e.end d.end) ≡ false = grind (arith, nat_tests) in
-    ap (λ t. t || (e.start == d.start && nat_lt e.end d.end)) before ∙ short
+not-before d e first apart second = grind (arith, nat_lt, le-ltb, nat_tests, e.start, d.start, e.end, d.end)
 
 -- so it is put before those that come after it
 first-in : (d : Edit) (es : List Edit) → d.start ≤ d.end → AreApart d.end es → put_in precedes d es ≡ d ∷ es

@@ -1,14 +1,15 @@
 -- The rows of an annotated snippet show it.
+use Rattle.std.proofs.lemmas.Grind.{common_steps}
 use Rattle.annotate_snippets.proofs.Common.{◌≡◌, ℕ, ◌+◌, ◌≤◌, ◌==◌, ◌&&◌, Bool, true, false, cond, Option, None, Some, List, []}
 use Rattle.annotate_snippets.proofs.Common.{◌∷◌, ◌++◌, drop, map, refl, sym, ap, subst, ◌∙◌, arith, Contains, list_any, IsSomeAnd}
 use Rattle.annotate_snippets.proofs.Common.{cow_str_bytes, All-append, All-cons, All-head, All-map, All-nil, All-tail, Annotation, Snippet, Cause, row_at, Cell}
-use Rattle.annotate_snippets.proofs.Common.{row_text, IsSpan, KeptLine, annotated_lines, is_long, shown_lines, is_marking, first_line, last_line, IsLocation}
+use Rattle.annotate_snippets.proofs.Common.{IsSpan, KeptLine, annotated_lines, is_long, shown_lines, is_marking, first_line, last_line, IsLocation}
 use Rattle.annotate_snippets.proofs.Common.{primary_place, IsFree, Location, primary_place-location, HasBarRoom, LineView, CanBeShown, infos_free, origin_row}
-use Rattle.annotate_snippets.proofs.Common.{origin_text, primary_start, snippet_head, OriginLayout, OriginLocation, origin_row-text, snippet_head-free}
-use Rattle.annotate_snippets.proofs.Common.{closing_row-free, separator_row-free, Renderer, Layout, ElementContext, closes_after, closes_with}
-use Rattle.annotate_snippets.proofs.Common.{is_before_message, path_bytes, HasRoomFor, code_after, is_first_group, margin_in, rows_of_lines, depth_of_element}
-use Rattle.annotate_snippets.proofs.Common.{line_numbers, numbered_source, NamedRow, cells_of, lines_named, others, IsDrawable, cause_head, origin_layout}
-use Rattle.annotate_snippets.proofs.Common.{place_found, rows_after_cause, place_named, NamesLocation, HasNoFeed, closing_row, separator_row}
+use Rattle.annotate_snippets.proofs.Common.{primary_start, snippet_head, OriginLayout, OriginLocation, origin_row-text, snippet_head-free, closing_row-free}
+use Rattle.annotate_snippets.proofs.Common.{separator_row-free, Renderer, Layout, ElementContext, closes_after, closes_with, is_before_message, path_bytes}
+use Rattle.annotate_snippets.proofs.Common.{HasRoomFor, code_after, is_first_group, margin_in, rows_of_lines, depth_of_element, line_numbers, numbered_source}
+use Rattle.annotate_snippets.proofs.Common.{NamedRow, cells_of, lines_named, others, IsDrawable, cause_head, origin_layout, place_found, rows_after_cause}
+use Rattle.annotate_snippets.proofs.Common.{place_named, NamesLocation, HasNoFeed, closing_row, separator_row}
 use Rattle.std.specs.List.{All}
 use Rattle.annotate_snippets.proofs.PageWords.{snippet_rows}
 use Rattle.annotate_snippets.proofs.AreTexts.{IsTextCause}
@@ -86,9 +87,7 @@ module _ (r : Renderer) (layout : Layout) (around : ElementContext) (s : Snippet
       record {
         place = found.0;
         is = found.2;
-        text = ap (λ row. row_text (drop (layout.gutter + 4) row)) first
-            ∙ origin_row-text (origin_layout r layout) (primary_start around.first) path (place_named around.primary lines)
-            ∙ ap (origin_text r.anonymized_origin_line_numbers path) named;
+        text = grind (arith, common_steps, drop, first, origin_row-text, place_named, lines, named);
       }
 
 -- code stands right of the gutter, the separator and a space
@@ -104,12 +103,7 @@ pub snippet_cells : (r : Renderer) (layout : Layout) (around : ElementContext) (
     → cells_of (snippet_rows r layout around s) ≡ cause_head r layout around s
     ++ (cells_of (rows_of_lines r layout (closes_with around) s [] (shown_lines s.fold (cow_str_bytes s.source.text) s.markers.items))
     ++ rows_after_cause r layout around)
-snippet_cells r layout around s =
-    let head : List (List Cell) = cause_head r layout around s in
-    let tail : List (List Cell) = rows_after_cause r layout around in
-    let lines : List NamedRow = rows_of_lines r layout (closes_with around) s [] (shown_lines s.fold (cow_str_bytes s.source.text) s.markers.items) in
-    cells_of-append (others head) (lines ++ others tail) ∙ ap (λ rs. rs ++ cells_of (lines ++ others tail)) (cells_of-others head)
-    ∙ ap (λ rs. head ++ rs) (cells_of-append lines (others tail) ∙ ap (λ rs. cells_of lines ++ rs) (cells_of-others tail))
+snippet_cells r layout around s = grind (arith, cells_of-append, cells_of-others, s.fold, s.source.text, s.markers.items)
 
 -- the rows of a snippet show it
 pub cause_shown : (r : Renderer) (layout : Layout) (around : ElementContext) (found : List Cell) (s : Snippet Annotation) → IsDrawable s

@@ -1,5 +1,5 @@
 -- What most proofs of this crate cite, given on from one place.
-pub use Rattle.annotate_snippets.specs.Article.{linked_html, address_of, id_html, title_html, bracketed_html, article, spoken}
+pub use Rattle.annotate_snippets.specs.Article.{linked_html, address_of, id_html, title_html, bracketed_html, article}
 pub use Rattle.annotate_snippets.specs.AsSet.{IsAsSet, wraps, adds_context, IsStep, IsRemade, IsMaskedFor, shows_as_given, IsShownFor}
 pub use Rattle.annotate_snippets.specs.Drawable.{IsGroupWithinBounds, IsDrawableAsSet}
 pub use Rattle.annotate_snippets.specs.DrawnReport.{suggestion_layout, last_row, suggestion_lines}
@@ -50,7 +50,7 @@ pub use Rattle.annotate_snippets.specs.RowsWithoutSource.{cause_head, rows_after
 pub use Rattle.annotate_snippets.specs.RowsWithoutSource.{origin_rows, place_found}
 pub use Rattle.annotate_snippets.specs.Settings.{plain_settings}
 pub use Rattle.annotate_snippets.specs.ShortForm.{place_named, joined_labels, primary_labels, first_cause, place_of_cause, short_form, short_label}
-pub use Rattle.annotate_snippets.specs.ShortForm.{labels_of_cause, place_of_path, before_title, after_title, short_page, titled_rows}
+pub use Rattle.annotate_snippets.specs.ShortForm.{labels_of_cause, place_of_path, before_title, after_title, short_page}
 pub use Rattle.annotate_snippets.specs.ShownPage.{report_links}
 pub use Rattle.annotate_snippets.specs.TextForm.{text_form, PreviousSuggestion, before_next, element_form, elements_form, group_form, suggestion_place}
 pub use Rattle.annotate_snippets.specs.TextForm.{suggestion_settings, is_other_file, element_texts, group_texts, report_texts, whole_text, option_number}
@@ -79,13 +79,11 @@ pub use Rattle.annotate_snippets.specs.declared.renderer.report_writer.ReportWri
 pub use Rattle.annotate_snippets.specs.declared.renderer.short.ShortForm.{ShortForm}
 pub use Rattle.annotate_snippets.specs.declared.renderer.to_writer.RenderToError.{RenderToError}
 pub use Rattle.annotate_snippets.specs.declared.renderer.to_writer.RenderToError.TheVariants.{Refused}
-pub use Rattle.snippet_grid.proofs.HtmlLaws.{made-append, chars_read, made_rows, rows_chars, says_rows}
-pub use Rattle.snippet_grid.proofs.HtmlReads.{adds_both, adds_piece, adds_three, text_html, adds_text}
-pub use Rattle.snippet_grid.proofs.HtmlReads.{html_says_pieces, is_made, piece_says, tags_are}
+pub use Rattle.snippet_grid.proofs.HtmlLaws.{made-append, chars_read, made_rows, rows_chars, says_rows, Prints-from_pieces}
+pub use Rattle.snippet_grid.proofs.HtmlReads.{adds_both, adds_piece, adds_three, text_html, adds_text, html_says_pieces, is_made, piece_says, tags_are}
 pub use Rattle.snippet_grid.proofs.HtmlStands.{html_reads_pieces}
 pub use Rattle.snippet_grid.proofs.RunLemmas.{on_ok_value}
 pub use Rattle.snippet_grid.proofs.PrintsOnce.{Prints-unique}
-pub use Rattle.snippet_grid.proofs.HtmlLaws.{Prints-from_pieces}
 pub use Rattle.snippet_grid.proofs.ReplaceLemmas.{row_text-text_cells}
 pub use Rattle.snippet_grid.proofs.WeaveLemmas.{some_same, Url, none≢some, further-append}
 pub use Rattle.snippet_grid.proofs.WovenLemmas.{plain_woven, IsWoven-from_prints, ended-append, links_of-unlinked}
@@ -93,15 +91,14 @@ pub use Rattle.snippet_grid.specs.Calls.{WritesCells}
 pub use Rattle.snippet_grid.specs.Grid.{row_at, cell_at, linked}
 unfoldable pub use Rattle.snippet_grid.specs.Grid.{replaced_within}
 pub use Rattle.snippet_grid.specs.Html.{AddsHtml, HtmlPiece, html_bytes, html_text, plain_look, rows_html, link_address, AnchorEnd, AnchorStart, class_of}
-pub use Rattle.snippet_grid.specs.HtmlRead.{as_read, ReadChar, chars_of_rows, feed_read, CharInTags, html_reads, html_says, piece_tag, tags_of}
+pub use Rattle.snippet_grid.specs.HtmlRead.{as_read, CharInTags, html_reads, html_says, piece_tag, tags_of}
 pub use Rattle.snippet_grid.specs.Layout.{Layout, bar_cell}
 pub use Rattle.snippet_grid.specs.Print.{row_text, plain_text, further_text}
 pub use Rattle.snippet_grid.specs.Weaving.{WeavesRows, PrintsFurther, PrintsRows}
-pub use Rattle.snippet_grid.specs.Woven.{IsWoven, links_of, Prints, Char, Piece, piece_text, Reset, next_style, plain_piece, piece_link, IsOfSheet, LinkEnd}
-pub use Rattle.snippet_grid.specs.Woven.{LinkTo, PrintsCells, next_link, links_after}
+pub use Rattle.snippet_grid.specs.Woven.{IsWoven, links_of, Prints, Char, Piece, piece_text, Reset, next_style, IsOfSheet, LinkEnd, LinkTo, PrintsCells}
+pub use Rattle.snippet_grid.specs.Woven.{next_link, links_after}
 pub use Rattle.snippet_labels.proofs.CharLemmas.{is_empty-chars}
-pub use Rattle.snippet_labels.proofs.PlacedLemmas.{label_text, placed_at, label_chars}
-pub use Rattle.snippet_labels.proofs.PlacedLemmas.{entries_all, placed_of-at}
+pub use Rattle.snippet_labels.proofs.PlacedLemmas.{label_text, placed_at, label_chars, entries_all, placed_of-at}
 pub use Rattle.snippet_labels.specs.PlacedEntries.{shifted, label_role, is_end_part}
 pub use Rattle.snippet_labels.specs.Placing.{HasPlace}
 pub use Rattle.snippet_labels.specs.Positions.{has_label, line_positions, look_counts, placed_of, positions, is_start_part}
@@ -153,7 +150,7 @@ pub use Rattle.snippet_model.specs.declared.snippet.Snippet.{Snippet}
 pub use Rattle.snippet_model.specs.declared.snippet.Title.{Title}
 pub use Rattle.snippet_parts.proofs.AmongLemmas.{any_cases, map_cases, Among, among_filter, among_in_order, among_map, any_among, filter_cases, in_order_cases}
 pub use Rattle.snippet_parts.proofs.AmongLemmas.{among_left, among_right, append_cases, among_filter_map}
-pub use Rattle.snippet_parts.proofs.CountedWords.{greatest_end, reached_source}
+pub use Rattle.snippet_parts.proofs.CountedWords.{reached_source}
 pub use Rattle.snippet_parts.proofs.EntryFacts.{places-fit, depths-fit, each-line, labels-fit, texts-fit, untouched-parts, wide-count, singles-on, label-texts}
 pub use Rattle.snippet_parts.proofs.EntryFacts.{depth-within, characters-fit}
 pub use Rattle.snippet_parts.proofs.KeptPartLemmas.{none-unkept, lines_ordered}
@@ -220,38 +217,29 @@ unfoldable pub use Rattle.snippet_splice.specs.Trim.{kept_before, sandwich}
 pub use Rattle.snippet_splice.specs.TrimmedEdits.{AreApart, trimmed_edit_of}
 pub use Rattle.snippet_splice.specs.declared.patches.TrimmedPatch.{TrimmedPatch}
 pub use Rattle.snippet_strokes.proofs.AmongLaws.{all_from_among, among_contains, contains_among, filter_map_cases}
-pub use Rattle.snippet_strokes.proofs.BarFacts.{BarBegins, start_corner, end_corner}
+pub use Rattle.snippet_strokes.proofs.BarFacts.{BarBegins, end_corner}
 pub use Rattle.snippet_strokes.proofs.BarRows.{bar_past}
-pub use Rattle.snippet_strokes.proofs.BarWrites.{All-connector_of, All-stretch_of}
-pub use Rattle.snippet_strokes.proofs.BegunLemmas.{same_front}
-pub use Rattle.snippet_strokes.proofs.CellLemmas.{above_zero}
-pub use Rattle.snippet_strokes.proofs.CrossedLaws.{line_clear}
+pub use Rattle.snippet_strokes.proofs.BarWrites.{All-connector_of, All-stretch_of, All-stem_of, All-stems_of}
+pub use Rattle.snippet_strokes.proofs.BegunLemmas.{same_front, from_map}
+pub use Rattle.snippet_strokes.proofs.CellLemmas.{above_zero, drawn_mark, drawn_strokes, marks_of, cut_row, bar_writes, begun_rows, corner_by, label_write}
+pub use Rattle.snippet_strokes.proofs.CellLemmas.{stem_write}
+pub use Rattle.snippet_strokes.proofs.CrossedLaws.{line_clear, highlighted_left, highlighted_text}
 pub use Rattle.snippet_strokes.proofs.CutWords.{Stretch, cuts_of}
-pub use Rattle.snippet_strokes.proofs.CellLemmas.{drawn_mark, drawn_strokes, marks_of}
 pub use Rattle.snippet_strokes.proofs.DrawnCells.{StandsFrom}
-pub use Rattle.snippet_strokes.proofs.SourceCellLaws.{gap_drawn}
+pub use Rattle.snippet_strokes.proofs.SourceCellLaws.{gap_drawn, line_seen, infos_free, begins, gap_space, line_source}
 pub use Rattle.snippet_strokes.proofs.EndBarLaws.{bar_ends, elision_stands}
-pub use Rattle.snippet_strokes.proofs.WriteLaws.{All-label_of}
-pub use Rattle.snippet_strokes.proofs.WriteLaws.{IsSourceRow, CanBeShown, ShowsLine, AreLineRows, AreOwnRows, StrokesPainted, IsHighlighted}
+pub use Rattle.snippet_strokes.proofs.WriteLaws.{All-label_of, IsSourceRow, CanBeShown, ShowsLine, AreLineRows, AreOwnRows, StrokesPainted, IsHighlighted}
+pub use Rattle.snippet_strokes.proofs.WriteLaws.{All-flat_map, painted-cell}
 pub use Rattle.snippet_strokes.proofs.LineFromValue.{info_rows_show}
-pub use Rattle.snippet_strokes.proofs.BegunLemmas.{from_map}
 pub use Rattle.snippet_strokes.proofs.MarkStrokeLemmas.{of_first}
 pub use Rattle.snippet_strokes.proofs.OpenLemmas.{room_below}
-pub use Rattle.snippet_strokes.proofs.SeenRows.{IsEntryMark, are_plain, has_column, is_single, wide_entries, EntryCovers}
+pub use Rattle.snippet_strokes.proofs.SeenRows.{IsEntryMark, are_plain, has_column, is_single, wide_entries, EntryCovers, AreSeen, IsStrokeRow, ShowsMarks}
 pub use Rattle.snippet_strokes.proofs.PositionLemmas.{line_positions_low, positions_sole, row_count_one}
 pub use Rattle.snippet_strokes.proofs.RowLemmas.{bare_row_left}
 pub use Rattle.snippet_strokes.proofs.SeenLabels.{IsLabelledAtEnd, IsLedTo, LabelsStand, PlacedLabel, StandsIn, is_cell_of}
-pub use Rattle.snippet_strokes.proofs.SourceCellLaws.{line_seen, infos_free}
-pub use Rattle.snippet_strokes.proofs.SeenRows.{AreSeen, IsStrokeRow, ShowsMarks}
-pub use Rattle.snippet_strokes.proofs.CrossedLaws.{highlighted_left, highlighted_text}
-pub use Rattle.snippet_strokes.proofs.SourceCellLaws.{begins, gap_space, line_source}
-pub use Rattle.snippet_strokes.proofs.BarWrites.{All-stem_of, All-stems_of}
 pub use Rattle.snippet_strokes.proofs.StrokeGlyphs.{of_foot}
-pub use Rattle.snippet_strokes.proofs.CellLemmas.{cut_row, bar_writes, begun_rows, corner_by, label_write, stem_write}
-pub use Rattle.snippet_strokes.proofs.StemCells.{stroke_rows-count}
+pub use Rattle.snippet_strokes.proofs.StemCells.{stroke_rows-count, row_text-window_cells}
 pub use Rattle.snippet_strokes.proofs.WholeLemmas.{left_none, window_cells-whole}
-pub use Rattle.snippet_strokes.proofs.StemCells.{row_text-window_cells}
-pub use Rattle.snippet_strokes.proofs.WriteLaws.{All-flat_map, painted-cell}
 pub use Rattle.snippet_strokes.specs.Bars.{Bar, ends_of_bars, open_past, bars_apart, bar_at}
 pub use Rattle.snippet_strokes.specs.Cuts.{overlapped}
 pub use Rattle.snippet_strokes.specs.Drawable.{AreDrawable, HasBarCell, HasBarCellAt, IsDrawableLine}
@@ -261,7 +249,6 @@ pub use Rattle.snippet_strokes.specs.DrawnStems.{stems_of}
 pub use Rattle.snippet_strokes.specs.EndBars.{IsNoBar, BarEnds}
 pub use Rattle.snippet_strokes.specs.EntryMarks.{is_mark_role, IsMarkCell, IsBarCell}
 pub use Rattle.snippet_strokes.specs.InfoRows.{infos_rows, gap_rows, info_rows}
-pub use Rattle.snippet_strokes.specs.Labels.{IsStemCell}
 pub use Rattle.snippet_strokes.specs.LineRows.{line_rows, own_rows}
 pub use Rattle.snippet_strokes.specs.PaintedStrokes.{first_glyph, mark_end, connectors_of, corners_of, labels_of}
 pub use Rattle.snippet_strokes.specs.Painting.{painting_order, stroke_role}
@@ -275,7 +262,7 @@ pub use Rattle.snippet_style.proofs.CellLemmas.{length-text_cells, length-chars_
 pub use Rattle.snippet_style.proofs.StrokeLemmas.{EachBar, EachCode, each_bar, each_code}
 pub use Rattle.snippet_style.proofs.StyleLemmas.{cases_style}
 pub use Rattle.snippet_style.specs.Bounds.{max_usize}
-pub use Rattle.snippet_style.specs.Cell.{Cell, SPACE, text_cells, unlinked_cell, gives_way}
+pub use Rattle.snippet_style.specs.Cell.{Cell, SPACE, text_cells, unlinked_cell}
 unfoldable pub use Rattle.snippet_style.specs.Cell.{written}
 pub use Rattle.snippet_style.specs.Glyphs.{separator_of, placeholder_of, strokes_of, underline_role, suggestion_glyph_of, added_mark_of, char_of, elision_of}
 pub use Rattle.snippet_style.specs.Glyphs.{removed_sign_of, note_sign_of, suggestion_role_of, bar_glyphs, closing_of, IsMarkGlyph, changed_mark_of}
@@ -288,14 +275,13 @@ pub use Rattle.snippet_style.specs.declared.glyphs.SuggestionGlyph.{SuggestionGl
 pub use Rattle.snippet_style.specs.declared.glyphs.SuggestionGlyph.TheVariants.{Leading, Closing, Kept, Changed, Added}
 pub use Rattle.snippet_style.specs.declared.role.ElementStyle.{ElementStyle}
 pub use Rattle.snippet_style.specs.declared.role.ElementStyle.TheVariants.{LineNumber, Quotation, NoStyle, UnderlinePrimary, Addition, MainHeaderMsg}
-pub use Rattle.snippet_style.specs.declared.role.ElementStyle.TheVariants.{LabelPrimary, UnderlineSecondary, Removal, LineAndColumn, LabelSecondary}
+pub use Rattle.snippet_style.specs.declared.role.ElementStyle.TheVariants.{LabelPrimary, UnderlineSecondary, Removal, LabelSecondary}
 pub use Rattle.snippet_style.specs.declared.role.LevelInner.{LevelInner}
 pub use Rattle.snippet_style.specs.declared.role.LevelInner.TheVariants.{Error, Note, Warning, Info, Help}
 pub use Rattle.snippet_style.specs.declared.style.Style.{Style}
 pub use Rattle.snippet_style.specs.declared.stylesheet.Stylesheet.{Stylesheet}
 pub use Rattle.snippet_suggest.proofs.BareLemmas.{stroke_led}
 pub use Rattle.snippet_suggest.proofs.BodyLaws.{zip_append, body_all, body_shows, last_shows}
-pub use Rattle.snippet_suggest.proofs.ByKind.{counted_folded}
 pub use Rattle.snippet_suggest.proofs.CellExamples.{ascii, put_in_cells, stroke, unfolded_cells}
 pub use Rattle.snippet_suggest.proofs.Examples.{text_of, one_word, one_word_gives, text_put_in, third_unfolded}
 pub use Rattle.snippet_suggest.proofs.GutterFits.{folded_small}
@@ -311,7 +297,7 @@ pub use Rattle.snippet_suggest.proofs.SpanLemmas.{trimmed_spans}
 pub use Rattle.snippet_suggest.proofs.TouchLaws.{touched-offered}
 unfoldable pub use Rattle.snippet_suggest.specs.Cells.{sign_of, line_cells, offered_cells, put, with_stretches}
 pub use Rattle.snippet_suggest.specs.Given.{first_given, given_lines, trimmed_of, edits_of, given_text, shown_kind, counted_line, IsOfferable, last_reached}
-pub use Rattle.snippet_suggest.specs.Given.{removed_lines, first_end}
+pub use Rattle.snippet_suggest.specs.Given.{removed_lines}
 pub use Rattle.snippet_suggest.specs.Kind.{is_blank_text}
 pub use Rattle.snippet_suggest.specs.Offered.{lines_taken, numbers_offered, AreRising, IsAsItWas, numbers_given, offered_lines, line_taken, number_offered}
 pub use Rattle.snippet_suggest.specs.PreparedSuggestion.{IsSuggestible, IsPrepared}
@@ -328,7 +314,7 @@ pub use Rattle.snippet_suggest.specs.declared.SuggestionStart.TheVariants.{Openi
 pub use Rattle.snippet_suggest.specs.declared.prepared.PreparedSuggestion.{PreparedSuggestion}
 pub use Rattle.snippet_text.proofs.NormLemmas.{length-norm, list_any-norm, shown-unlisted, width_of-norm}
 unfoldable pub use Rattle.snippet_text.proofs.WidthLemmas.{unicode_width}
-pub use Rattle.snippet_text.specs.Normalized.{is_listed, normalized_chars, shown, has_control_picture, is_bidirectional_control}
+pub use Rattle.snippet_text.specs.Normalized.{is_listed, normalized_chars, shown}
 unfoldable pub use Rattle.snippet_text.specs.Normalized.{norm}
 pub use Rattle.snippet_text.specs.OneLine.{IsOneLine}
 pub use Rattle.snippet_text.specs.Width.{width_of}
@@ -405,7 +391,7 @@ pub use Rattle.std.proofs.Common.{replicate, fold, Vec, ◌||◌, nat_lt, count_
 pub use Rattle.std.proofs.Common.{eqb, leb, String, OnErr, ◌↔◌, IsNone, ◌/◌, lit<, ◌*◌, encode_utf8, set, is_none}
 pub use Rattle.std.proofs.KnownBytes.{Appends-nil, Appends-trans}
 pub use Rattle.std.proofs.Math.Nat.{zero-add}
-pub use Rattle.std.proofs.Math.Seq.{take-append_seam, get_or-append_seam, drop-cons, take-append-add}
+pub use Rattle.std.proofs.Math.Seq.{take-append_seam, drop-cons, take-append-add}
 pub use Rattle.std.proofs.lemmas.Bool.{false≢true, cases_Bool, cases_lt, eqb-true, and_parts, eq-eqb, cases_eq, and_from, le-leb, cond-true, cond-false}
 pub use Rattle.std.proofs.lemmas.Bool.{cond_both, both_ways, or_parts, le-ltb, and_left, and_right, lt-ltb, false_from_ne_true, not-true}
 pub use Rattle.std.proofs.lemmas.Bool.Decides.{nat_tests}
@@ -434,7 +420,7 @@ pub use Rattle.std.proofs.lemmas.Result.{on_ok_weaker, IfOk-weaker, on_err_weake
 pub use Rattle.std.proofs.lemmas.Slice.Zip.{AllZip-long}
 pub use Rattle.std.proofs.lemmas.Str.{chars-nil, IsUtf8-string_bytes, IsUtf8-from_ascii, IsUtf8-nil, encode_ascii, IsUtf8-append, chars-append, chars-IsAscii}
 pub use Rattle.std.proofs.lemmas.Str.{encodes-append}
-pub use Rattle.std.proofs.lemmas.Str.Ascii.{IsAscii-cons, IsAscii-nil, IsAscii-from_all}
+pub use Rattle.std.proofs.lemmas.Str.Ascii.{IsAscii-cons, IsAscii-nil}
 pub use Rattle.std.specs.Char.{is_ascii_alphanumeric, is_whitespace, is_ascii_punctuation, is_ascii_digit}
 pub use Rattle.std.specs.Cmp.Lexicographic.{same_text}
 pub use Rattle.std.specs.Cow.{cow_str_bytes, cow_slice_items}
@@ -443,7 +429,7 @@ pub use Rattle.std.specs.Int.{is_in_range}
 pub use Rattle.std.specs.Io.KnownBytes.{Appends}
 pub use Rattle.std.specs.List.{flat_map, AllZip, Contains, slice_get, filter, list_any, slice_index_or, list_all, filter_map, range_with_len, cons_option}
 pub use Rattle.std.specs.List.{join_with_byte, enumerate_from, position_from, onto_first, zip, sum_by, slice_split}
-pub use Rattle.std.specs.Option.{option_copied, option_map, option_to_list, option_or, is_some, option_map_or, IsSomeAnd, option_flatten}
+pub use Rattle.std.specs.Option.{option_copied, option_map, option_to_list, option_or, is_some, option_map_or, IsSomeAnd}
 pub use Rattle.std.specs.Result.{OnOk, IfOk, IsErrAnd, IfErr, is_ok, MatchResult}
 pub use Rattle.std.specs.Str.{IsUtf8, IsCharBoundary, IsAscii, trim}
 pub use Rattle.std.specs.declared.alloc.AllocError.{AllocError}

@@ -1,11 +1,9 @@
 -- What stands around the elements of a group is found one by one.
-use Rattle.annotate_snippets.proofs.Common.{◌≡◌, ◌∙◌, ℕ, ◌+◌, ◌-◌, ◌==◌, ◌&&◌, ◌||◌, not, suc, zero, Bool, true, false}
-use Rattle.annotate_snippets.proofs.Common.{List, [], ◌∷◌, ◌++◌, Option, Some, None, length, take, drop, refl, sym, ap, arith}
-use Rattle.annotate_snippets.proofs.Common.{list_any, slice_get, is_some, option_copied, option_to_list, nat_tests}
-use Rattle.annotate_snippets.proofs.Common.{take_more, list_any-append, slice_get_within, slice_get_read, get_or_from_slice_get}
-use Rattle.annotate_snippets.proofs.Common.{Bor, Element, Cause, Message, Origin, Padding, Suggestion, SuggestionStart, GroupPosition}
-use Rattle.annotate_snippets.proofs.Common.{Next, ContextWalk, IsWalkAt, context_at, file_of_element, first_two_share, next_of}
-use Rattle.annotate_snippets.proofs.Common.{suggestion_start}
+use Rattle.annotate_snippets.proofs.Common.{◌≡◌, ◌∙◌, ℕ, ◌+◌, ◌-◌, ◌==◌, ◌&&◌, ◌||◌, not, suc, zero, Bool, true, false, List}
+use Rattle.annotate_snippets.proofs.Common.{[], ◌∷◌, ◌++◌, Option, Some, None, length, take, drop, refl, sym, ap, arith, list_any, slice_get, is_some}
+use Rattle.annotate_snippets.proofs.Common.{option_copied, option_to_list, nat_tests, take_more, list_any-append, slice_get_within, slice_get_read}
+use Rattle.annotate_snippets.proofs.Common.{get_or_from_slice_get, Bor, Element, Cause, Message, Origin, Padding, Suggestion, SuggestionStart, GroupPosition}
+use Rattle.annotate_snippets.proofs.Common.{Next, ContextWalk, IsWalkAt, context_at, file_of_element, first_two_share, next_of, suggestion_start}
 use Rattle.std.proofs.Common.{add-one}
 use Rattle.std.proofs.lemmas.Option.{slice_get_past}
 use Rattle.std.specs.Slice.{IsItemAt}
@@ -37,9 +35,7 @@ shared_at : (es : List Element) (k : ℕ) (e : Element) → slice_get es k ≡ S
     → first_two_share (drop k es) ≡ first_two_share (e ∷ option_to_list (slice_get es (suc k)))
 shared_at [] k e is = absurd (cc)
 shared_at (x ∷ []) zero e is = refl
-shared_at (x ∷ d ∷ es) zero e is =
-    let same : x ≡ e = cc in
-    ap (λ y. first_two_share (y ∷ d ∷ [])) same
+shared_at (x ∷ d ∷ es) zero e is = grind arith
 shared_at (x ∷ es) (suc k) e is = shared_at es k e is
 
 -- whether the one after shares a row with this one
@@ -54,10 +50,7 @@ pub walk_around : (place : GroupPosition) (file : Option (List ℕ)) (es : List 
     → start ≡ suggestion_start file walk.shares e → shared ≡ first_two_share (e ∷ option_to_list after) → next ≡ next_of (option_to_list after)
     → record { place = place; first = walk.first; primary = walk.primary; start = start; shared = shared; next = next } ≡ context_at place file es i e
 walk_around place file es i walk e after start shared next at here then starts pairs follows =
-    let begins : start ≡ suggestion_start file (shares_before es i) e = starts ∙ ap (λ b. suggestion_start file b e) at.shares_is in
-    let shares : shared ≡ first_two_share (drop i es) = pairs ∙ sym (shared_here es i e after here then) in
-    let ends : next ≡ next_of (drop (i + 1) es) = follows ∙ ap (λ o. next_of (option_to_list o)) (sym then) ∙ sym (next_at es (i + 1)) in
-    rw at.first_is (rw at.primary_is (rw begins (rw shares (rw ends refl))))
+    grind (arith, drop, shared_here, next_of, next_at, at.shares_is, at.first_is, at.primary_is)
 
 primary_next : (es : List Element) (i : ℕ) (e : Element) (primary : Bool) → slice_get es i ≡ Some e → primary ≡ primary_before es i
     → (primary && not (has_file e)) ≡ primary_before es (i + 1)
@@ -77,10 +70,7 @@ primary_next es i e primary at is =
     neither false b = refl
 
 shares_next : (es : List Element) (i : ℕ) → first_two_share (drop i es) ≡ shares_before es (i + 1)
-shares_next es i =
-    let later : (i + 1 == 0) ≡ false = grind (arith, nat_tests) in
-    let here : i + 1 - 1 ≡ i = omega arith in
-    sym (ap (λ b. not b && first_two_share (drop (i + 1 - 1) es)) later ∙ ap (λ k. first_two_share (drop k es)) here)
+shares_next es i = grind (arith, nat_tests)
 
 -- a walk that has passed an element has come to the next one
 pub walk_on : (es : List Element) (i : ℕ) (walk new : ContextWalk) (e : Element) (after : Option Element) → IsWalkAt es i walk → slice_get es i ≡ Some e

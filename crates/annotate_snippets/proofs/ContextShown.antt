@@ -1,24 +1,23 @@
 -- A report with the lines around those that it keeps: what it has in common with the one in whose place it is shown, and that a page has just
 -- the source rows of the lines near one that is kept, and of each single line between two of these.
-use Rattle.annotate_snippets.proofs.Common.{◌≡◌, ◌∙◌, ℕ, ◌+◌, ◌||◌, Bool, true, false, not, List, [], ◌∷◌, ◌++◌, Option, None}
-use Rattle.annotate_snippets.proofs.Common.{Some, All, IfSome, length, map, arith, refl, sym, ap, ap₂, subst, if◌then◌else◌, All-cons, All-head}
-use Rattle.annotate_snippets.proofs.Common.{All-nil, All-tail, All-weaker, filter_agree, filter_map-append, cow_str_bytes, AllZip, list_any, range_with_len}
-use Rattle.annotate_snippets.proofs.Common.{slice_get, slice_index_or, option_map, option_to_list, Global, CowStr, Range, keeps-around, context_spans}
-use Rattle.annotate_snippets.proofs.Common.{lines_around, visible_mark, Stays, HoldsSpan, IsElementWithContext, IsGroupWithContext, IsSnippetWithContext}
-use Rattle.annotate_snippets.proofs.Common.{IsAnyTitle, IsElementSound, IsGroupSound, Layout, length-source_lines, source_lines, SpanFault, AnnotationFits}
-use Rattle.annotate_snippets.proofs.Common.{ElementFits, ReportFits, TextFits, TitleFits, SourceSeen, trusted_of_element, trusted_of_title, Annotation}
-use Rattle.annotate_snippets.proofs.Common.{AnnotationKind, Element, Message, Cause, Suggestion, Origin, Padding, Group, Snippet, Title, kept_lines, keeps}
+use Rattle.annotate_snippets.proofs.Common.{◌≡◌, ◌∙◌, ℕ, ◌+◌, Bool, true, false, List, [], ◌∷◌, ◌++◌, Option, None, Some, All}
+use Rattle.annotate_snippets.proofs.Common.{IfSome, length, map, arith, refl, sym, ap, ap₂, subst, if◌then◌else◌, All-cons, All-head, All-nil, All-tail}
+use Rattle.annotate_snippets.proofs.Common.{All-weaker, filter_agree, filter_map-append, cow_str_bytes, AllZip, list_any, slice_get, slice_index_or, option_map}
+use Rattle.annotate_snippets.proofs.Common.{option_to_list, Range, keeps-around, context_spans, visible_mark, Stays, HoldsSpan, IsElementWithContext}
+use Rattle.annotate_snippets.proofs.Common.{IsGroupWithContext, IsSnippetWithContext, IsAnyTitle, IsElementSound, IsGroupSound, Layout, length-source_lines}
+use Rattle.annotate_snippets.proofs.Common.{SpanFault, AnnotationFits, ElementFits, ReportFits, TitleFits, SourceSeen, trusted_of_element, trusted_of_title}
+use Rattle.annotate_snippets.proofs.Common.{Annotation, Element, Message, Cause, Suggestion, Origin, Padding, Group, Snippet, Title, kept_lines, keeps}
 use Rattle.annotate_snippets.proofs.Common.{with_between, IsGroupMasked, IsAnnotationAsSet, IsElementAsSet, IsSnippetAsSet, IsTitleAsSet, IsElementWrapped}
 use Rattle.annotate_snippets.proofs.Common.{IsGroupWrapped, IsTitleWrapped, Cell, id_links, IsRemade, IsStep, adds_context, wraps, context_at, drawn_elements}
-use Rattle.annotate_snippets.proofs.Common.{file_of_group, path_bytes, position_of_group, is_drawn, element_faults, faults_from, first_fault}
-use Rattle.annotate_snippets.proofs.Common.{number_after_lines, number_faults, refusal_of, span_faults, gutter_of_report, layout_of_group, ShowsLinesAround}
-use Rattle.annotate_snippets.proofs.Common.{lines_with_context, HasOneLineTexts, PageLaws, ShowsSnippet, GroupPage, NamedRow, line_named, lines_named, others}
-use Rattle.annotate_snippets.proofs.Common.{IsElementDrawable, IsGroupDrawable, cause_head, rows_after_cause, Renderer, ElementContext, RenderError, Form}
+use Rattle.annotate_snippets.proofs.Common.{file_of_group, position_of_group, is_drawn, element_faults, faults_from, first_fault, number_after_lines}
+use Rattle.annotate_snippets.proofs.Common.{number_faults, refusal_of, span_faults, gutter_of_report, layout_of_group, ShowsLinesAround, lines_with_context}
+use Rattle.annotate_snippets.proofs.Common.{HasOneLineTexts, PageLaws, ShowsSnippet, GroupPage, NamedRow, lines_named, others, IsElementDrawable, cause_head}
+use Rattle.annotate_snippets.proofs.Common.{rows_after_cause, Renderer, ElementContext, RenderError, Form}
 use Rattle.std.proofs.Common.{append-nil}
 use Rattle.annotate_snippets.proofs.BoundsLaws.{span-faultless}
 use Rattle.annotate_snippets.proofs.FaultLemmas.{groups-drawable}
 use Rattle.annotate_snippets.proofs.FeedsShown.{feeds-faithful}
-use Rattle.annotate_snippets.proofs.OneLineTexts.{IsOneLineElement, IsOneLineLabel, IsOneLineText, IsOneLineTitle}
+use Rattle.annotate_snippets.proofs.OneLineTexts.{IsOneLineElement, IsOneLineLabel, IsOneLineTitle}
 use Rattle.annotate_snippets.proofs.PageWords.{Page}
 use Rattle.annotate_snippets.proofs.RemadeLemmas.{DrawnPair, IsFaithful, IsTextOf, drawn-pair, fits-made, line-made, own-texts}
 use Rattle.annotate_snippets.proofs.WrapShown.{wrap-faithful}
@@ -102,12 +101,7 @@ element-sound (Message message) drawable = tt
 element-sound (Suggestion s) drawable = tt
 element-sound (Origin origin) drawable = tt
 element-sound (Padding padding) drawable = tt
-element-sound (Cause s) drawable =
-    record {
-      fits = drawable.source;
-      numbers = omega (arith, drawable.numbers, length-source_lines (cow_str_bytes s.source.text));
-      spans = drawable.spans;
-    }
+element-sound (Cause s) drawable = grind (arith, length-source_lines, drawable.source, drawable.numbers, s.source.text, drawable.spans)
 
 -- a report without a fault, all texts of which fit, has what is asked of it
 any-title : (title : Option Title) → IfSome title IsAnyTitle
@@ -115,10 +109,7 @@ any-title None = tt
 any-title (Some title) = tt
 
 pub groups-sound : (groups : List Group) → ReportFits groups → first_fault groups ≡ None → All IsGroupSound groups
-groups-sound groups fits none =
-    All-weaker IsGroupDrawable IsGroupSound
-    (λ (g : Group) drawable. (any-title g.title, All-weaker IsElementDrawable IsElementSound element-sound g.elements.items drawable.1)) groups
-    (groups-drawable groups fits none)
+groups-sound groups fits none = grind (arith, All-weaker, element-sound, groups-drawable)
 
 -- ---- what fits
 
@@ -126,17 +117,11 @@ added-fit : (marks : List Annotation) (spans : List (Range ℕ)) → All Annotat
 added-fit [] [] fit = All-nil AnnotationFits
 added-fit [] (span ∷ spans) fit =
     All-cons AnnotationFits (visible_mark span) (map visible_mark spans) tt (added-fit [] spans fit)
-added-fit (a ∷ marks) spans fit =
-    All-cons AnnotationFits a (marks ++ map visible_mark spans) (All-head AnnotationFits a marks fit)
-    (added-fit marks spans (All-tail AnnotationFits a marks fit))
+added-fit (a ∷ marks) spans fit = grind (arith, added-fit marks spans (All-tail AnnotationFits a marks fit), All-cons, map, All-head, All-tail)
 
 module _ (before after : ℕ) where
   cause-fits : (a b : Snippet Annotation) → IsSnippetWithContext before after a b → ElementFits (Cause a) → ElementFits (Cause b)
-  cause-fits a b is fits = (
-    subst (λ (s : SourceSeen). TextFits (cow_str_bytes s.text)) (sym is.source) fits.0,
-    subst (λ (path : Option (CowStr Global)). IfSome path (λ t. TextFits (cow_str_bytes t))) (sym is.path) fits.1,
-    subst (All AnnotationFits) (sym is.markers) (added-fit a.markers.items (context_spans before after a) fits.2),
-  )
+  cause-fits a b is fits = grind (arith, added-fit, is.source, fits.0, is.path, fits.1, is.markers, a.markers.items, fits.2)
 
   element-fits : (a b : Element) → IsElementWithContext before after a b → ElementFits a → ElementFits b
   element-fits (Message a) (Message b) is fits = subst (λ m. ElementFits (Message m)) (sym is) fits
@@ -157,15 +142,10 @@ module _ (before after : ℕ) where
   added-plain [] [] plain = All-nil IsOneLineLabel
   added-plain [] (span ∷ spans) plain =
       All-cons IsOneLineLabel (visible_mark span) (map visible_mark spans) tt (added-plain [] spans plain)
-  added-plain (a ∷ marks) spans plain =
-      All-cons IsOneLineLabel a (marks ++ map visible_mark spans) (All-head IsOneLineLabel a marks plain)
-      (added-plain marks spans (All-tail IsOneLineLabel a marks plain))
+  added-plain (a ∷ marks) spans plain = grind (arith, added-plain marks spans (All-tail IsOneLineLabel a marks plain), All-cons, map, All-head, All-tail)
 
   cause-plain : (a b : Snippet Annotation) → IsSnippetWithContext before after a b → IsOneLineElement (Cause a) → IsOneLineElement (Cause b)
-  cause-plain a b is plain = (
-    subst (λ (path : Option (CowStr Global)). IsOneLineText (path_bytes path)) (sym is.path) plain.0,
-    subst (All IsOneLineLabel) (sym is.markers) (added-plain a.markers.items (context_spans before after a) plain.1),
-  )
+  cause-plain a b is plain = grind (arith, added-plain, is.path, plain.0, is.markers, a.markers.items, plain.1)
 
   element-plain : (a b : Element) → IsElementWithContext before after a b → IsOneLineElement a → IsOneLineElement b
   element-plain (Message a) (Message b) is plain = subst (λ m. IsOneLineElement (Message m)) (sym is) plain
@@ -187,29 +167,18 @@ keeps-same : (feeds : Bool) (source : List ℕ) (k : ℕ) (xs ys : List Annotati
 keeps-same feeds source k [] [] pairs = refl
 keeps-same feeds source k [] (y ∷ ys) pairs = absurd pairs
 keeps-same feeds source k (x ∷ xs) [] pairs = absurd pairs
-keeps-same feeds source k (x ∷ xs) (y ∷ ys) pairs =
-    ap₂ (λ (a b : Bool). a || b)
-    (ap₂ (λ (span : Range ℕ) (kind : AnnotationKind). keeps source k (record { span = span; label = None; kind = kind; highlight_source = false }))
-    pairs.0.0 pairs.0.2)
-    (keeps-same feeds source k xs ys pairs.1)
+keeps-same feeds source k (x ∷ xs) (y ∷ ys) pairs = grind (arith, keeps-same feeds source k xs ys pairs.1, ap₂, pairs.0.0, pairs.0.2, pairs.1)
 
 -- so a snippet whose texts are as they are set keeps the lines that it kept
 kept-set : (feeds : Bool) (a b : Snippet Annotation) → IsSnippetAsSet feeds (IsAnnotationAsSet feeds) a b
     → kept_lines b.fold (cow_str_bytes b.source.text) b.markers.items ≡ kept_lines a.fold (cow_str_bytes a.source.text) a.markers.items
-kept-set feeds a b is =
-    ap₂ (λ (fold : Bool) (source : List ℕ). kept_lines fold source b.markers.items) is.5 is.2.text
-    ∙ filter_agree (λ k. not a.fold || list_any (keeps (cow_str_bytes a.source.text) k) b.markers.items)
-    (λ k. not a.fold || list_any (keeps (cow_str_bytes a.source.text) k) a.markers.items)
-    (λ k. ap (λ (kept : Bool). not a.fold || kept) (keeps-same feeds (cow_str_bytes a.source.text) k a.markers.items b.markers.items is.3))
-    (range_with_len 0 (length (source_lines (cow_str_bytes a.source.text))))
+kept-set feeds a b is = grind (arith, ap₂, filter_agree, keeps-same, b.markers.items, is.5, is.2.text, a.fold, a.source.text, a.markers.items, is.3)
 
 module _ (before after : ℕ) where
   -- with the lines around them it keeps those near one of them
   lines-near : (feeds : Bool) (a fed b : Snippet Annotation) → IsSnippetAsSet feeds (IsAnnotationAsSet feeds) a fed → IsSnippetWithContext before after fed b
       → with_between (kept_lines b.fold (cow_str_bytes b.source.text) b.markers.items) ≡ lines_with_context before after a
-  lines-near feeds a fed b is with =
-      ap with_between ((keeps-around before after fed b with).lines
-      ∙ ap₂ (λ (source : List ℕ) (kept : List ℕ). lines_around before after (length (source_lines source)) kept) is.2.text (kept-set feeds a fed is))
+  lines-near feeds a fed b is with = grind (arith, keeps-around, ap₂, kept-set, is.2.text)
 
   -- ---- rows
 
@@ -218,11 +187,7 @@ module _ (before after : ℕ) where
   none-named (row ∷ rows) = none-named rows
 
   named-between : (head below : List (List Cell)) (rows : List NamedRow) → lines_named (others head ++ (rows ++ others below)) ≡ lines_named rows
-  named-between head below rows =
-      filter_map-append (λ (row : NamedRow). line_named row.name) (others head) (rows ++ others below)
-      ∙ ap (λ (ks : List ℕ). ks ++ lines_named (rows ++ others below)) (none-named head)
-      ∙ filter_map-append (λ (row : NamedRow). line_named row.name) rows (others below)
-      ∙ ap (λ (ks : List ℕ). lines_named rows ++ ks) (none-named below) ∙ append-nil (lines_named rows)
+  named-between head below rows = grind (arith, filter_map-append, none-named, append-nil)
 
   -- the lines that the rows of a snippet show
   named-shown : (r : Renderer) (layout : Layout) (around : ElementContext) (s : Snippet Annotation) (rows : List NamedRow)

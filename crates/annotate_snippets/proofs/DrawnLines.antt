@@ -1,9 +1,10 @@
 -- The rows of a line are what the spans of the snippet make of it.
+use Rattle.std.proofs.lemmas.Grind.{common_steps}
+use Rattle.std.proofs.Common.{arith, Contains, chars}
 use Rattle.annotate_snippets.proofs.Common.{◌≡◌, ℕ, ◌+◌, ◌<◌, Bool, List, length, sym, ap, subst, Annotation, Snippet, Cell, unlinked_cell}
 use Rattle.annotate_snippets.proofs.Common.{norm, KeptLine, kept_line, seen_kept, AnnotatedLineInfo, LineAnnotation, Margin, shown_number, LineNumbers, cell_at}
 use Rattle.annotate_snippets.proofs.Common.{strokes_of, underline_role, Bar, bars_apart, ends_of_bars, HasOwnDepth, window_cells, IsSourceRow, ShowsLine}
 use Rattle.annotate_snippets.proofs.Common.{bar_past, Renderer, Layout, line_numbers, number_text, numbered_source, margin_in}
-use Rattle.std.proofs.Common.{Contains, chars}
 use Rattle.annotate_snippets.proofs.LineWords.{bars_on, entries_on}
 use Rattle.annotate_snippets.proofs.DrawnRows.{IsLineDrawn}
 use Rattle.annotate_snippets.proofs.MarginWords.{room_of}
@@ -60,6 +61,5 @@ module _ (r : Renderer) (layout : Layout) (closes : Bool) (s : Snippet Annotatio
   bar_shown rows line bar among alone i within =
       let ends : ends_of_bars line.entries ≡ bars_on s k = bars_seen s k line.entries line.are in
       let own : Contains (bars_apart open_bars (ends_of_bars line.entries)) bar = subst (λ bs. Contains (bars_apart open_bars bs) bar) (sym ends) among in
-      let only : HasOwnDepth bar (bars_apart open_bars (ends_of_bars line.entries)) = subst (λ bs.
-      HasOwnDepth bar (bars_apart open_bars bs)) (sym ends) alone in
+      let only : HasOwnDepth bar (bars_apart open_bars (ends_of_bars line.entries)) = grind (arith, common_steps, ends) in
       bar_past layout line.margin.term_width closes line.text line.dropped open_bars line.entries line.highlighted rows line.drawn bar own only i within

@@ -1,12 +1,12 @@
 -- The rows of a group's elements, one below the other.
-use Rattle.annotate_snippets.proofs.Common.{◌≡◌, ℕ, ◌+◌, ◌-◌, ◌<◌, ◌≤◌, All, Bool, true, false, not, drop, Option, Some, List, [], ◌∷◌}
-use Rattle.annotate_snippets.proofs.Common.{◌++◌, length, get_or, map, refl, sym, ap, ◌∙◌, arith, subst, take, zero, suc, enumerate_from, flat_map}
-use Rattle.annotate_snippets.proofs.Common.{slice_get, zero-add, flat_map-append, append-nil, get_or-map, length-map, take_all, take_more}
-use Rattle.annotate_snippets.proofs.Common.{Bor, length-drop, option_copied, option_map, slice_get-map, ContextWalk, IsWalkAt}
-use Rattle.annotate_snippets.proofs.Common.{get_or-enumerate_from, length-enumerate_from, get_or_from_slice_get, slice_get-get_or, slice_get_within, Cell}
-use Rattle.annotate_snippets.proofs.Common.{Element, context_at, drawn_elements, first_two_share, is_end, next_of, last_row, element_rows, group_page}
-use Rattle.annotate_snippets.proofs.Common.{CanStandIn, begins_in_row_above, shared_row, drawn_rows, title_part, Group, Title, rows_of_elements, NamedRow}
-use Rattle.annotate_snippets.proofs.Common.{cells_of, group_rows, Renderer, Layout, element_of, PreparedElement, GroupPosition, Next, ElementContext}
+use Rattle.annotate_snippets.proofs.Common.{◌≡◌, ℕ, ◌+◌, ◌-◌, ◌<◌, ◌≤◌, All, Bool, true, false, not, drop, Option, Some, List, []}
+use Rattle.annotate_snippets.proofs.Common.{◌∷◌, ◌++◌, length, get_or, map, refl, sym, ap, ◌∙◌, arith, subst, take, zero, suc, enumerate_from}
+use Rattle.annotate_snippets.proofs.Common.{flat_map, slice_get, zero-add, flat_map-append, append-nil, get_or-map, length-map, take_all, take_more, Bor}
+use Rattle.annotate_snippets.proofs.Common.{length-drop, option_copied, option_map, slice_get-map, ContextWalk, IsWalkAt, get_or-enumerate_from}
+use Rattle.annotate_snippets.proofs.Common.{length-enumerate_from, get_or_from_slice_get, slice_get-get_or, slice_get_within, Cell, Element, context_at}
+use Rattle.annotate_snippets.proofs.Common.{drawn_elements, first_two_share, is_end, next_of, last_row, element_rows, group_page, CanStandIn}
+use Rattle.annotate_snippets.proofs.Common.{begins_in_row_above, shared_row, drawn_rows, title_part, Group, Title, rows_of_elements, NamedRow, cells_of}
+use Rattle.annotate_snippets.proofs.Common.{group_rows, Renderer, Layout, element_of, PreparedElement, GroupPosition, Next, ElementContext}
 use Rattle.std.proofs.Common.{add-one, append_assoc}
 use Rattle.std.specs.Slice.{IsItemAt}
 use Rattle.annotate_snippets.proofs.ContextLemmas.{front_item, slice_get-drop}
@@ -75,36 +75,24 @@ module _ (r : Renderer) (layout : Layout) (place : GroupPosition) (file : Option
 
   -- all of them
   drawn_all : (n : ℕ) (old new : List (List Cell)) → n ≡ length es → DrawnSoFar n old new → new ≡ old ++ flat_map cells_of parts
-  drawn_all n old new all drawn =
-      let found : List Cell = found_at r layout es n in
-      let none : shared_row (shares_before es n) found ≡ [] = ap (λ b. shared_row b found) (ap (shares_before es) all ∙ shares_end es) in
-      drawn ∙ ap (λ rows. (old ++ flat_map cells_of (take n parts)) ++ rows) none ∙ append-nil (old ++ flat_map cells_of (take n parts))
-      ∙ ap (λ ps. old ++ flat_map cells_of ps) (take_all n parts (omega (arith, all, parts_count)))
+  drawn_all n old new all drawn = grind (arith, found_at, shares_end, take, append-nil, take_all, parts_count)
 
 -- the item that an iteration has is the next of some, with its number
 pub turn_item : {X : Type 0} (xs : List X) (n i : ℕ) (x : X) → (n < length (enumerate_from 0 xs)) × ((i, x) ≡ get_or (enumerate_from 0 xs) n (i, x))
     → (i ≡ n) × (slice_get xs n ≡ Some x)
-turn_item xs n i x turn =
-    let within : n < length xs = omega (arith, turn.0, length-enumerate_from 0 xs) in
-    let at : 0 + n ≡ n = omega arith in
-    let is : (i, x) ≡ (0 + n, get_or xs n x) = turn.1 ∙ get_or-enumerate_from 0 xs n (i, x) within in
-    (ap (λ p. p.0) is ∙ at, slice_get-get_or xs n x within ∙ ap Some (sym (ap (λ p. p.1) is)))
+turn_item xs n i x turn = grind (arith, length-enumerate_from, get_or-enumerate_from, slice_get-get_or, turn.0, turn.1)
 
 -- the element at a place of what is made is made from the one at that place
 pub get-mapped : {X Y : Type 0} (f : X → Y) (xs : List X) (n : ℕ) (x : X) → slice_get xs n ≡ Some x → slice_get (map f xs) n ≡ Some (f x)
 get-mapped f [] n x is = absurd (cc)
-get-mapped f (y ∷ xs) zero x is =
-    let same : y ≡ x = cc in
-    ap (λ z. Some (f z)) same
+get-mapped f (y ∷ xs) zero x is = grind arith
 get-mapped f (y ∷ xs) (suc n) x is = get-mapped f xs n x is
 
 -- an item of a list, and those after it
 left_first : {X : Type 0} (xs rest : List X) (n : ℕ) (x : X) → drop n xs ≡ x ∷ rest → (slice_get xs n ≡ Some x) × (drop (suc n) xs ≡ rest)
 left_first [] rest zero x is = absurd (cc)
 left_first [] rest (suc n) x is = absurd (cc)
-left_first (y ∷ xs) rest zero x is =
-    let same : y ≡ x = cc in
-    (ap Some same, cc)
+left_first (y ∷ xs) rest zero x is = grind arith
 left_first (y ∷ xs) rest (suc n) x is = left_first xs rest n x is
 
 -- the elements that are left are the one that a walk has come to and those after it
@@ -187,14 +175,10 @@ each_drawn r layout place file ps left n walk old new at none drawn =
 pub title_drawn : (r : Renderer) (layout : Layout) (place : GroupPosition) (next after : Next) (title : Title) (given : Option Title)
     (empty mid : List (List Cell)) → empty ≡ [] → next ≡ after → given ≡ Some title → mid ≡ empty ++ title_part r layout place next (Some title)
     → mid ≡ title_part r layout place after given
-title_drawn r layout place next after title given empty mid none follows some is =
-    is ∙ ap (λ (rows : List (List Cell)). rows ++ title_part r layout place next (Some title)) none
-    ∙ ap (λ n. title_part r layout place n (Some title)) follows ∙ ap (title_part r layout place after) (sym some)
+title_drawn r layout place next after title given empty mid none follows some is = grind arith
 
 -- so the rows of a group's title and of its elements that are drawn are those of its page
 pub group_drawn : (r : Renderer) (layout : Layout) (place : GroupPosition) (file : Option (List ℕ)) (g : Group) (es : List Element)
     (title new : List (List Cell)) → es ≡ drawn_elements g → title ≡ title_part r layout place (next_of es) g.title
     → new ≡ title ++ flat_map cells_of (rows_of_elements r layout place file es) → new ≡ group_rows (group_page r layout place file g)
-group_drawn r layout place file g es title new are titled is =
-    is ∙ ap (λ (rows : List (List Cell)). rows ++ flat_map cells_of (rows_of_elements r layout place file es)) titled
-    ∙ ap (λ (xs : List Element). title_part r layout place (next_of xs) g.title ++ flat_map cells_of (rows_of_elements r layout place file xs)) are
+group_drawn r layout place file g es title new are titled is = grind (arith, g.title)

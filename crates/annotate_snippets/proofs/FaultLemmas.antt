@@ -1,25 +1,20 @@
 -- What a report without faults is.
-use Rattle.annotate_snippets.proofs.Common.{◌≡◌, ℕ, ◌+◌, ◌<◌, ◌≤◌, ◌&&◌, count_by, get_or, take, ◌==◌, nat_le, nat_lt, Bool, true}
-use Rattle.annotate_snippets.proofs.Common.{false, List, [], ◌∷◌, ◌++◌, Option, Some, None, All, length, map, refl, sym, ap, ◌∙◌, arith, inl}
-use Rattle.annotate_snippets.proofs.Common.{inr, cond, ◌^◌, slice_get, option_map, option_or, option_to_list, nat_tests, take_more, count_by-le-length}
-use Rattle.annotate_snippets.proofs.Common.{fold_push, All-nil, All-cons, All-head, All-tail, IsCharBoundary, Group, Range, Annotation, Patch, cow_str_bytes}
-use Rattle.annotate_snippets.proofs.Common.{Snippet, Element, Message, Cause, Suggestion, Origin, Padding, max_usize, SpanFault, Reversed, PastEnd, OffBoundary}
-use Rattle.annotate_snippets.proofs.Common.{is_span_border, is_character_border, span_fault, IsSpan, IsSpanBorder, edit_of, first_overlap, added_lines}
-use Rattle.annotate_snippets.proofs.Common.{faults_from, missing_title, number_after_lines, first_of, span_faults, overlap_faults, group_faults, element_faults}
-use Rattle.annotate_snippets.proofs.Common.{first_fault, refusal_of, number_faults, IsSuggestible, IsDrawable, IsElementDrawable, IsGroupDrawable}
-use Rattle.annotate_snippets.proofs.Common.{numbers-bound, ReportFits, GroupFits, ElementFits, NoTitle, PatchesOverlap, LineNumberTooLarge, RenderError, Short}
-use Rattle.annotate_snippets.proofs.Common.{some_same}
+use Rattle.std.proofs.lemmas.Grind.{common_steps}
+use Rattle.annotate_snippets.proofs.Common.{◌≡◌, ℕ, ◌+◌, ◌<◌, ◌≤◌, ◌&&◌, get_or, take, ◌==◌, nat_le, nat_lt, Bool, true, false}
+use Rattle.annotate_snippets.proofs.Common.{List, [], ◌∷◌, ◌++◌, Option, Some, None, All, length, map, refl, arith, inl, inr, cond, ◌^◌}
+use Rattle.annotate_snippets.proofs.Common.{slice_get, option_map, option_or, option_to_list, nat_tests, take_more, count_by-le-length, fold_push, All-nil}
+use Rattle.annotate_snippets.proofs.Common.{All-cons, All-head, All-tail, IsCharBoundary, Group, Range, Annotation, Patch, cow_str_bytes, Snippet, Element}
+use Rattle.annotate_snippets.proofs.Common.{Message, Cause, Suggestion, Origin, Padding, max_usize, SpanFault, Reversed, PastEnd, OffBoundary, is_span_border}
+use Rattle.annotate_snippets.proofs.Common.{is_character_border, span_fault, IsSpan, IsSpanBorder, edit_of, first_overlap, added_lines, faults_from}
+use Rattle.annotate_snippets.proofs.Common.{missing_title, number_after_lines, first_of, span_faults, overlap_faults, group_faults, element_faults, first_fault}
+use Rattle.annotate_snippets.proofs.Common.{refusal_of, number_faults, IsSuggestible, IsDrawable, IsElementDrawable, IsGroupDrawable, numbers-bound, ReportFits}
+use Rattle.annotate_snippets.proofs.Common.{GroupFits, ElementFits, PatchesOverlap, LineNumberTooLarge, RenderError, Short, some_same}
 use Rattle.annotate_snippets.proofs.DisjointLemmas.{first_overlap-clear}
 
 -- one more patch adds no more lines than its replacement has bytes
 pub added_more : (patches : List Patch) (i : ℕ) (p : Patch) → i < length patches → p ≡ get_or patches i p
     → added_lines (take (i + 1) patches) ≤ added_lines (take i patches) + length (cow_str_bytes p.replacement)
-added_more patches i p within is =
-    let feeds : Patch → ℕ = λ q. count_by (λ b. b == 10) (cow_str_bytes q.replacement) in
-    let more : take (i + 1) patches ≡ take i patches ++ p ∷ [] = take_more patches i p within ∙ ap (λ (q : Patch). take i patches ++ q ∷ []) (sym is) in
-    let sum : added_lines (take (i + 1) patches) ≡ added_lines (take i patches) + feeds p = ap added_lines more
-    ∙ fold_push (λ a q. a + feeds q) 0 (take i patches) p in
-    omega (arith, sum, count_by-le-length (λ b. b == 10) (cow_str_bytes p.replacement))
+added_more patches i p within is = grind (arith, common_steps, take_more, fold_push, count_by-le-length, p.replacement)
 
 -- no first fault, no fault
 pub none_first : (faults : List RenderError) → first_of faults ≡ None → faults ≡ []
@@ -44,10 +39,7 @@ first-there (g ∷ groups) given none = cc
 -- in the short form the first group has a title, where none is missing
 pub title-there : (groups : List Group) (g : Group) → missing_title Short groups ≡ None → slice_get groups 0 ≡ Some g → g.title ≡ None → ⊥
 title-there [] g given first none = cc
-title-there (h ∷ groups) g given first none =
-    let untitled : h.title ≡ None = ap (λ (x : Group). x.title) (some_same first) ∙ none in
-    let missing : Some NoTitle ≡ None = rw untitled at given in
-    cc
+title-there (h ∷ groups) g given first none = grind (arith, some_same, h.title)
 
 -- two lists that join to nothing
 front_none : (front back : List RenderError) → front ++ back ≡ [] → front ≡ []
@@ -110,9 +102,7 @@ spans-faultless span_of group element n source (x ∷ marks) none =
 pub overlap-first : (spans after : List RenderError) (group element : ℕ) (patches : List Patch) (m n : ℕ) → spans ≡ []
     → first_overlap (map edit_of patches) ≡ Some (m, n)
     → Some (PatchesOverlap group element m n) ≡ first_of (spans ++ overlap_faults group element patches ++ after)
-overlap-first spans after group element patches m n none pair =
-    sym (ap (λ faults. first_of (faults ++ overlap_faults group element patches ++ after)) none
-    ∙ ap (λ (p : Option (ℕ × ℕ)). first_of (option_to_list (option_map (λ t. PatchesOverlap group element t.0 t.1) p) ++ after)) pair)
+overlap-first spans after group element patches m n none pair = grind arith
 
 -- a number without a fault fits
 number-faultless : (group element number : ℕ) → number_faults group element number ≡ [] → number < 2 ^ 64

@@ -1,10 +1,10 @@
 -- Cells and rows without line feeds: glyphs, the cells left of the code, and the rows in place of lines that are left out.
-use Rattle.annotate_snippets.proofs.Common.{◌≡◌, ℕ, ◌+◌, ◌==◌, All, not, Bool, true, false, List, [], ◌∷◌, ◌++◌, length, get_or}
-use Rattle.annotate_snippets.proofs.Common.{replicate, refl, sym, ap, subst, ◌∙◌, arith, inl, inr, list_all, list_any, cases_lt, eqb-true, get_or_past}
-use Rattle.annotate_snippets.proofs.Common.{All-append, All-cons, All-contains, All-from_get_or, All-get_or, All-nil, All-replicate, AllPass-from_list_all}
-use Rattle.annotate_snippets.proofs.Common.{Cell, SPACE, text_cells, unlinked_cell, bar_glyphs, closing_of, elision_of, separator_of, DecorStyle, Ascii}
-use Rattle.annotate_snippets.proofs.Common.{Unicode, LineNumber, IsBarCell, IsElisionRow, bare_elision_row, bare_row, Layout, HasNoFeed, each-fails}
-use Rattle.annotate_snippets.proofs.Common.{All-text_cells, ElementStyle}
+use Rattle.std.proofs.lemmas.Grind.{common_steps}
+use Rattle.annotate_snippets.proofs.Common.{◌≡◌, ℕ, ◌+◌, ◌==◌, All, not, Bool, true, false, List, [], ◌∷◌, ◌++◌, get_or, replicate}
+use Rattle.annotate_snippets.proofs.Common.{refl, ap, ◌∙◌, arith, inl, inr, list_all, list_any, cases_lt, eqb-true, get_or_past, All-append, All-cons}
+use Rattle.annotate_snippets.proofs.Common.{All-contains, All-from_get_or, All-nil, All-replicate, AllPass-from_list_all, Cell, SPACE, text_cells}
+use Rattle.annotate_snippets.proofs.Common.{unlinked_cell, bar_glyphs, closing_of, elision_of, separator_of, DecorStyle, Ascii, Unicode, LineNumber, IsBarCell}
+use Rattle.annotate_snippets.proofs.Common.{IsElisionRow, bare_elision_row, bare_row, Layout, HasNoFeed, each-fails, All-text_cells, ElementStyle}
 use Rattle.annotate_snippets.proofs.OneLineTexts.{HoldsNoFeed, IsNoFeed}
 use Rattle.annotate_snippets.proofs.ListLemmas.{from_any}
 
@@ -12,11 +12,7 @@ use Rattle.annotate_snippets.proofs.ListLemmas.{from_any}
 
 -- a cell of a row, or a space after its end
 pub at_any : (row : List Cell) → HasNoFeed row → (c : ℕ) → HoldsNoFeed (get_or row c SPACE)
-at_any row all c =
-    elim (cases_lt c (length row)) [
-      | inl within ↦ All-get_or HoldsNoFeed row c SPACE within all
-      | inr past ↦ subst HoldsNoFeed (sym (get_or_past row c SPACE past)) refl
-    ]
+at_any row all c = grind (arith, cases_lt, get_or_past)
 
 -- one of some characters, none of which is a line feed
 pub among : (gs : List ℕ) (ch : ℕ) → list_all (λ g. not (g == 10)) gs ≡ true → list_any (λ g. ch == g) gs ≡ true → IsNoFeed ch
@@ -63,15 +59,12 @@ bare-plain decor gutter true = after_spaces (gutter + 1) (text_cells LineNumber 
 
 bare_elision : (decor : DecorStyle) (gutter : ℕ) → HasNoFeed (bare_elision_row decor gutter)
 bare_elision Ascii gutter = cells_plain LineNumber (elision_of Ascii) (each-fails (λ c. c == 10) (elision_of Ascii) refl)
-bare_elision Unicode gutter =
-    after_spaces (gutter + 1) (text_cells LineNumber (elision_of Unicode))
-    (cells_plain LineNumber (elision_of Unicode) (each-fails (λ c. c == 10) (elision_of Unicode) refl))
+bare_elision Unicode gutter = grind (arith, after_spaces, cells_plain, each-fails)
 
 -- a row in place of lines that are left out holds none
 pub elided : (layout : Layout) (row : List Cell) → IsElisionRow layout row → HasNoFeed row
 elided layout row shown =
     All-from_get_or HoldsNoFeed row SPACE (λ c within. elim (cases_lt c (layout.gutter + 3)) [
-      | inl left ↦
-          subst HoldsNoFeed (sym (shown.left c left)) (at_any (bare_elision_row layout.decor layout.gutter) (bare_elision layout.decor layout.gutter) c)
+      | inl left ↦ grind (arith, common_steps, at_any, bare_elision, shown.left, layout.decor, layout.gutter)
       | inr after ↦ bar_cell layout.decor (get_or row c SPACE) (shown.bar_cells c (omega (arith, after)) (omega (arith, within, shown.ends)))
     ])

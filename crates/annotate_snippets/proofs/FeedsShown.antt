@@ -1,20 +1,20 @@
 -- A report whose texts are as they are set: what it has in common with the one in whose place it is shown, and that where line feeds are
 -- shown no text of it that may be on one line only holds one.
+use Rattle.std.proofs.lemmas.Grind.{common_steps}
+use Rattle.std.proofs.Common.{arith, append-nil}
 use Rattle.annotate_snippets.proofs.Common.{◌≡◌, ◌∙◌, ℕ, ◌+◌, ◌==◌, Bool, true, false, List, [], ◌∷◌, ◌++◌, Option, None, Some}
-use Rattle.annotate_snippets.proofs.Common.{All, IfSome, codes, if◌then◌else◌, not, count_by, map, refl, sym, ap, ap₂, subst, eqb-true, All-cons}
-use Rattle.annotate_snippets.proofs.Common.{All-nil, sum_by-cons, cow_str_bytes, AllZip, flat_map, option_map, option_to_list, Global, CowStr, shown_name}
-use Rattle.annotate_snippets.proofs.Common.{SameOption, SamePatch, SameText, standard_name_of, trusted_of_element, trusted_of_title, LevelName, Standard, Own}
-use Rattle.annotate_snippets.proofs.Common.{Annotation, Element, Message, Cause, Suggestion, Origin, Padding, Group, Id, Patch, Snippet, Title}
-use Rattle.annotate_snippets.proofs.Common.{IsAnnotationAsSet, IsElementAsSet, IsGroupAsSet, IsIdAsSet, IsNameAsSet, IsSnippetAsSet, IsTitleAsSet}
-use Rattle.annotate_snippets.proofs.Common.{IsOptionAsSet, IsTextAsSet, picture_of, with_line_feeds_shown, Edit, edit_of, first_overlap, LevelInner, Error}
-use Rattle.annotate_snippets.proofs.Common.{Warning, Info, Note, Help, norm, shown, each-fails, id_chars, id_links, text_links, is_drawn, added_lines}
-use Rattle.annotate_snippets.proofs.Common.{element_faults, number_after_lines, number_faults, overlap_faults, span_faults, HasOneLineTexts, RenderError}
-use Rattle.annotate_snippets.proofs.Common.{PatchesOverlap}
-use Rattle.std.proofs.Common.{append-nil}
+use Rattle.annotate_snippets.proofs.Common.{All, IfSome, codes, if◌then◌else◌, not, map, refl, sym, ap, ap₂, subst, eqb-true, All-cons, All-nil}
+use Rattle.annotate_snippets.proofs.Common.{sum_by-cons, cow_str_bytes, AllZip, flat_map, option_map, option_to_list, Global, CowStr, shown_name, SameOption}
+use Rattle.annotate_snippets.proofs.Common.{SamePatch, SameText, standard_name_of, trusted_of_element, trusted_of_title, LevelName, Standard, Own, Annotation}
+use Rattle.annotate_snippets.proofs.Common.{Element, Message, Cause, Suggestion, Origin, Padding, Group, Id, Patch, Snippet, Title, IsAnnotationAsSet}
+use Rattle.annotate_snippets.proofs.Common.{IsElementAsSet, IsGroupAsSet, IsIdAsSet, IsNameAsSet, IsSnippetAsSet, IsTitleAsSet, IsOptionAsSet, IsTextAsSet}
+use Rattle.annotate_snippets.proofs.Common.{picture_of, with_line_feeds_shown, Edit, edit_of, first_overlap, LevelInner, Error, Warning, Info, Note, Help, norm}
+use Rattle.annotate_snippets.proofs.Common.{shown, each-fails, id_chars, id_links, text_links, is_drawn, added_lines, element_faults, number_after_lines}
+use Rattle.annotate_snippets.proofs.Common.{number_faults, overlap_faults, span_faults, HasOneLineTexts, RenderError, PatchesOverlap}
 use Rattle.std.specs.Str.{chars}
 use Rattle.snippet_model.specs.declared.level.LevelName.TheVariants.{Hidden}
-use Rattle.annotate_snippets.proofs.OneLineTexts.{IsNoFeed, IsOneLineElement, IsOneLineGroup, IsOneLineId, IsOneLineLabel, IsOneLineText}
-use Rattle.annotate_snippets.proofs.OneLineTexts.{IsOneLineTitle, one_line_texts}
+use Rattle.annotate_snippets.proofs.OneLineTexts.{IsNoFeed, IsOneLineElement, IsOneLineGroup, IsOneLineId, IsOneLineLabel, IsOneLineText, IsOneLineTitle}
+use Rattle.annotate_snippets.proofs.OneLineTexts.{one_line_texts}
 use Rattle.annotate_snippets.proofs.PairedLemmas.{all-second, faults-same, zip-length}
 use Rattle.annotate_snippets.proofs.RemadeLemmas.{IsFaithful, IsTextOf, own-texts, same-text}
 
@@ -35,21 +35,13 @@ added-same : (ps qs : List Patch) → AllZip SamePatch ps qs → added_lines qs 
 added-same [] [] pairs = refl
 added-same [] (q ∷ qs) pairs = absurd pairs
 added-same (p ∷ ps) [] pairs = absurd pairs
-added-same (p ∷ ps) (q ∷ qs) pairs =
-    let feeds : Patch → ℕ = λ x. count_by (λ b. b == 10) (cow_str_bytes x.replacement) in
-    sum_by-cons feeds q qs ∙ ap₂ (λ (m n : ℕ). m + n) (ap (count_by (λ b. b == 10)) pairs.0.1) (added-same ps qs pairs.1)
-    ∙ sym (sum_by-cons feeds p ps)
+added-same (p ∷ ps) (q ∷ qs) pairs = grind (arith, common_steps, added-same ps qs pairs.1, sum_by-cons, ap₂, pairs.0.1, pairs.1)
 
 module _ (feeds : Bool) (group element : ℕ) where
   -- an annotated snippet has the faults of the one in whose place it is shown
   cause-same : (a b : Snippet Annotation) → IsSnippetAsSet feeds (IsAnnotationAsSet feeds) a b
       → element_faults group element (Cause b) ≡ element_faults group element (Cause a)
-  cause-same a b is =
-      ap₂ (λ (x y : List RenderError). x ++ y)
-      (faults-same (IsAnnotationAsSet feeds) (λ n m. span_faults group element (cow_str_bytes a.source.text) n m.span)
-      (λ n m. span_faults group element (cow_str_bytes b.source.text) n m.span)
-      (λ n x y pair. ap₂ (λ text span. span_faults group element text n span) is.2.text pair.0) 0 a.markers.items b.markers.items is.3)
-      (ap₂ (λ start text. number_faults group element (number_after_lines start text)) is.1 is.2.text)
+  cause-same a b is = grind (arith, ap₂, faults-same, a.source.text, b.source.text, is.2.text, a.markers.items, b.markers.items, is.3, is.1)
 
   -- and so has a suggestion
   suggestion-same : (a b : Snippet Patch) → IsSnippetAsSet feeds SamePatch a b
@@ -86,9 +78,7 @@ text_links-after address (c ∷ front) xs ys same = refl
 
 links-picture : (address : Option (List ℕ)) (c : ℕ) (feed : Bool) (xs ys : List ℕ) → (c == 10) ≡ feed → text_links address ys ≡ text_links address xs
     → text_links address (shown (picture_of c) ++ ys) ≡ text_links address (shown c ++ xs)
-links-picture address c true xs ys is same =
-    let feed : c ≡ 10 = eqb-true c 10 is in
-    ap (λ (d : ℕ). text_links address (shown (picture_of d) ++ ys)) feed ∙ sym (ap (λ (d : ℕ). text_links address (shown d ++ xs)) feed)
+links-picture address c true xs ys is same = grind (arith, eqb-true)
 links-picture address c false xs ys is same =
     ap (λ (t : Bool). text_links address (shown (if t then 0x240A else c) ++ ys)) is ∙ text_links-after address (shown c) xs ys same
 
@@ -139,9 +129,7 @@ trusted-fed feeds (Padding a) (Padding b) is = tt
 trusted-fed feeds a b is = absurd is
 
 trusted-title : (feeds : Bool) (a b : Title) → IsTitleAsSet feeds a b → AllZip IsTextOf (trusted_of_title a) (trusted_of_title b)
-trusted-title feeds a b is =
-    let trusted : trusted_of_title b ≡ trusted_of_title a = ap₂ (λ (trusted : Bool) (t : List ℕ). if trusted then t ∷ [] else []) is.3 is.2 in
-    subst (AllZip IsTextOf (trusted_of_title a)) (sym trusted) (own-texts (trusted_of_title a))
+trusted-title feeds a b is = grind (arith, ap₂, own-texts, is.3, is.2)
 
 drawn-fed : (feeds : Bool) (a b : Element) → IsElementAsSet feeds a b → is_drawn b ≡ is_drawn a
 drawn-fed feeds (Message a) (Message b) is = refl

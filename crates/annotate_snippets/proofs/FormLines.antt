@@ -85,9 +85,7 @@ module _ (r : Renderer) (layout : Layout) (s : Snippet Annotation) where
       → IsLineOf row.name row.cells below
   one_of [] are [] row below is = cc
   one_of [] are (y ∷ above) row below is = cc
-  one_of (x ∷ rows) are [] row below is =
-      subst (λ more. IsLineOf row.name row.cells more) (tail_same x row rows below is)
-      (subst (λ (y : NamedRow). IsLineOf y.name y.cells rows) (head_same x row rows below is) are.0)
+  one_of (x ∷ rows) are [] row below is = grind (arith, tail_same, head_same, row.name, row.cells, are.0)
   one_of (x ∷ rows) are (y ∷ above) row below is = one_of rows are.1 above row below (tail_same x y rows (above ++ row ∷ below) is)
 
   -- so it is known of each row of a snippet's lines

@@ -1,10 +1,11 @@
 -- The text form of a group's elements, and that of a report's groups, are made one by one.
-use Rattle.annotate_snippets.proofs.Common.{◌≡◌, ◌≢◌, ◌∙◌, ℕ, ◌+◌, ◌^◌, ◌<◌, ◌≤◌, ◌==◌, cond, not, suc, Bool, true}
-use Rattle.annotate_snippets.proofs.Common.{false, List, [], ◌∷◌, ◌++◌, Option, None, Some, IfSome, if◌then◌else◌, length, drop, get_or, refl}
-use Rattle.annotate_snippets.proofs.Common.{sym, ap, subst, arith, filter, flat_map, option_to_list, drop-cons, both_ways, append-nil, append_assoc, drop_all}
-use Rattle.annotate_snippets.proofs.Common.{Element, Message, Cause, Suggestion, Origin, Padding, heading_of_title, Patch, Group, Title, FormPiece}
-use Rattle.annotate_snippets.proofs.Common.{heading_form, drawn_elements, file_of_group, first_two_share, is_same_file, path_bytes, PreviousSuggestion}
-use Rattle.annotate_snippets.proofs.Common.{before_next, element_form, elements_form, group_form, option_number, is_drawn, before_seen, Renderer}
+use Rattle.std.proofs.lemmas.Grind.{common_steps}
+use Rattle.annotate_snippets.proofs.Common.{◌≡◌, ◌≢◌, ◌∙◌, ℕ, ◌+◌, ◌^◌, ◌<◌, ◌≤◌, ◌==◌, cond, not, Bool, true, false}
+use Rattle.annotate_snippets.proofs.Common.{List, [], ◌∷◌, ◌++◌, Option, None, Some, IfSome, if◌then◌else◌, length, drop, get_or, refl, sym, ap}
+use Rattle.annotate_snippets.proofs.Common.{arith, filter, flat_map, option_to_list, drop-cons, both_ways, append-nil, append_assoc, drop_all, Element, Message}
+use Rattle.annotate_snippets.proofs.Common.{Cause, Suggestion, Origin, Padding, heading_of_title, Patch, Group, Title, FormPiece, heading_form, drawn_elements}
+use Rattle.annotate_snippets.proofs.Common.{file_of_group, first_two_share, is_same_file, path_bytes, PreviousSuggestion, before_next, element_form}
+use Rattle.annotate_snippets.proofs.Common.{elements_form, group_form, option_number, is_drawn, before_seen, Renderer}
 use Rattle.snippet_text_form.specs.declared.heading.HeadingKind.TheVariants as kind
 use Rattle.annotate_snippets.specs.declared.renderer.text_form.PreviousSuggestion as code
 
@@ -40,12 +41,7 @@ next_within before (Padding p) i small = tt
 -- what is left from an element on: that element, where it is drawn
 drawn_left : (es : List Element) (i : ℕ) (e : Element) (drawn : Bool) → i < length es → e ≡ get_or es i e → is_drawn e ≡ drawn
     → filter is_drawn (drop i es) ≡ cond drawn (e ∷ filter is_drawn (drop (i + 1) es)) (filter is_drawn (drop (i + 1) es))
-drawn_left es i e drawn within is tests =
-    let next : suc i ≡ i + 1 = omega arith in
-    let rest : drop i es ≡ e ∷ drop (i + 1) es = drop-cons es i e within ∙ ap (λ (x : Element). x ∷ drop (suc i) es) (sym is)
-    ∙ ap (λ n. e ∷ drop n es) next in
-    let later : List Element = filter is_drawn (drop (i + 1) es) in
-    ap (filter is_drawn) rest ∙ ap (λ (b : Bool). cond b (e ∷ later) later) tests
+drawn_left es i e drawn within is tests = grind (arith, drop-cons)
 
 -- one more of them
 pub element_added : (r : Renderer) (file : Option (List ℕ)) (es : List Element) (i : ℕ) (e : Element) (old form new : List FormPiece)
@@ -57,15 +53,10 @@ element_added r file es i e old form new before after followed within is drawn s
     let others : List Element = filter is_drawn (drop (i + 1) es) in
     let rest : filter is_drawn (drop i es) ≡ e ∷ others = drawn_left es i e true within is drawn in
     let later : List FormPiece = elements_form r file (before_next before e) others in
-    let own : element_form r file before followed e ≡ element_form r file before (first_two_share (e ∷ others)) e = ap (λ b.
-    element_form r file before b e) shares in
+    let own : element_form r file before followed e ≡ element_form r file before (first_two_share (e ∷ others)) e = grind (arith, common_steps) in
     record {
-      left = ap (λ (b : Option PreviousSuggestion). new ++ elements_form r file b others) follows
-          ∙ ap (λ (x : List FormPiece). x ++ later) (added ∙ ap (λ (x : List FormPiece). form ++ x) own)
-          ∙ append_assoc form (element_form r file before (first_two_share (e ∷ others)) e) later
-          ∙ ap (λ (xs : List Element). form ++ elements_form r file before xs) (sym rest) ∙ so_far.left;
-      numbered = subst (λ (b : Option PreviousSuggestion). IfSome b (λ (x : PreviousSuggestion). x.number ≤ i + 1)) (sym follows)
-          (next_within before e i so_far.numbered);
+      left = grind (arith, common_steps, others, later, own, append_assoc, rest, so_far.left);
+      numbered = grind (arith, common_steps, next_within, so_far.numbered);
     }
 
 -- one that isn't drawn
@@ -86,9 +77,7 @@ element_passed r file es i e old form before within is passed so_far =
 -- all of them
 pub all_added : (r : Renderer) (file : Option (List ℕ)) (es : List Element) (i : ℕ) (old form : List FormPiece) (before : Option PreviousSuggestion)
     → length es ≤ i → ElementsSoFar r file es i old form before → form ≡ old ++ elements_form r file None (filter is_drawn es)
-all_added r file es i old form before past so_far =
-    sym (append-nil form) ∙ ap (λ (xs : List Element). form ++ elements_form r file before (filter is_drawn xs)) (sym (drop_all i es past))
-    ∙ so_far.left
+all_added r file es i old form before past so_far = grind (arith, append-nil, drop_all, so_far.left)
 
 -- a suggestion that is drawn has patches
 pub has_patches : (patches : List Patch) → not (length patches == 0) ≡ true → patches ≢ []
@@ -109,9 +98,7 @@ title_form r title =
 -- it is added, where there is one
 pub title_added : (r : Renderer) (title : Option Title) (t : Title) (old new : List FormPiece) → title ≡ Some t
     → new ≡ old ++ heading_form r.hyperlink kind.Title (heading_of_title t) → new ≡ old ++ title_form r title
-title_added r title t old new is added =
-    added ∙ ap (λ (x : List FormPiece). old ++ x) (sym (append-nil (heading_form r.hyperlink kind.Title (heading_of_title t))))
-    ∙ ap (λ (x : Option Title). old ++ title_form r x) (sym is)
+title_added r title t old new is added = grind (arith, append-nil, r.hyperlink)
 
 -- a group without a title adds nothing for it
 pub no_title_added : (r : Renderer) (title : Option Title) (old new : List FormPiece) → title ≡ None → new ≡ old → new ≡ old ++ title_form r title
@@ -122,11 +109,7 @@ no_title_added r title old new is same =
 pub group_added : (r : Renderer) (groups : List Group) (g : Group) (file : Option (List ℕ)) (es : List Element) (old titled new : List FormPiece)
     → file ≡ file_of_group groups g → es ≡ drawn_elements g → titled ≡ old ++ title_form r g.title → new ≡ titled ++ elements_form r file None es
     → new ≡ old ++ group_form r groups g
-group_added r groups g file es old titled new of drawn title added =
-    added ∙ ap (λ (x : List FormPiece). x ++ elements_form r file None es) title
-    ∙ append_assoc old (title_form r g.title) (elements_form r file None es)
-    ∙ ap (λ (f : Option (List ℕ)). old ++ (title_form r g.title ++ elements_form r f None es)) of
-    ∙ ap (λ (xs : List Element). old ++ (title_form r g.title ++ elements_form r (file_of_group groups g) None xs)) drawn
+group_added r groups g file es old titled new of drawn title added = grind (arith, append_assoc, g.title)
 
 -- the groups so far are added, and one more
 abbrev pub groups_form : Renderer → List Group → List Group → List FormPiece

@@ -1,10 +1,8 @@
 -- The texts of a report show it in its form, and have the laws of that.
-use Rattle.annotate_snippets.proofs.Common.{◌≡◌, ◌<◌, ◌≤◌, ℕ, arith, get_or, true, Option, None, Some, refl, sym, List, [], ◌∷◌, subst}
-use Rattle.annotate_snippets.proofs.Common.{length, nil_from_length, All-nil, AllZip, Contains, flat_map, trusted_texts, Group, Title, plain_text, IsWoven}
-use Rattle.annotate_snippets.proofs.Common.{plain_woven, Stylesheet, is_listed, Renderer, Form, Graphic, Short, Text, missing_title, FormLaws, LawsIn}
-use Rattle.annotate_snippets.proofs.Common.{IsTextUnder, AreFree, ShortShown, ShowsForm, links_in, plain_in, graphic_form, PrintsPage, page_text, PageLaws}
-use Rattle.annotate_snippets.proofs.Common.{IsFreeBut, report_links, AllZip-weaker}
-use Rattle.std.specs.Str.{chars}
+use Rattle.annotate_snippets.proofs.Common.{◌≡◌, ◌<◌, ◌≤◌, ℕ, arith, get_or, Option, None, Some, refl, sym, List, [], ◌∷◌, subst}
+use Rattle.annotate_snippets.proofs.Common.{length, nil_from_length, All-nil, AllZip, trusted_texts, Group, Title, IsWoven, plain_woven, Stylesheet, Renderer}
+use Rattle.annotate_snippets.proofs.Common.{Form, Graphic, Short, Text, missing_title, FormLaws, LawsIn, IsTextUnder, AreFree, ShortShown, ShowsForm, links_in}
+use Rattle.annotate_snippets.proofs.Common.{plain_in, graphic_form, PrintsPage, page_text, PageLaws, IsFreeBut, report_links, AllZip-weaker}
 use Rattle.annotate_snippets.proofs.PageWords.{Page}
 use Rattle.annotate_snippets.proofs.FaultLemmas.{first-there, title-there}
 use Rattle.annotate_snippets.proofs.ReportLemmas.{page_woven}
@@ -54,20 +52,14 @@ page-shown r groups sheets texts are =
 -- each form's laws say that its plain text is free
 pub free-in : (r : Renderer) (groups : List Group) (form : Form) → FormLaws form r groups → IsFreeBut (trusted_texts groups) (plain_in form r groups)
 free-in r groups Graphic laws = laws.free
-free-in r groups Short laws =
-    subst (λ rows. IsFreeBut (trusted_texts groups) (plain_text rows)) (sym (page_is r groups laws.group laws.title laws.first laws.titled))
-    laws.free
+free-in r groups Short laws = grind (arith, page_is, laws.group, laws.title, laws.first, laws.titled, laws.free)
 free-in r groups Text laws = laws.free
 
 -- texts that have the laws of a form differ in their codes alone, and each listed character is one of a trusted text
 pub are-free : (r : Renderer) (groups : List Group) (form : Form) (sheets : List Stylesheet) (texts : List (List ℕ))
     → AllZip (LawsIn form r groups) sheets texts
     → AreFree (trusted_texts groups) (links_in form r groups) sheets texts
-are-free r groups form [] [] laws = record {
-  plain = [];
-  woven = tt;
-  free = All-nil (λ c. is_listed c ≡ true → Contains (flat_map chars (trusted_texts groups)) c);
-}
+are-free r groups form [] [] laws = grind (arith, All-nil)
 are-free r groups form [] (text ∷ texts) laws = absurd laws
 are-free r groups form (sheet ∷ sheets) [] laws = absurd laws
 are-free r groups form (sheet ∷ sheets) (text ∷ texts) laws = record {

@@ -1,4 +1,5 @@
 -- The groups of a report, in order, as they are drawn.
+use Rattle.std.proofs.lemmas.Grind.{common_steps}
 use Rattle.annotate_snippets.proofs.Common.{◌≡◌, ℕ, ◌+◌, ◌<◌, ◌==◌, All, Bool, true, false, Option, None, Some, List, [], ◌∷◌}
 use Rattle.annotate_snippets.proofs.Common.{◌++◌, length, get_or, map, take, drop, Bor, refl, sym, ap, ◌∙◌, arith, subst, if◌then◌else◌}
 use Rattle.annotate_snippets.proofs.Common.{enumerate_from, slice_get, option_copied, option_or, zero-add, nat_tests, append_assoc, get_or-map, length-map}
@@ -42,13 +43,7 @@ laid_out gutter code decor = record { gutter = gutter; code = code; decor = deco
 pub layout_is : (r : Renderer) (groups : List Group) (g : Group) (layout : Layout) (gutter depth : ℕ) → gutter ≡ gutter_of_report r groups
     → depth ≡ depth_of_group g → layout.gutter ≡ gutter → layout.code ≡ code_after gutter depth → layout.decor ≡ r.decor_style
     → layout ≡ layout_of_group r groups g
-layout_is r groups g layout gutter depth wide deep left code decor =
-    let after : layout.code ≡ code_after (gutter_of_report r groups) (depth_of_group g) = code ∙ ap (λ w. code_after w depth) wide
-    ∙ ap (code_after (gutter_of_report r groups)) deep in
-    let first : ◌≡◌ {A = Layout} layout (record { gutter = gutter_of_report r groups; code = layout.code; decor = layout.decor }) = ap (λ w.
-    laid_out w layout.code layout.decor) (left ∙ wide) in
-    first ∙ ap (λ c. laid_out (gutter_of_report r groups) c layout.decor) after
-    ∙ ap (laid_out (gutter_of_report r groups) (code_after (gutter_of_report r groups) (depth_of_group g))) decor
+layout_is r groups g layout gutter depth wide deep left code decor = grind (arith, layout.code, layout.decor)
 
 -- it has room for the group's elements
 pub room_at : (r : Renderer) (groups : List Group) (n : ℕ) (p : PreparedGroup) (layout : Layout) → All IsGroupDrawable groups → IsGroupPrepared p
@@ -63,24 +58,17 @@ room_at r groups n p layout drawable prepared here is =
 page_here : (r : Renderer) (groups : List Group) (n : ℕ) (g : Group) (layout : Layout) (place : GroupPosition) (file : Option (List ℕ))
     → layout ≡ layout_of_group r groups g → place ≡ position_of_group (length groups) n → file ≡ file_of_group groups g
     → group_page r layout place file g ≡ page_at r groups n g
-page_here r groups n g layout place file layout_here place_here file_here =
-    ap (λ f. group_page r f place file g) layout_here ∙ ap (λ at_place. group_page r (layout_of_group r groups g) at_place file g) place_here
-    ∙ ap (λ path. group_page r (layout_of_group r groups g) (position_of_group (length groups) n) path g) file_here
+page_here r groups n g layout place file layout_here place_here file_here = grind arith
 
 -- an iteration's group is the next of the report
 pub turn_group : (groups : List Group) (ps : List PreparedGroup) (n i : ℕ) (p : PreparedGroup) → map group_of ps ≡ groups
     → (n < length (enumerate_from 0 ps)) × ((i, p) ≡ get_or (enumerate_from 0 ps) n (i, p)) → slice_get groups i ≡ Some p.group.now
-turn_group groups ps n i p same turn =
-    let item = turn_item ps n i p turn in
-    subst (λ k. slice_get groups k ≡ Some p.group.now) (sym item.0)
-    (ap (λ (gs : List Group). slice_get gs n) (sym same) ∙ get-mapped group_of ps n p item.1)
+turn_group groups ps n i p same turn = grind (arith, turn_item, get-mapped, p.group.now)
 
 -- so no more groups were drawn yet than the report has
 pub turn_within : (groups : List Group) (ps : List PreparedGroup) (n i : ℕ) (p : PreparedGroup) → map group_of ps ≡ groups
     → (n < length (enumerate_from 0 ps)) × ((i, p) ≡ get_or (enumerate_from 0 ps) n (i, p)) → n < length groups
-turn_within groups ps n i p same turn =
-    slice_get_within groups n p.group.now
-    (subst (λ k. slice_get groups k ≡ Some p.group.now) (turn_item ps n i p turn).0 (turn_group groups ps n i p same turn))
+turn_within groups ps n i p same turn = grind (arith, common_steps, slice_get_within, turn_item, turn_group, p.group.now)
 
 -- it is prepared
 pub turn_prepared : (ps : List PreparedGroup) (n i : ℕ) (p : PreparedGroup) → All IsGroupPrepared ps

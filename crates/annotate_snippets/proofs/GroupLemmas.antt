@@ -3,12 +3,11 @@ use Rattle.annotate_snippets.proofs.Common.{◌≡◌, ◌≢◌, ◌∙◌, ℕ
 use Rattle.annotate_snippets.proofs.Common.{◌++◌, length, get_or, refl, sym, ap, subst, arith, inl, inr, flat_map, slice_get, option_to_list, cases_lt}
 use Rattle.annotate_snippets.proofs.Common.{flat_map-append, append-nil, get_or_past, All-nil, All-append, All-filter, All-get_or, All-map, All-weaker}
 use Rattle.annotate_snippets.proofs.Common.{filter_passes, get_or_from_slice_get, slice_get_cases, slice_get_within, Cell, SPACE, plain_text, links_after}
-use Rattle.annotate_snippets.proofs.Common.{links_of, links_of-unlinked, heading_of_message, trusted_of_element, trusted_of_title, Element, Message, Cause}
-use Rattle.annotate_snippets.proofs.Common.{Suggestion, Origin, Padding, Group, Patch, Title, IsFree, IsFreeCell, id_links, title_rows, message_rows-unlinked}
-use Rattle.annotate_snippets.proofs.Common.{title_rows-links, drawn_elements, is_end, next_of, context_at, is_drawn, begins_in_row_above, HasRoomFor}
-use Rattle.annotate_snippets.proofs.Common.{element_rows, rows_of_elements, NamedRow, cells_of, IsElementDrawable, IsGroupDrawable, rows_after_title}
-use Rattle.annotate_snippets.proofs.Common.{title_part, IsFreeBut, IsFreeElement, AreElementsShown, ShowsElement, Renderer, Layout, GroupPosition, Next}
-use Rattle.annotate_snippets.proofs.Common.{ElementContext, HasNoFeed}
+use Rattle.annotate_snippets.proofs.Common.{links_of, links_of-unlinked, trusted_of_element, trusted_of_title, Element, Message, Cause, Suggestion, Origin}
+use Rattle.annotate_snippets.proofs.Common.{Padding, Group, Patch, Title, IsFree, IsFreeCell, id_links, title_rows, message_rows-unlinked, title_rows-links}
+use Rattle.annotate_snippets.proofs.Common.{drawn_elements, next_of, context_at, is_drawn, begins_in_row_above, HasRoomFor, element_rows, rows_of_elements}
+use Rattle.annotate_snippets.proofs.Common.{NamedRow, cells_of, IsElementDrawable, IsGroupDrawable, rows_after_title, title_part, IsFreeBut, IsFreeElement}
+use Rattle.annotate_snippets.proofs.Common.{AreElementsShown, ShowsElement, Renderer, Layout, GroupPosition, Next, ElementContext, HasNoFeed}
 use Rattle.std.specs.List.{All}
 use Rattle.annotate_snippets.proofs.PageWords.{found_at}
 use Rattle.annotate_snippets.proofs.OneLineTexts.{IsOneLineElement}
@@ -72,8 +71,7 @@ no_links rows none =
 element-unlinked : (r : Renderer) (layout : Layout) (around : ElementContext) (found : List Cell) (e : Element) (part : List NamedRow)
     → ShowsElement r layout around found e part → IsFreeElement e part → All IsUnlinked (cells_of part)
 element-unlinked r layout around found (Message message) part shows free =
-    subst (All IsUnlinked) (sym shows.shows.rows_are) (message_rows-unlinked r.hyperlink (record { layout = layout; followed = not (is_end around.next) })
-    (heading_of_message message) refl)
+    grind (arith, message_rows-unlinked, shows.shows.rows_are, r.hyperlink, around.next)
 element-unlinked r layout around found (Cause snippet) part shows free =
     free_unlinked (cells_of part) (All-map IsFree (λ (row : NamedRow). row.cells) part free)
 element-unlinked r layout around found (Suggestion snippet) part shows free =

@@ -1,16 +1,17 @@
 -- Why a line's number takes at most one cell more than the gutter has.
-use Rattle.annotate_snippets.proofs.Common.{◌≡◌, ◌≢◌, ℕ, zero, suc, ◌+◌, ◌-◌, ◌/◌, ◌<◌, ◌≤◌, ◌^◌, max, ◌==◌}
-use Rattle.annotate_snippets.proofs.Common.{◌&&◌, not, nat_le, nat_lt, Bool, true, false, cond, List, [], ◌∷◌, All, length, take, map, fold, count_by}
-use Rattle.annotate_snippets.proofs.Common.{get_or, replicate, refl, sym, ap, subst, ◌∙◌, arith, inl, inr, cow_str_bytes, decimal, take-take}
-use Rattle.annotate_snippets.proofs.Common.{length-append, length-replicate, take-append_seam, sum_by-take-le, filter, list_any, range_with_len, and_parts}
-use Rattle.annotate_snippets.proofs.Common.{cases_Bool, cond-true, cond-false, eqb-true, get_or-range_with_len, length-range_with_len, All-nil, All-cons}
-use Rattle.annotate_snippets.proofs.Common.{All-contains, All-filter, All-head, All-same, All-tail, All-weaker, filter_passes, nat_tests, Snippet, Annotation}
-use Rattle.annotate_snippets.proofs.Common.{EndLine, Eof, Lf, Crlf, AnnotatedLineInfo, Line, joined, line_bytes, is_lf, last_byte, newline_count, source_lines}
-use Rattle.annotate_snippets.proofs.Common.{start_of, AreLines, line_of, counted_number, greatest_end, reached_source, KeptLine, kept_line, seen_kept, keeps}
-use Rattle.annotate_snippets.proofs.Common.{kept_lines, shown_lines, with_between, touches, first_line, last_line, joined-source_lines, AreLines-lines_of}
-use Rattle.annotate_snippets.proofs.Common.{split_at_line, length-source_lines, newline_count-take, HoldsByte-source, line_of-within, number_width}
-use Rattle.annotate_snippets.proofs.Common.{shown_number, LineNumbers, Shown, Anonymized, Hidden, length-decimal_monotone, length-decimal_more}
-use Rattle.annotate_snippets.proofs.Common.{length-decimal_last, HasRoomFor, IsDrawable, line_numbers, numbered_source, Renderer, Layout, Cause, feeds-append}
+use Rattle.std.proofs.lemmas.Grind.{common_steps}
+use Rattle.annotate_snippets.proofs.Common.{◌≡◌, ◌≢◌, ℕ, zero, suc, ◌+◌, ◌/◌, ◌<◌, ◌≤◌, ◌^◌, max, ◌==◌, nat_le, nat_lt}
+use Rattle.annotate_snippets.proofs.Common.{Bool, true, false, cond, List, [], ◌∷◌, All, length, take, map, fold, count_by, get_or, refl, sym, ap, subst}
+use Rattle.annotate_snippets.proofs.Common.{◌∙◌, arith, inl, inr, cow_str_bytes, decimal, take-take, length-append, length-replicate, take-append_seam}
+use Rattle.annotate_snippets.proofs.Common.{sum_by-take-le, filter, list_any, range_with_len, and_parts, cases_Bool, cond-true, cond-false, eqb-true}
+use Rattle.annotate_snippets.proofs.Common.{get_or-range_with_len, length-range_with_len, All-nil, All-cons, All-contains, All-filter, All-head, All-same}
+use Rattle.annotate_snippets.proofs.Common.{All-tail, All-weaker, filter_passes, nat_tests, Snippet, Annotation, EndLine, Eof, Lf, Crlf, AnnotatedLineInfo}
+use Rattle.annotate_snippets.proofs.Common.{Line, joined, line_bytes, is_lf, newline_count, source_lines, start_of, AreLines, line_of, counted_number}
+use Rattle.annotate_snippets.proofs.Common.{reached_source, KeptLine, kept_line, seen_kept, keeps, kept_lines, shown_lines, with_between, last_line}
+use Rattle.annotate_snippets.proofs.Common.{joined-source_lines, AreLines-lines_of, split_at_line, length-source_lines, newline_count-take, HoldsByte-source}
+use Rattle.annotate_snippets.proofs.Common.{line_of-within, number_width, shown_number, LineNumbers, Shown, Anonymized, Hidden, length-decimal_monotone}
+use Rattle.annotate_snippets.proofs.Common.{length-decimal_more, length-decimal_last, HasRoomFor, IsDrawable, line_numbers, numbered_source, Renderer, Layout}
+use Rattle.annotate_snippets.proofs.Common.{Cause, feeds-append}
 use Rattle.annotate_snippets.proofs.PageWords.{gutter_of}
 use Rattle.annotate_snippets.proofs.ListLemmas.{from_any}
 use Rattle.annotate_snippets.proofs.PartsFacts.{snippet_shown-within}
@@ -57,9 +58,7 @@ feeds-before (x ∷ xs) b e within =
 -- so its line's number from 0 is at most one more than the newlines counted up to there
 pub first_line-counted : (source : List ℕ) (b e : ℕ) → b ≤ e → line_of (source_lines source) b ≤ newline_count (take e source) + 1
 unfolding newline_count
-first_line-counted source b e within =
-    let one : (t : Bool) → cond t 1 0 ≤ 1 = λ t. elim t as (λ v. cond v 1 0 ≤ 1) [ true ↦ omega arith | false ↦ omega arith ] in
-    omega (arith, one (last_byte (take e source) == 10), feeds-before source b e within)
+first_line-counted source b e within = grind (arith, feeds-before)
 
 -- the greatest end is that of no annotation less
 fold-end-ge : (marks : List Annotation) (m : ℕ) → m ≤ fold (λ n k. max n k) m (map (λ (a : Annotation). a.span.end) marks)
@@ -69,32 +68,15 @@ fold-end-ge (a ∷ marks) m = omega (arith, fold-end-ge marks (max m a.span.end)
 fold-ends : (marks : List Annotation) (m : ℕ)
     → All (λ (a : Annotation). a.span.end ≤ fold (λ n k. max n k) m (map (λ (b : Annotation). b.span.end) marks)) marks
 fold-ends [] m = All-nil (λ (a : Annotation). a.span.end ≤ m)
-fold-ends (a ∷ marks) m =
-    All-cons (λ (b : Annotation). b.span.end ≤ fold (λ n k. max n k) (max m a.span.end) (map (λ (c : Annotation). c.span.end) marks)) a marks
-    (omega (arith, fold-end-ge marks (max m a.span.end))) (fold-ends marks (max m a.span.end))
+fold-ends (a ∷ marks) m = grind (arith, fold-ends marks (max m a.span.end), All-cons, fold-end-ge, a.span.end)
 
 -- each line that a span ends on has a number at most one more than the number counted for the gutter
 lines_counted : (s : Snippet Annotation) → All (λ a. last_line (cow_str_bytes s.source.text) a ≤ newline_count (reached_source s) + 1) s.markers.items
-lines_counted s = λ k d within.
-    let source : List ℕ = cow_str_bytes s.source.text in
-    let marks : List Annotation = s.markers.items in
-    let ends : (get_or marks k d).span.end ≤ greatest_end marks = fold-ends marks 0 k d within in
-    let folded : last_line source (get_or marks k d) ≤ newline_count (take (greatest_end marks) source) + 1 = first_line-counted source
-    (get_or marks k d).span.end (greatest_end marks) ends in
-    let unfolded : last_line source (get_or marks k d) ≤ newline_count source + 1 = omega
-    (arith, line_of-within source (get_or marks k d).span.end, length-source_lines source) in
-    elim (s.fold && not (length marks == 0)) as (λ b. last_line source (get_or marks k d) ≤ newline_count
-    (cond b (take (greatest_end marks) source) source) + 1) [
-      | true ↦ folded
-      | false ↦ unfolded
-    ]
+lines_counted s = grind (arith, fold-ends, first_line-counted, line_of-within, length-source_lines, s.source.text, s.markers.items, s.fold)
 
 -- a line that a span keeps is touched by it
 kept_before : (source : List ℕ) (a : Annotation) (k : ℕ) → keeps source k a ≡ true → k ≤ last_line source a
-kept_before source a k kept =
-    let touched = and_parts (touches source a k) _ kept in
-    let last = (and_parts (nat_le (first_line source a) k) (nat_le k (last_line source a)) touched.0).1 in
-    grind (arith, nat_tests, last)
+kept_before source a k kept = grind (arith, and_parts, nat_le, nat_tests)
 
 -- so each kept line's number is at most one more than that
 kept-counted : (s : Snippet Annotation) → All (λ k. k ≤ newline_count (reached_source s) + 1) (kept_lines s.fold (cow_str_bytes s.source.text) s.markers.items)
@@ -137,14 +119,8 @@ between-counted n (j ∷ k ∷ ks) low =
     let rest : All (λ i. i ≤ n) (k ∷ ks) = All-tail (λ i. i ≤ n) j (k ∷ ks) low in
     let after : All (λ i. i ≤ n) (with_between (k ∷ ks)) = between-counted n (k ∷ ks) rest in
     elim (cases_Bool (k == j + 2)) [
-      | inl one ↦
-          let middle : j + 1 ≤ n = omega (arith, All-head (λ i. i ≤ n) k ks rest, eqb-true k (j + 2) one) in
-          All-same (λ i. i ≤ n) (with_between (j ∷ k ∷ ks)) (j ∷ (j + 1) ∷ with_between (k ∷ ks))
-          (cond-true (k == j + 2) (j ∷ (j + 1) ∷ with_between (k ∷ ks)) (j ∷ with_between (k ∷ ks)) one)
-          (All-cons (λ i. i ≤ n) j ((j + 1) ∷ with_between (k ∷ ks)) here (All-cons (λ i. i ≤ n) (j + 1) (with_between (k ∷ ks)) middle after))
-      | inr other ↦ All-same (λ i. i ≤ n) (with_between (j ∷ k ∷ ks)) (j ∷ with_between (k ∷ ks))
-          (cond-false (k == j + 2) (j ∷ (j + 1) ∷ with_between (k ∷ ks)) (j ∷ with_between (k ∷ ks)) other)
-          (All-cons (λ i. i ≤ n) j (with_between (k ∷ ks)) here after)
+      | inl one ↦ grind (arith, common_steps, All-head, rest, eqb-true, All-same, cond-true, All-cons, here, after)
+      | inr other ↦ grind (arith, common_steps, All-same, cond-false, All-cons, here, after)
     ]
 
 -- what holds of lines holds of what is seen of them
@@ -183,16 +159,8 @@ number_width-step Hidden m n near small fits = omega arith
 
 -- what it shows takes the cells that it has, or those that are needed
 length-shown : (numbers : LineNumbers) (gutter number : ℕ) → number_width numbers number ≤ gutter + 1 → length (shown_number numbers gutter number) ≤ gutter + 1
-length-shown Shown gutter number fits =
-    omega (
-      arith,
-      length-append (replicate (gutter - length (decimal number)) 32) (decimal number),
-      length-replicate {A = ℕ}
-          (gutter - length (decimal number)) 32,
-    )
-length-shown Anonymized gutter number fits =
-    let letters : List ℕ = 76 ∷ 76 ∷ [] in
-    omega (arith, length-append {A = ℕ} (replicate (gutter - 2) 32) letters, length-replicate {A = ℕ} (gutter - 2) 32)
+length-shown Shown gutter number fits = grind (arith, length-append, length-replicate)
+length-shown Anonymized gutter number fits = grind (arith, length-append, length-replicate)
 length-shown Hidden gutter number fits = omega (arith, length-replicate {A = ℕ} gutter 32)
 
 -- a layout with room for a snippet has it for the number counted
@@ -210,13 +178,7 @@ counted-width r layout s room = by_cases s.line_numbering refl r.anonymized_snip
 
 -- the number counted for the gutter fits, where those of the lines do
 pub counted-small : (s : Snippet Annotation) → s.line_start + length (source_lines (cow_str_bytes s.source.text)) < 2 ^ 64 → counted_number s < 2 ^ 64
-counted-small s fits =
-    let source : List ℕ = cow_str_bytes s.source.text in
-    let folded : newline_count (take (greatest_end s.markers.items) source) ≤ newline_count source + 1 = newline_count-take source
-    (greatest_end s.markers.items) in
-    let low : newline_count (reached_source s) ≤ newline_count source + 1 = elim (s.fold && not (length s.markers.items == 0)) as (λ b.
-    newline_count (cond b (take (greatest_end s.markers.items) source) source) ≤ newline_count source + 1) [ true ↦ folded | false ↦ omega arith ] in
-    omega (arith, length-source_lines source)
+counted-small s fits = grind (arith, newline_count-take, length-source_lines, s.source.text, s.markers.items, s.fold)
 
 -- what the gutter shows beside the lines of a snippet takes at most one cell more than the gutter has
 pub numbers_fit : (r : Renderer) (layout : Layout) (s : Snippet Annotation) (infos : List AnnotatedLineInfo) → HasRoomFor r layout (Cause s)

@@ -1,4 +1,5 @@
 -- The rows of a title or message hold a line feed only where its level's name or its id does: its text is cut at each.
+use Rattle.std.proofs.Common.{arith, chars}
 use Rattle.annotate_snippets.proofs.Common.{◌≡◌, ℕ, ◌+◌, ◌==◌, ◌&&◌, not, Bool, true, false, cond, IfSome, Option, None, Some, List, []}
 use Rattle.annotate_snippets.proofs.Common.{◌∷◌, ◌++◌, All, map, replicate, codes, refl, sym, subst, cow_str_bytes, onto_first, slice_split}
 use Rattle.annotate_snippets.proofs.Common.{option_map, All-append, All-cons, All-head, All-map, All-nil, All-replicate, All-tail, slice_split-cons_no}
@@ -8,10 +9,8 @@ use Rattle.annotate_snippets.proofs.Common.{heading_rows, id_cells, indent_cells
 use Rattle.annotate_snippets.proofs.Common.{opening_bracket_of, roles_of, sign_cells, note_sign_of, title_rows, HeadingRoles, TitleStyle, All-trimmed, Renderer}
 use Rattle.annotate_snippets.proofs.Common.{Layout, GroupPosition, is_before_message, HasNoFeed, rows_after_title, title_part, each-fails, closing_row}
 use Rattle.annotate_snippets.proofs.Common.{separator_row}
-use Rattle.std.proofs.Common.{chars}
 use Rattle.snippet_model.specs.declared.snippet.Title.{Title as TitleGiven}
-use Rattle.snippet_titles.specs.HeadingRows.{address_of}
-use Rattle.snippet_titles.specs.HeadingRows.{shown_text}
+use Rattle.snippet_titles.specs.HeadingRows.{address_of, shown_text}
 use Rattle.snippet_titles.specs.declared.style.TitleStyle.TheVariants.{Message, Short, Title}
 use Rattle.annotate_snippets.specs.declared.renderer.element_context.Next.{Next as NextElement}
 use Rattle.annotate_snippets.proofs.OneLineTexts.{HoldsNoFeed, IsNoFeed, IsOneLineId, IsOneLineName, IsOneLineText, IsOneLineTitle}
@@ -107,9 +106,7 @@ onto_plain c (part ∷ parts) plain all =
 
 one_more : (c : ℕ) (cs : List ℕ) (feed : Bool) → (c == 10) ≡ feed → All (All IsNoFeed) (slice_split (λ x. x == 10) cs)
     → All (All IsNoFeed) (slice_split (λ x. x == 10) (c ∷ cs))
-one_more c cs true is all =
-    subst (All (All IsNoFeed)) (sym (slice_split-cons_yes (λ x. x == 10) c cs is))
-    (All-cons (All IsNoFeed) [] (slice_split (λ x. x == 10) cs) (All-nil IsNoFeed) all)
+one_more c cs true is all = grind (arith, slice_split-cons_yes, All-cons, All-nil)
 one_more c cs false is all =
     subst (All (All IsNoFeed)) (sym (slice_split-cons_no (λ x. x == 10) c cs is)) (onto_plain c (slice_split (λ x. x == 10) cs) is all)
 

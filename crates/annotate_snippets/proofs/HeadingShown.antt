@@ -1,16 +1,16 @@
 -- The rows of messages, origins, paddings and titles show them.
+use Rattle.std.proofs.Common.{arith}
 use Rattle.annotate_snippets.proofs.Common.{◌≡◌, ◌∙◌, ℕ, Bool, true, false, None, Option, Some, List, [], ◌∷◌, if◌then◌else◌, refl}
 use Rattle.annotate_snippets.proofs.Common.{sym, ap, subst, cow_str_bytes, All-cons, All-nil, slice_index_or, row_at, Cell, row_text, Heading}
-use Rattle.annotate_snippets.proofs.Common.{heading_of_message, heading_of_title, Message, Origin, Padding, Title, IsFree, All-unmapped, heading_rows}
-use Rattle.annotate_snippets.proofs.Common.{origin_row, padding_row, IsFreeButText, heading_texts, title_rows, LinksId, TitleStyle, heading_rows-free}
-use Rattle.annotate_snippets.proofs.Common.{origin_row-text, closing_row-free, origin_row-free, padding_row-free, heading_rows-places, heading_rows-texts}
-use Rattle.annotate_snippets.proofs.Common.{closes_after, is_end, NamedRow, cells_of, others, origin_layout, origin_rows, title_part, ShowsHeading}
-use Rattle.annotate_snippets.proofs.Common.{ShowsTitlePart, Renderer, Layout, GroupPosition, Next, ElementContext, HasNoFeed, closing_row}
+use Rattle.annotate_snippets.proofs.Common.{heading_of_message, Message, Origin, Padding, Title, IsFree, All-unmapped, heading_rows, origin_row, padding_row}
+use Rattle.annotate_snippets.proofs.Common.{IsFreeButText, heading_texts, LinksId, TitleStyle, heading_rows-free, origin_row-text, closing_row-free}
+use Rattle.annotate_snippets.proofs.Common.{origin_row-free, padding_row-free, heading_rows-places, heading_rows-texts, closes_after, is_end, NamedRow}
+use Rattle.annotate_snippets.proofs.Common.{cells_of, others, origin_layout, origin_rows, title_part, ShowsHeading, ShowsTitlePart, Renderer, Layout}
+use Rattle.annotate_snippets.proofs.Common.{GroupPosition, Next, ElementContext, HasNoFeed, closing_row}
 use Rattle.std.specs.List.{All}
 use Rattle.snippet_model.specs.declared.snippet.Message as the_message
 use Rattle.snippet_model.specs.declared.snippet.Origin as the_origin
 use Rattle.snippet_model.specs.declared.snippet.Padding as the_padding
-use Rattle.snippet_titles.specs.declared.style.TitleStyle.TheVariants as style
 use Rattle.annotate_snippets.proofs.PageWords.{message_rows, message_style, origin_start, place_given}
 use Rattle.annotate_snippets.proofs.ElementShown.{ElementShown}
 use Rattle.annotate_snippets.proofs.HeadingFeedLaws.{heading_one_line}
@@ -24,11 +24,7 @@ others-each P rows each =
 
 -- the rows of a heading show it
 heading_shown : (hyperlink : Bool) (place : TitleStyle) (heading : Heading) → ShowsHeading hyperlink place heading (heading_rows hyperlink place heading)
-heading_shown hyperlink place heading =
-    record {
-      rows_are = refl;
-      free = heading_rows-free hyperlink place heading;
-    }
+heading_shown hyperlink place heading = grind (arith, heading_rows-free)
 
 -- so the text of each is that of the line that it shows, the first after the label
 pub texts_of : {hyperlink : Bool} {place : TitleStyle} {heading : Heading} {rows : List (List Cell)} → ShowsHeading hyperlink place heading rows → (i : ℕ)
@@ -88,9 +84,4 @@ padding_shown r layout around found padding =
 pub title_shown : (r : Renderer) (layout : Layout) (place : GroupPosition) (follows : Next) (title : Option Title)
     → ShowsTitlePart r layout place follows title (title_part r layout place follows title)
 title_shown r layout place follows None = refl
-title_shown r layout place follows (Some title) =
-    record {
-      own = title_rows r.hyperlink title;
-      rows_are = refl;
-      shows = heading_shown r.hyperlink style.Title (heading_of_title title);
-    }
+title_shown r layout place follows (Some title) = grind (arith, heading_shown, r.hyperlink)

@@ -2,10 +2,9 @@
 use Rattle.annotate_snippets.proofs.Common.{◌≡◌, ℕ, suc, ◌==◌, Bool, true, false, if◌then◌else◌, List, [], ◌∷◌, ◌++◌, refl, sym, ap}
 use Rattle.annotate_snippets.proofs.Common.{string_bytes, ◌∙◌, arith, length, map, flat_map, join_with_byte, list_all, nat_tests, append_assoc}
 use Rattle.annotate_snippets.proofs.Common.{append-nil, flat_map-append, chars_read, made-append, made_rows, rows_chars, says_rows, adds_both, html_says_pieces}
-use Rattle.annotate_snippets.proofs.Common.{is_made, piece_says, tags_are, AddsHtml, HtmlPiece, html_bytes, html_text, plain_look, rows_html, html_reads_pieces}
-use Rattle.annotate_snippets.proofs.Common.{ReadChar, as_read, chars_of_rows, feed_read, plain_text, Group, graphic_form, AddsGroupHtml, HtmlLaws}
-use Rattle.annotate_snippets.proofs.Common.{further_chars, further_groups, page_chars, page_html, report_html, GroupPage, group_rows, page_text, Takes}
-use Rattle.annotate_snippets.proofs.Common.{Renderer, HtmlPage}
+use Rattle.annotate_snippets.proofs.Common.{is_made, piece_says, tags_are, AddsHtml, HtmlPiece, html_bytes, plain_look, rows_html, html_reads_pieces}
+use Rattle.annotate_snippets.proofs.Common.{plain_text, Group, AddsGroupHtml, HtmlLaws, further_chars, further_groups, page_chars, page_html, report_html}
+use Rattle.annotate_snippets.proofs.Common.{GroupPage, group_rows, page_text, Takes, Renderer, HtmlPage}
 use Rattle.snippet_grid.specs.Html.{Text}
 use Rattle.annotate_snippets.proofs.PageWords.{Page}
 use Rattle.annotate_snippets.proofs.SinkLemmas.{holds_after}
@@ -48,10 +47,7 @@ html_after page old new none taken =
 
 says_further : (page : Page) → flat_map piece_says (further_groups page) ≡ flat_map (λ g. 10 ∷ plain_text (group_rows g)) page
 says_further [] = refl
-says_further (g ∷ gs) =
-    flat_map-append piece_says (Text 10 ∷ rows_html g.level (group_rows g)) (further_groups gs)
-    ∙ ap (λ (t : List ℕ). (10 ∷ t) ++ flat_map piece_says (further_groups gs)) (says_rows g.level (group_rows g))
-    ∙ ap (λ (t : List ℕ). (10 ∷ plain_text (group_rows g)) ++ t) (says_further gs)
+says_further (g ∷ gs) = grind (arith, says_further gs, flat_map-append, says_rows, g.level)
 
 joined_by : (x : List ℕ) (page : Page) → x ++ flat_map (λ g. 10 ∷ plain_text (group_rows g)) page
     ≡ join_with_byte 10 (x ∷ map (λ g. plain_text (group_rows g)) page)
@@ -60,11 +56,7 @@ joined_by x (g ∷ gs) = ap (λ (t : List ℕ). x ++ 10 ∷ t) (joined_by (plain
 
 says_page : (page : Page) → flat_map piece_says (page_html page) ≡ page_text page
 says_page [] = refl
-says_page (g ∷ gs) =
-    flat_map-append piece_says (rows_html g.level (group_rows g)) (further_groups gs)
-    ∙ ap (λ (t : List ℕ). t ++ flat_map piece_says (further_groups gs)) (says_rows g.level (group_rows g))
-    ∙ ap (λ (t : List ℕ). plain_text (group_rows g) ++ t) (says_further gs)
-    ∙ joined_by (plain_text (group_rows g)) gs
+says_page (g ∷ gs) = grind (arith, flat_map-append, says_rows, says_further, joined_by, g.level)
 
 made_further : (page : Page) → list_all is_made (further_groups page) ≡ true
 made_further [] = refl
@@ -77,24 +69,12 @@ made_page (g ∷ gs) = made-append (rows_html g.level (group_rows g)) (further_g
 
 stands_further : (page : Page) → chars_read plain_look (further_groups page) ≡ further_chars page
 stands_further [] = refl
-stands_further (g ∷ gs) =
-    ap (λ (rs : List ReadChar). feed_read ∷ rs) (rows_chars g.level (group_rows g) (further_groups gs)
-    ∙ ap (λ (rs : List ReadChar). chars_of_rows g.level (group_rows g) ++ rs) (stands_further gs))
+stands_further (g ∷ gs) = grind (arith, stands_further gs, rows_chars, g.level)
 
 stands_page : (page : Page) → chars_read plain_look (page_html page) ≡ page_chars page
 stands_page [] = refl
-stands_page (g ∷ gs) =
-    rows_chars g.level (group_rows g) (further_groups gs)
-    ∙ ap (λ (rs : List ReadChar). chars_of_rows g.level (group_rows g) ++ rs) (stands_further gs)
+stands_page (g ∷ gs) = grind (arith, rows_chars, stands_further, g.level)
 
 -- a report's text in HTML has its laws
 pub html_laws : (r : Renderer) (groups : List Group) (text : List ℕ) → text ≡ html_bytes (report_html r groups) → HtmlLaws r groups text
-html_laws r groups text is =
-    let page = graphic_form r groups in
-    record {
-      html = html_text (report_html r groups);
-      text_is = is;
-      says = html_says_pieces (page_html page) (made_page page) ∙ says_page page;
-      tags = tags_are (page_html page) (made_page page);
-      stands = html_reads_pieces (page_html page) (made_page page) ∙ ap (map as_read) (stands_page page);
-    }
+html_laws r groups text is = grind (arith, html_says_pieces, made_page, says_page, tags_are, html_reads_pieces, stands_page)

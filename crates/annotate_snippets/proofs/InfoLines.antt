@@ -42,9 +42,7 @@ module _ (s : Snippet Annotation) (spans : All (λ a. IsSpan (cow_str_bytes s.so
 
   pub infos_seen : (ks : List ℕ) → map seen_kept (map info_at ks) ≡ map (kept_line (numbered_source s) s.markers.items) ks
   infos_seen [] = refl
-  infos_seen (k ∷ ks) =
-      ap (λ line. line ∷ map seen_kept (map info_at ks)) (seen_at k)
-      ∙ ap (λ lines. kept_line (numbered_source s) s.markers.items k ∷ lines) (infos_seen ks)
+  infos_seen (k ∷ ks) = grind (arith, infos_seen ks)
 
   -- what holds of each of these lines
   each_of : (P : AnnotatedLineInfo → Type 0) (ks : List ℕ) → All P (map info_at ks) → All (λ k. P (info_at k)) ks
@@ -84,13 +82,7 @@ module _ (r : Renderer) (layout : Layout) (s : Snippet Annotation) (drawable : I
 
   -- the bounds of a snippet's window are in order
   pub bounds_ordered : (margin_in r layout s).computed_left ≤ (margin_in r layout s).computed_right
-  bounds_ordered =
-      omega (
-        arith,
-        ap (λ (m : Margin). m.computed_left) margin_is,
-        ap (λ (m : Margin). m.computed_right) margin_is,
-        (lines_sound room kept places).ordered,
-      )
+  bounds_ordered = grind (arith, margin_is, lines_sound, places)
 
   -- each line that is shown can be drawn
   pub lines_ready : HasRoomFor r layout (Cause s) → All labels.HasTextLabel s.markers.items

@@ -1,13 +1,14 @@
 -- The labels of a line's entries are those of its spans.
+use Rattle.std.proofs.lemmas.Grind.{common_steps}
 use Rattle.annotate_snippets.proofs.Common.{◌≡◌, ℕ, ◌+◌, ◌-◌, ◌<◌, ◌≤◌, ◌==◌, ◌&&◌, ◌||◌, max, cond, not, Bool, true}
 use Rattle.annotate_snippets.proofs.Common.{false, None, Option, List, [], ◌∷◌, ◌++◌, map, length, get_or, count_by, refl, sym, ap, subst, ◌∙◌}
 use Rattle.annotate_snippets.proofs.Common.{arith, inl, inr, filter, and_parts, nat_tests, length-map, map-append, All-cons, All-filter, All-head, All-map}
 use Rattle.annotate_snippets.proofs.Common.{All-nil, All-tail, filter-append, filter_passes, sum_by-cons, Cell, unlinked_cell, Annotation, AnnotationKind}
 use Rattle.annotate_snippets.proofs.Common.{Source, promoted, end_part, long_parts, long_place, long_spans, made_parts, parts_on, single_part, span_parts}
-use Rattle.annotate_snippets.proofs.Common.{start_part, depth_among, LongExtent, Snippet, numbered_source, end_column, is_marked_on, is_marking, is_single_line}
-use Rattle.annotate_snippets.proofs.Common.{start_column, first_line, is_bar, LineAnnotation, Singleline, MultilineEnd, singles-on, filter-none, made-all}
-use Rattle.annotate_snippets.proofs.Common.{bar_part, long_entry, bar_lines, label_role, shifted, label_text, IsLabelledAtEnd, IsLedTo, LabelsStand}
-use Rattle.annotate_snippets.proofs.Common.{PlacedLabel, StandsIn, is_cell_of, is_start_part, Layout, HasStem, ShowsLabel, ShowsLabels, ShownLabel, SpanLabel}
+use Rattle.annotate_snippets.proofs.Common.{start_part, depth_among, LongExtent, Snippet, numbered_source, end_column, is_marked_on, is_single_line}
+use Rattle.annotate_snippets.proofs.Common.{start_column, is_bar, LineAnnotation, Singleline, MultilineEnd, singles-on, filter-none, made-all, bar_part}
+use Rattle.annotate_snippets.proofs.Common.{long_entry, bar_lines, label_role, shifted, label_text, IsLabelledAtEnd, IsLedTo, LabelsStand, PlacedLabel}
+use Rattle.annotate_snippets.proofs.Common.{StandsIn, is_cell_of, is_start_part, Layout, HasStem, ShowsLabel, ShowsLabels, ShownLabel, SpanLabel}
 use Rattle.annotate_snippets.proofs.Common.{promoted_spans, is_in_label, normalized_chars, shown_label, entry_of, is_short, long_places, stands_among}
 use Rattle.std.specs.List.{All}
 use Rattle.std.specs.Prelude.{nat_le, nat_lt}
@@ -300,8 +301,7 @@ single_labels : (s : Source) (k : ℕ) (marked : List Annotation) → All (λ a.
 single_labels s k [] own = refl
 single_labels s k (a ∷ marked) own =
     let O : Annotation → Type 0 = λ x. is_marked_on s.text k x ≡ true in
-    let single : is_single_line s.text a ≡ true = (and_parts (is_marking a.kind) (is_single_line s.text a)
-    (and_parts (is_marking a.kind && is_single_line s.text a) (first_line s.text a == k) (All-head O a marked own)).0).1 in
+    let single : is_single_line s.text a ≡ true = grind (arith, common_steps, and_parts, All-head, O, a.kind, s.text) in
     let rest = single_labels s k marked (All-tail O a marked own) in
     let here : label_of_part (single_part s a) ≡ label_of_span s.text a =
     ap (λ n. record { text = shown_label a; kind = a.kind; from = n; to = (entry_of s a).end.display }) (start_of_entry s a)
@@ -326,8 +326,7 @@ labels_shown sn k dropped layout rows_layout es rows code same clear stand =
     (long_parts s (long_places s marks) [] (long_spans s marks)) ∙ ap (λ ps. ps ++ longs) (singles-on s marks k) in
     let none_kept : (r c : ℕ) → count_by (is_in_label r c) (shown_labels es stand.labels) ≡ 0 → count_by (is_cell_of r c) stand.labels ≡ 0 = λ r c none.
     omega (arith, none, cells_all dropped layout rows_layout code rows r c es stand.labels stand.are (labelled_at_end s marks k dropped es same)) in
-    let long : length stand.labels ≡ length es = sym (length-map stand.labels (λ (l : PlacedLabel). l.entry)) ∙ ap length stand.are
-    ∙ length-map es (shifted dropped) in
+    let long : length stand.labels ≡ length es = grind (arith, common_steps, length-map, shifted, stand.labels, stand.are) in
     record {
       labels = shown_labels es stand.labels;
       spans = labels_are es stand.labels long ∙ ap (λ ps. map label_of_part (filter ends_here ps)) parts

@@ -1,11 +1,11 @@
 -- Laws of what stands left of the code: what follows for its characters, and which rows hold it.
+use Rattle.std.proofs.lemmas.Grind.{common_steps}
 use Rattle.annotate_snippets.proofs.Common.{◌≡◌, ℕ, zero, suc, ◌+◌, ◌-◌, ◌<◌, ◌≤◌, Bool, false, List, [], ◌∷◌, ◌++◌, codes}
-use Rattle.annotate_snippets.proofs.Common.{length, take, get_or, replicate, refl, sym, ap, ◌∙◌, arith, inl, inr, is_ascii_alphanumeric, cases_lt}
-use Rattle.annotate_snippets.proofs.Common.{cases_eq, false≢true, get_or-append_right, get_or-replicate, get_or-take, get_or_append_left, get_or_past}
-use Rattle.annotate_snippets.proofs.Common.{length-append, length-replicate, length-take, take-append-le, take-take, take_all, Cell, SPACE, gives_way}
-use Rattle.annotate_snippets.proofs.Common.{text_cells, unlinked_cell, elision_of, separator_of, DecorStyle, Ascii, Unicode, LineNumber, length-text_cells}
-use Rattle.annotate_snippets.proofs.Common.{row_text, HasNoNumber, IsSourceRow, IsElisionRow, bare_elision_row, Layout, same_front, bare_row_left, IsRowBelow}
-use Rattle.annotate_snippets.proofs.Common.{cells_left, row_text-text_cells}
+use Rattle.annotate_snippets.proofs.Common.{length, take, get_or, replicate, refl, sym, ap, ◌∙◌, arith, is_ascii_alphanumeric, cases_lt, cases_eq}
+use Rattle.annotate_snippets.proofs.Common.{false≢true, get_or-append_right, get_or-replicate, get_or-take, get_or_append_left, get_or_past, length-append}
+use Rattle.annotate_snippets.proofs.Common.{length-replicate, length-take, take-append-le, take-take, take_all, Cell, SPACE, text_cells, unlinked_cell}
+use Rattle.annotate_snippets.proofs.Common.{separator_of, DecorStyle, Ascii, Unicode, LineNumber, length-text_cells, row_text, HasNoNumber, IsSourceRow}
+use Rattle.annotate_snippets.proofs.Common.{IsElisionRow, bare_elision_row, Layout, same_front, bare_row_left, IsRowBelow, cells_left, row_text-text_cells}
 
 module _ (decor : DecorStyle) (gutter : ℕ) (shown : List ℕ) where
   abbrev spaces : List Cell
@@ -15,15 +15,7 @@ module _ (decor : DecorStyle) (gutter : ℕ) (shown : List ℕ) where
   end = text_cells LineNumber (separator_of decor ∷ [])
 
   long_left : length (cells_left decor gutter shown) ≡ length shown + (gutter + 1 - length shown) + 1
-  long_left =
-      omega (
-        arith,
-        length-append (text_cells LineNumber shown) (spaces ++ end),
-        length-text_cells LineNumber shown,
-        length-append spaces end,
-        length-replicate
-            (gutter + 1 - length shown) SPACE,
-      )
+  long_left = grind (arith, length-append, length-text_cells, length-replicate)
 
   -- where a row begins so, the number leaves room for the separator
   number_fits : (row : List Cell) → take (gutter + 2) row ≡ cells_left decor gutter shown → length shown ≤ gutter + 1
@@ -70,35 +62,20 @@ module _ (decor : DecorStyle) (gutter : ℕ) (shown : List ℕ) where
 
 -- a row reaches as far as its separator
 reaches_separator : (decor : DecorStyle) (row : List Cell) (c : ℕ) → get_or row c SPACE ≡ unlinked_cell LineNumber (separator_of decor) → c < length row
-reaches_separator decor row c is =
-    elim (cases_lt c (length row)) [
-      | inl reaches ↦ reaches
-      | inr short ↦ absurd (false≢true (ap (λ (cell : Cell). gives_way cell.role) (sym is ∙ get_or_past row c SPACE short)))
-    ]
+reaches_separator decor row c is = grind (arith, cases_lt, false≢true, get_or_past)
 
 module _ (layout : Layout) (shown : List ℕ) (cells plain row : List Cell) (fits : length shown ≤ layout.gutter + 1) (place : layout.gutter + 3 ≤ layout.code)
     (is : IsSourceRow layout shown cells plain) (same : (c : ℕ) → c < layout.gutter + 3 → get_or row c SPACE ≡ get_or plain c SPACE) where
   -- left of the bars a row that is as a source row there holds the number, spaces and the separator
   left_cells : (c : ℕ) → c < layout.gutter + 2 → get_or row c SPACE ≡ get_or (cells_left layout.decor layout.gutter shown) c SPACE
-  left_cells c left =
-      same c (omega (arith, left)) ∙ elim (cases_lt c (length shown)) [
-        | inl number ↦ sym (get_or-take (length shown) plain c SPACE number) ∙ ap (λ cs. get_or cs c SPACE) is.shows.number
-            ∙ sym (at_number layout.decor layout.gutter shown fits c number)
-        | inr right ↦ elim (cases_eq c (layout.gutter + 1)) [
-          | inl at ↦ ap (λ n. get_or plain n SPACE) at ∙ is.separator ∙ sym
-              (ap (λ n. get_or (cells_left layout.decor layout.gutter shown) n SPACE) at ∙ at_separator layout.decor layout.gutter shown fits)
-          | inr other ↦ is.blank c right other (omega (arith, left, place))
-              ∙ sym (at_space layout.decor layout.gutter shown fits c right (omega (arith, left, other)))
-        ]
-      ]
+  left_cells c left = grind (arith, cases_lt, get_or-take, at_number, cases_eq, at_separator, at_space)
 
   -- a source row's first cells are those left of the code for what it shows as its number
   pub left_of_source : take (layout.gutter + 2) row ≡ cells_left layout.decor layout.gutter shown
   left_of_source =
       let all : List Cell = cells_left layout.decor layout.gutter shown in
       let long : length all ≡ layout.gutter + 2 = omega (arith, long_left layout.decor layout.gutter shown, fits) in
-      let reaches : layout.gutter + 1 < length row = reaches_separator layout.decor row (layout.gutter + 1)
-      (same (layout.gutter + 1) (omega arith) ∙ is.separator) in
+      let reaches : layout.gutter + 1 < length row = grind (arith, common_steps, reaches_separator) in
       same_front row all (layout.gutter + 2) (omega (arith, reaches)) (omega (arith, long)) left_cells ∙ take_all (layout.gutter + 2) all (omega (arith, long))
 
   -- and after that a space
@@ -118,9 +95,7 @@ bare_unnumbered Ascii gutter zero left = refl
 bare_unnumbered Ascii gutter (suc zero) left = refl
 bare_unnumbered Ascii gutter (suc (suc zero)) left = refl
 bare_unnumbered Ascii gutter (suc (suc (suc c))) left = refl
-bare_unnumbered Unicode gutter c left =
-    ap (λ (cell : Cell). is_ascii_alphanumeric cell.ch) (get_or_append_left (replicate (gutter + 1) SPACE) (text_cells LineNumber (elision_of Unicode)) SPACE c
-    (omega (arith, left, length-replicate (gutter + 1) SPACE)) ∙ get_or-replicate (gutter + 1) c SPACE SPACE (omega (arith, left)))
+bare_unnumbered Unicode gutter c left = grind (arith, get_or_append_left, length-replicate, get_or-replicate)
 
 -- the row for lines that are left out has no number
 pub unnumbered_elided : (layout : Layout) (row : List Cell) → IsElisionRow layout row → HasNoNumber layout.gutter row

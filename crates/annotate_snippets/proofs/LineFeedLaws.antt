@@ -1,27 +1,28 @@
 -- The rows of an annotated snippet's lines hold a line feed only where a label does, whatever is cut of them.
+use Rattle.std.proofs.lemmas.Grind.{common_steps}
 use Rattle.annotate_snippets.proofs.Common.{◌≡◌, ◌≢◌, ℕ, suc, ◌+◌, ◌-◌, ◌<◌, ◌==◌, ◌&&◌, nat_le, nat_lt, Bool, true, false}
 use Rattle.annotate_snippets.proofs.Common.{cond, Option, None, Some, List, [], ◌∷◌, ◌++◌, All, take, drop, map, length, fold, get_or, replicate}
 use Rattle.annotate_snippets.proofs.Common.{refl, sym, ap, subst, ◌∙◌, arith, inl, inr, cow_str_bytes, Contains, range_with_len, option_map, IsUtf8}
 use Rattle.annotate_snippets.proofs.Common.{cases_Bool, cases_lt, nat_tests, get_or_past, All-append, All-cons, All-contains, All-drop, All-filter}
-use Rattle.annotate_snippets.proofs.Common.{All-from_get_or, All-get_or, All-head, All-map, All-nil, All-replicate, All-tail, All-take, All-weaker}
-use Rattle.annotate_snippets.proofs.Common.{slice_split_none, IsUtf8-nil, cell_at, replaced_within, row_at, Line, Source, source_lines, text_at, Eof, IsLine-at}
-use Rattle.annotate_snippets.proofs.Common.{IsUtf8-text_at, is_primary, Annotation, Snippet, Cell, SPACE, text_cells, unlinked_cell, written, EachBar, EachCode}
-use Rattle.annotate_snippets.proofs.Common.{each_bar, each_code, of_first, of_foot, strokes_of, placeholder_of, underline_role, closing_row, separator_row}
-use Rattle.annotate_snippets.proofs.Common.{DecorStyle, Ascii, Unicode, ElementStyle, LineNumber, IsOneLine, lines_at, lines_at-chars, made_parts}
-use Rattle.annotate_snippets.proofs.Common.{LineAnnotation, LineAnnotationType, Singleline, MultilineStart, MultilineEnd, MultilineLine, made-all, Bar}
-use Rattle.annotate_snippets.proofs.Common.{bars_apart, ends_of_bars, overlapped, Stretch, cuts_of, cut_row, shifted, label_text, AreLineRows, AreOwnRows}
-use Rattle.annotate_snippets.proofs.Common.{StrokesPainted, painting_order, stroke_role, row_count, has_label, bare_row, connector_of, corner_of, bar_writes}
-use Rattle.annotate_snippets.proofs.Common.{begun_rows, corner_by, label_of, column_of, first_glyph, mark_end, connectors_of, corners_of, labels_of}
-use Rattle.annotate_snippets.proofs.Common.{is_whole_line, drawn_mark, drawn_strokes, marks_of, stems_of, label_write, stem_write, Write, glyph_at, painted}
-use Rattle.annotate_snippets.proofs.Common.{stretch_of, Layout, All-connector_of, All-stretch_of, All-label_of, entries_all, All-stem_of, All-stems_of}
-use Rattle.annotate_snippets.proofs.Common.{All-flat_map, painted-cell, Renderer, HasNoFeed, numbered_source, Elision, NamedRow, OfferedLine, Other}
-use Rattle.annotate_snippets.proofs.Common.{RemovedLine, RowName, SourceRow, cells_of, rows_below, AreRowsOf, IsRowOf, normalized_chars}
+use Rattle.annotate_snippets.proofs.Common.{All-from_get_or, All-head, All-map, All-nil, All-replicate, All-tail, All-take, All-weaker, slice_split_none}
+use Rattle.annotate_snippets.proofs.Common.{IsUtf8-nil, cell_at, replaced_within, row_at, Source, source_lines, text_at, IsLine-at, IsUtf8-text_at, is_primary}
+use Rattle.annotate_snippets.proofs.Common.{Annotation, Snippet, Cell, SPACE, text_cells, unlinked_cell, written, EachBar, EachCode, each_bar, each_code}
+use Rattle.annotate_snippets.proofs.Common.{of_first, of_foot, strokes_of, placeholder_of, underline_role, closing_row, separator_row, DecorStyle, Ascii}
+use Rattle.annotate_snippets.proofs.Common.{Unicode, ElementStyle, LineNumber, IsOneLine, lines_at, lines_at-chars, made_parts, LineAnnotation}
+use Rattle.annotate_snippets.proofs.Common.{LineAnnotationType, Singleline, MultilineStart, MultilineEnd, MultilineLine, made-all, Bar, bars_apart}
+use Rattle.annotate_snippets.proofs.Common.{ends_of_bars, overlapped, Stretch, cuts_of, cut_row, shifted, label_text, AreLineRows, AreOwnRows, StrokesPainted}
+use Rattle.annotate_snippets.proofs.Common.{painting_order, stroke_role, row_count, has_label, bare_row, connector_of, corner_of, bar_writes, begun_rows}
+use Rattle.annotate_snippets.proofs.Common.{corner_by, label_of, column_of, first_glyph, mark_end, connectors_of, corners_of, labels_of, is_whole_line}
+use Rattle.annotate_snippets.proofs.Common.{drawn_mark, drawn_strokes, marks_of, stems_of, label_write, stem_write, Write, glyph_at, painted, stretch_of}
+use Rattle.annotate_snippets.proofs.Common.{Layout, All-connector_of, All-stretch_of, All-label_of, entries_all, All-stem_of, All-stems_of, All-flat_map}
+use Rattle.annotate_snippets.proofs.Common.{painted-cell, Renderer, HasNoFeed, numbered_source, Elision, NamedRow, OfferedLine, Other, RemovedLine, RowName}
+use Rattle.annotate_snippets.proofs.Common.{SourceRow, cells_of, rows_below, AreRowsOf, IsRowOf, normalized_chars}
 use Rattle.std.proofs.Common.{chars}
 use Rattle.snippet_grid.specs.Layout.{bar_cell as bar_column}
 use Rattle.annotate_snippets.proofs.LineWords.{entries_on}
 use Rattle.annotate_snippets.proofs.DrawnRows.{AreRowsDrawn, IsLineDrawn, IsRowDrawn, open_after}
 use Rattle.annotate_snippets.proofs.OneLineTexts.{HoldsNoFeed, IsNoFeed, IsOneLineLabel, IsOneLineText}
-use Rattle.annotate_snippets.proofs.FeedLaws.{at_any, bare-plain, elided}
+use Rattle.annotate_snippets.proofs.FeedLaws.{bare-plain, elided}
 use Rattle.annotate_snippets.proofs.HeadingFeedLaws.{parts_plain}
 use Rattle.annotate_snippets.proofs.LabelLemmas.{tail_same}
 use Rattle.annotate_snippets.proofs.PathFeedLaws.{alone, cells_plain, norm-plain}
@@ -44,8 +45,7 @@ pub line_plain : (source : List ℕ) (k : ℕ) → IsUtf8 source → All IsNoFee
 line_plain source k utf8 =
     elim (cases_lt k (length (source_lines source))) [
       | inl within ↦ chars-plain (text_at (source_lines source) k) (IsUtf8-text_at source k utf8) (IsLine-at source k within).no_lf
-      | inr past ↦ subst (λ (l : Line). All IsNoFeed (chars l.0)) (sym (get_or_past (source_lines source) k ([], Eof) past))
-          (chars-plain [] IsUtf8-nil (All-nil (λ b. b ≢ 10)))
+      | inr past ↦ grind (arith, common_steps, chars, get_or_past, chars-plain, IsUtf8-nil, All-nil)
     ]
 
 -- ---- glyphs. The type of an entry with its place has no name outside its crate, so `_` stands for it
@@ -178,8 +178,7 @@ pub row_written : (row : List Cell) (at : ℕ) (new : List Cell) → HasNoFeed r
 unfolding written
 row_written row at new plain own =
     let filled : List Cell = row ++ replicate (at - length row) SPACE in
-    let before : HasNoFeed (take at filled) = All-take HoldsNoFeed at filled
-    (All-append HoldsNoFeed row (replicate (at - length row) SPACE) plain (All-replicate HoldsNoFeed (at - length row) SPACE refl)) in
+    let before : HasNoFeed (take at filled) = grind (arith, common_steps, All-take, filled, All-append, All-replicate) in
     All-append HoldsNoFeed (take at filled ++ new) (drop (at + length new) row) (All-append HoldsNoFeed (take at filled) new before own)
     (All-drop HoldsNoFeed (at + length new) row plain)
 
@@ -219,11 +218,7 @@ row_barred layout (bar ∷ bars) row plain =
 
 -- a cell of rows without line feeds, or a space beside them
 in_rows : (rows : List (List Cell)) → All HasNoFeed rows → (r c : ℕ) → HoldsNoFeed (cell_at rows r c)
-in_rows rows all r c =
-    elim (cases_lt r (length rows)) [
-      | inl within ↦ at_any (row_at rows r) (All-get_or HasNoFeed rows r [] within all) c
-      | inr past ↦ subst (λ (row : List Cell). HoldsNoFeed (get_or row c SPACE)) (sym (get_or_past rows r [] past)) refl
-    ]
+in_rows rows all r c = grind (arith, cases_lt, get_or_past)
 
 from_cells : (rows : List (List Cell)) → ((r c : ℕ) → HoldsNoFeed (cell_at rows r c)) → All HasNoFeed rows
 from_cells rows each =
@@ -234,12 +229,7 @@ from_cells rows each =
 module _ (layout : Layout) (room : ℕ) (closes : Bool) where
   -- before strokes are drawn there they hold none
   begun_plain : (count : ℕ) → All HasNoFeed (replicate count (separator_row layout.decor layout.gutter) ++ bare_row layout.decor layout.gutter closes ∷ [])
-  begun_plain count =
-      let empty : List Cell = separator_row layout.decor layout.gutter in
-      let last : List Cell = bare_row layout.decor layout.gutter closes in
-      let above : All HasNoFeed (replicate count empty) = All-replicate HasNoFeed count empty (bare-plain layout.decor layout.gutter false) in
-      All-append HasNoFeed (replicate count empty) (last ∷ []) above
-      (All-cons HasNoFeed last [] (bare-plain layout.decor layout.gutter closes) (All-nil HasNoFeed))
+  begun_plain count = grind (arith, common_steps, All-replicate, bare-plain, All-append, All-cons, All-nil)
 
   -- nor after that
   drawn_plain : (es : List LineAnnotation) (source : List Cell) (rows : List (List Cell)) (strokes : StrokesPainted layout room closes es source rows)
@@ -255,11 +245,7 @@ module _ (layout : Layout) (room : ℕ) (closes : Bool) where
       (painted_plain ws begun (suc r) c (in_rows _ (begun_plain (row_count placed - 1)) r c) written))
 
   end_plain : All HasNoFeed (cond closes (closing_row layout.decor layout.gutter ∷ []) [])
-  end_plain =
-      elim closes as (λ b. All HasNoFeed (cond b (closing_row layout.decor layout.gutter ∷ []) [])) [
-        | true ↦ All-cons HasNoFeed (closing_row layout.decor layout.gutter) [] (bare-plain layout.decor layout.gutter true) (All-nil HasNoFeed)
-        | false ↦ All-nil HasNoFeed
-      ]
+  end_plain = grind (arith, common_steps, All-cons, bare-plain, All-nil)
 
   -- so a line's own rows below it hold none
   own_plain : (text : List ℕ) (dropped : ℕ) (es : List LineAnnotation) (source row : List Cell) (below : List (List Cell))

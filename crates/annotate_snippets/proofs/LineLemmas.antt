@@ -58,7 +58,7 @@ wide_entries-shifted dropped room width (e ∷ es) clear =
 
 -- a number that passes the test is at most the other
 le_of : (a b : ℕ) → nat_le a b ≡ true → a ≤ b
-le_of a b is = grind (arith, nat_tests, is)
+le_of a b is = grind (arith, nat_tests)
 
 -- a count of things that aren't there
 count-none : {X : Type 0} (p : X → Bool) (xs : List X) → list_all (λ x. not (p x)) xs ≡ true → count_by p xs ≡ 0

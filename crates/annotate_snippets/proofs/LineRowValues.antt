@@ -52,10 +52,7 @@ module _ (layout : Layout) (room : ℕ) (closes : Bool) (text : List ℕ) (dropp
 
   -- a line has a row at least
   pub line_rows-some : (open_bars : List Bar) (es : List LineAnnotation) → 0 < length (line_rows layout room closes text dropped open_bars es source)
-  line_rows-some open_bars es =
-      let same : length (line_rows layout room closes text dropped open_bars es source) ≡ length (own_rows layout room closes text dropped es source) =
-      mapped_count _ (own_rows layout room closes text dropped es source) _ refl in
-      omega (arith, same, own_some es)
+  line_rows-some open_bars es = grind (arith, mapped_count, own_some)
 
   -- a line with one entry has one row below its source row at most
   pub lone_line_rows : (open_bars : List Bar) (es : List LineAnnotation) → length es ≡ 1

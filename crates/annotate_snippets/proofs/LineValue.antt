@@ -1,4 +1,5 @@
 -- The rows of a line that painters promise are those that the graphic form has for it.
+use Rattle.std.proofs.lemmas.Grind.{common_steps}
 use Rattle.annotate_snippets.proofs.Common.{◌≡◌, ℕ, ◌+◌, ◌==◌, ◌&&◌, Bool, true, false, cond, nat_lt, List, [], ◌∷◌, ◌++◌, length}
 use Rattle.annotate_snippets.proofs.Common.{map, refl, sym, ap, ◌∙◌, arith, nat_tests, length-map, Annotation, Snippet, norm, shown_number, LineNumbers}
 use Rattle.annotate_snippets.proofs.Common.{KeptLine, kept_line, seen_kept, AnnotatedLineInfo, LineAnnotation, Margin, Bar, open_past, gap_row, shown_rows}
@@ -59,8 +60,7 @@ module _ (r : Renderer) (layout : Layout) (s : Snippet Annotation) where
       let past_is : open_below open_bars es ≡ past = ap (open_past open_bars) (bars_seen s k es (ap (λ (l : KeptLine). l.parts) here)) in
       let last : Bool = view.closes && length infos == 0 in
       let closes : Bool = view.closes && length ks == 0 in
-      let last_is : last ≡ closes = ap (λ n. view.closes && n == 0)
-      (sym (length-map infos seen_kept) ∙ ap length further ∙ length-map ks line_of) in
+      let last_is : last ≡ closes = grind (arith, common_steps, length-map, seen_kept, further, line_of, view.closes) in
       let text : List ℕ = norm (chars info.line.now) in
       let own : info_rows layout (record view { closes = last }) open_bars info ≡ rows_of_line r layout closes s open_bars k =
       ap (λ (m : Margin). shown_rows layout m last open_bars (shown_number view.numbers layout.gutter info.line_index) text es) margin

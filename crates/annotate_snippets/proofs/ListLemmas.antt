@@ -1,4 +1,5 @@
 -- What a list contains after its elements are chosen or mapped, and what holds of the items of two lists.
+use Rattle.std.proofs.lemmas.Grind.{common_steps}
 use Rattle.annotate_snippets.proofs.Common.{◌≡◌, ◌<◌, ◌+◌, ℕ, zero, suc, Bool, true, false, cond, List, [], ◌∷◌, ◌++◌, get_or, length}
 use Rattle.annotate_snippets.proofs.Common.{map, take, refl, sym, ap, subst, ◌∙◌, arith, inl, inr, ◌⊎◌, AllZip, Contains, filter, list_any}
 use Rattle.annotate_snippets.proofs.Common.{cases_Bool, get_or-map, length-map, take_more, AllZip-last}
@@ -44,7 +45,7 @@ module _ {X : Type 0} where
       (among.0, omega (arith, length-map xs f, among.1), get_or-map f xs among.0 x (f x) among.1 ∙ ap f among.2)
 
   rest_any : (q : X → Bool) (x : X) (xs : List X) → q x ≡ false → list_any q (x ∷ xs) ≡ true → list_any q xs ≡ true
-  rest_any q x xs fails some = grind (arith, fails, some)
+  rest_any q x xs fails some = grind arith
 
   -- where some element passes, there is one that does
   pub from_any : (q : X → Bool) (xs : List X) → list_any q xs ≡ true → (x : X) × Contains xs x × (q x ≡ true)
@@ -52,9 +53,7 @@ module _ {X : Type 0} where
   from_any q (x ∷ xs) some =
       elim (cases_Bool (q x)) [
         | inl passes ↦ (x, Contains-head x xs, passes)
-        | inr fails ↦
-            let rest = from_any q xs (rest_any q x xs fails some) in
-            (rest.0, Contains-tail x rest.0 xs rest.1, rest.2)
+        | inr fails ↦ grind (arith, common_steps, from_any q xs (rest_any q x xs fails some), rest_any, Contains-tail)
       ]
 
 -- what holds of pairs so far holds with one more pair of which it holds

@@ -1,11 +1,12 @@
 -- The marks of a line's spans are those of its entries.
-use Rattle.annotate_snippets.proofs.Common.{◌≡◌, ℕ, ◌+◌, ◌-◌, ◌<◌, ◌≤◌, ◌==◌, ◌&&◌, max, true, false, List, [], ◌∷◌}
-use Rattle.annotate_snippets.proofs.Common.{map, length, get_or, refl, sym, ap, subst, ◌∙◌, arith, inl, inr, Contains, filter, list_any, and_parts}
-use Rattle.annotate_snippets.proofs.Common.{eqb-true, eq-eqb, cases_Bool, All-contains, All-contains_itself, All-filter, All-map, filter_passes}
-use Rattle.annotate_snippets.proofs.Common.{Contains-get_or, Annotation, AnnotationKind, Primary, Context, Visible, LineAnnotation, Source, place_of}
-use Rattle.annotate_snippets.proofs.Common.{location_of, start_location, end_location, locations_of, first_line, last_line, is_marking, is_single_line}
-use Rattle.annotate_snippets.proofs.Common.{is_marked_on, start_column, end_column, span_width, IsMarkedAt, IsMarkOf, label_chars, label_text, shown_label}
-use Rattle.annotate_snippets.proofs.Common.{normalized_chars, EntryCovers, IsEntryMark, shifted, is_primary, StandsFrom, from_map, entry_of}
+use Rattle.std.proofs.lemmas.Grind.{common_steps}
+use Rattle.annotate_snippets.proofs.Common.{◌≡◌, ℕ, ◌+◌, ◌-◌, ◌<◌, ◌≤◌, ◌==◌, ◌&&◌, true, false, List, [], ◌∷◌, map}
+use Rattle.annotate_snippets.proofs.Common.{length, get_or, refl, sym, ap, subst, ◌∙◌, arith, Contains, filter, list_any, and_parts, eqb-true, eq-eqb}
+use Rattle.annotate_snippets.proofs.Common.{cases_Bool, All-contains, All-contains_itself, All-filter, All-map, filter_passes, Contains-get_or, Annotation}
+use Rattle.annotate_snippets.proofs.Common.{AnnotationKind, Primary, Context, Visible, LineAnnotation, Source, place_of, location_of, start_location}
+use Rattle.annotate_snippets.proofs.Common.{end_location, locations_of, first_line, is_marking, is_single_line, is_marked_on, start_column, end_column}
+use Rattle.annotate_snippets.proofs.Common.{span_width, IsMarkedAt, IsMarkOf, label_chars, label_text, shown_label, normalized_chars, EntryCovers, IsEntryMark}
+use Rattle.annotate_snippets.proofs.Common.{shifted, is_primary, StandsFrom, from_map, entry_of}
 use Rattle.std.specs.List.{All}
 use Rattle.snippet_labels.specs.PlacedEntries as entry
 use Rattle.annotate_snippets.proofs.ListLemmas.{Contains-filter, Contains-map, Contains-head, from_any}
@@ -18,25 +19,16 @@ start_of_entry s a = refl
 -- and so is its end, where the span stands on one line
 end_of_empty : (s : Source) (a : Annotation) → (a.span.start == a.span.end) ≡ true → (entry_of s a).end.display ≡ end_column s.text a
 unfolding locations_of start_location location_of
-end_of_empty s a empty =
-    let same : a.span.start ≡ a.span.end = eqb-true a.span.start a.span.end empty in
-    rw empty (ap (λ b. max (place_of s.text b).column (start_column s.text a + 1)) same)
+end_of_empty s a empty = grind (arith, eqb-true, a.span.start, a.span.end, s.text)
 
 end_of_other : (s : Source) (a : Annotation) → (a.span.start == a.span.end) ≡ false → is_single_line s.text a ≡ true
     → (entry_of s a).end.display ≡ end_column s.text a
 unfolding locations_of start_location end_location location_of place_of
-end_of_other s a other single =
-    let same : last_line s.text a ≡ first_line s.text a = eqb-true (last_line s.text a) (first_line s.text a) single in
-    let here : (s.first + first_line s.text a == s.first + last_line s.text a) ≡ true = eq-eqb _ _ (ap (λ k. s.first + k) (sym same)) in
-    rw (other, here) (ap (λ n. max n (start_column s.text a + 1)) (omega arith))
+end_of_other s a other single = grind (arith, eqb-true, eq-eqb, s.text, s.first)
 
 -- the entry of a span on one line ends at the column where the span ends
 pub end_of_entry : (s : Source) (a : Annotation) → is_single_line s.text a ≡ true → (entry_of s a).end.display ≡ end_column s.text a
-end_of_entry s a single =
-    elim (cases_Bool (a.span.start == a.span.end)) [
-      | inl empty ↦ end_of_empty s a empty
-      | inr other ↦ end_of_other s a other single
-    ]
+end_of_entry s a single = grind (arith, cases_Bool, end_of_empty, end_of_other, a.span.start, a.span.end)
 
 -- an entry is that of a span: it covers the same columns, with marks of the same kind
 pub record IsEntryOf (s : Source) (k : ℕ) (a : Annotation) (e : LineAnnotation) : Type 0 where
@@ -80,8 +72,7 @@ module _ (s : Source) (marks : List Annotation) (k : ℕ) (es : List LineAnnotat
       let a : Annotation = found.0 in
       let in_marks : Contains marks a = All-contains (Contains marks) kept a
       (All-filter (is_marked_on s.text k) (Contains marks) marks (All-contains_itself marks)) found.1 in
-      let marked : is_marked_on s.text k a ≡ true = All-contains (λ b.
-      is_marked_on s.text k b ≡ true) kept a (filter_passes (is_marked_on s.text k) marks) found.1 in
+      let marked : is_marked_on s.text k a ≡ true = grind (arith, common_steps, kept, a, filter_passes, found, found.1) in
       (a, in_marks, entry_is s k a e marked (single_of a marked) (sym found.2))
 
   -- the mark of a column is that which the entries leave there
@@ -136,16 +127,12 @@ module _ (s : Source) (marks : List Annotation) (k : ℕ) (es : List LineAnnotat
       let theirs = span_of_entry (get_or es i d) (Contains-get_or es i d within) in
       let b : Annotation = theirs.0 in
       let isb : IsEntryOf s k b (get_or es i d) = theirs.2 in
-      let after : p < start_column s.text b = All-contains (λ a. is_marked_on s.text k a ≡ true
-      → p < start_column s.text a) marks b right theirs.1 isb.marked in
+      let after : p < start_column s.text b = grind (arith, common_steps, start_column, b, theirs, isb, theirs.1, isb.marked) in
       omega (arith, isb.start, after)
 
   -- a line that qualifies has an entry
   pub some_entry : list_any (is_marked_on s.text k) marks ≡ true → 0 < length es
-  some_entry some =
-      let found = from_any (is_marked_on s.text k) marks some in
-      let own = entry_of_span found.0 found.1 found.2 in
-      omega (arith, own.1.1)
+  some_entry some = grind (arith, from_any, entry_of_span)
 
   -- where no span on the line has a label that shows anything, no entry has one
   pub unlabelled_entries : All (λ a. is_marked_on s.text k a ≡ true → shown_label a ≡ []) marks → All (λ e. label_text e ≡ []) es
@@ -197,9 +184,8 @@ module _ (dropped : ℕ) (es : List LineAnnotation) (clear : All (λ e. dropped 
             let own = unshifted_entry other inside in
             let start : other.start.display ≡ own.0.start.display - dropped = ap (λ (x : LineAnnotation). x.start.display) own.2 in
             let end : other.end.display ≡ own.0.end.display - dropped = ap (λ (x : LineAnnotation). x.end.display) own.2 in
-            let narrow : entry.entry_width e < entry.entry_width own.0 = mark.primary_wins unprimary own.0 own.1
-            (omega (arith, own.3, start, covers.0, right, mark.covers.0), omega (arith, own.3, end, covers.1, right, mark.covers.0))
-            (ap (λ (x : LineAnnotation). x.kind) (sym own.2) ∙ primary) in
+            let narrow : entry.entry_width e < entry.entry_width own.0 =
+            grind (arith, common_steps, own, start, right, end, mark.primary_wins, own.0, own.1, own.3, mark.covers.0, own.2) in
             omega (arith, narrow, start, end, own.3, right, covers.0, covers.1, mark.covers.0, mark.covers.1);
       }
 

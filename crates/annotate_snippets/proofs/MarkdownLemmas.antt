@@ -1,4 +1,5 @@
 -- A report in Markdown: what is added piece by piece, that no fence stands in a page, and what is read of a line.
+use Rattle.std.proofs.lemmas.Grind.{common_steps}
 use Rattle.annotate_snippets.proofs.Common.{◌≡◌, ◌∙◌, ℕ, zero, suc, ◌+◌, ◌≤◌, ◌&&◌, Bool, true, false, cond, Option, Some, eqb, inl}
 use Rattle.annotate_snippets.proofs.Common.{inr, max, not, List, [], ◌∷◌, ◌++◌, length, map, replicate, arith, refl, sym, ap, ap₂, encode_utf8_all}
 use Rattle.annotate_snippets.proofs.Common.{and_left, and_right, cases_Bool, eqb-true, false≢true, flat_map-append, encodes-append, is_ascii_punctuation}
@@ -13,9 +14,7 @@ use Rattle.annotate_snippets.specs.Markdown.{as_read}
 
 -- one character more
 pub escapes-push : (cs : List ℕ) (c : ℕ) → encode_utf8_all (escaped_text cs) ++ encode_utf8_all (escaped c) ≡ encode_utf8_all (escaped_text (cs ++ c ∷ []))
-escapes-push cs c =
-    sym (encodes-append (escaped_text cs) (escaped c))
-    ∙ ap encode_utf8_all (ap (λ t. escaped_text cs ++ t) (sym (append-nil (escaped c))) ∙ sym (flat_map-append escaped cs (c ∷ [])))
+escapes-push cs c = grind (arith, encodes-append, encode_utf8_all, append-nil, flat_map-append)
 
 -- pieces that are added one after the other are added together
 pub added-then : (old a b : List ℕ) → (old ++ encode_utf8_all a) ++ encode_utf8_all b ≡ old ++ encode_utf8_all (a ++ b)
@@ -61,9 +60,7 @@ linked-added old text address new₁ new₂ new₃ new₄ new₅ opened shown be
 pub bold-added : (old line new₁ new₂ new₃ : List ℕ) → eqb (length line) 0 ≡ false → new₁ ≡ old ++ 42 ∷ 42 ∷ [] → new₂ ≡ new₁ ++ line
     → new₃ ≡ new₂ ++ 42 ∷ 42 ∷ 10 ∷ 10 ∷ [] → new₃ ≡ old ++ bold_line line
 bold-added old [] new₁ new₂ new₃ some opened shown closed = absurd (false≢true (sym some))
-bold-added old (b ∷ bs) new₁ new₂ new₃ some opened shown closed =
-    closed ∙ ap (λ a. a ++ (42 ∷ 42 ∷ 10 ∷ 10 ∷ [])) (shown ∙ ap (λ a. a ++ (b ∷ bs)) opened ∙ append_assoc old (42 ∷ 42 ∷ []) (b ∷ bs))
-    ∙ append_assoc old ((42 ∷ 42 ∷ []) ++ (b ∷ bs)) (42 ∷ 42 ∷ 10 ∷ 10 ∷ [])
+bold-added old (b ∷ bs) new₁ new₂ new₃ some opened shown closed = grind (arith, append_assoc)
 
 -- an id that has a text
 pub id-some : (hidden : Bool) (id : Option Id) (one : Id) (text : List ℕ) → id ≡ Some one → option_map cow_str_bytes one.id ≡ Some text
@@ -83,9 +80,7 @@ id-added old before linked after new₁ new₂ new₃ opened shown closed =
 pub line-added : (old name id colon text new₁ new₂ new₃ new₄ : List ℕ) → old ≡ [] → new₁ ≡ old ++ encode_utf8_all name
     → new₂ ≡ new₁ ++ encode_utf8_all id → new₃ ≡ new₂ ++ encode_utf8_all colon → new₄ ≡ new₃ ++ encode_utf8_all text
     → new₄ ≡ encode_utf8_all (((name ++ id) ++ colon) ++ text)
-line-added old name id colon text new₁ new₂ new₃ new₄ none named marked led last =
-    last ∙ ap (λ a. a ++ encode_utf8_all text) (led ∙ ap (λ a. a ++ encode_utf8_all colon) (marked ∙ ap (λ a. a ++ encode_utf8_all id) named))
-    ∙ four old name id colon text ∙ ap (λ a. a ++ encode_utf8_all (((name ++ id) ++ colon) ++ text)) none
+line-added old name id colon text new₁ new₂ new₃ new₄ none named marked led last = grind (arith, encode_utf8_all, four)
 
 -- ---- runs
 
@@ -109,30 +104,20 @@ runs-le longest run k (b ∷ before) after le =
 
 -- a fence for a page doesn't stand in it
 pub unfenced : (page before after : List ℕ) → page ≡ (before ++ fence page) ++ after → ⊥
-unfenced page before after is =
-    let longest : ℕ = longest_run 0 0 page in
-    let found : max 2 longest + 1 ≤ longest_run 0 0 (before ++ (fence page ++ after)) = runs-le 0 0 (max 2 longest + 1) before after (omega arith) in
-    let same : longest_run 0 0 (before ++ (fence page ++ after)) ≡ longest = ap (longest_run 0 0) (sym (is ∙ append_assoc before (fence page) after)) in
-    absurd (omega (arith, found, same))
+unfenced page before after is = grind (arith, runs-le, append_assoc)
 
 -- ---- what is read
 
 -- a character that isn't punctuation is no backslash
 no-backslash : (c : ℕ) → is_ascii_punctuation c ≡ false → eqb c 92 ≡ false
-no-backslash c plain =
-    elim (cases_Bool (eqb c 92)) [
-      | inl is ↦ absurd (false≢true (sym plain ∙ ap is_ascii_punctuation (eqb-true c 92 is)))
-      | inr none ↦ none
-    ]
+no-backslash c plain = grind (arith, cases_Bool, false≢true, eqb-true)
 
 read-plain : (after : Bool) (c : ℕ) (cs : List ℕ) → (eqb c 92 && not after) ≡ false → as_read after (c ∷ cs) ≡ c ∷ as_read false cs
 read-plain after c cs other = ap (λ b. cond b (as_read true cs) (c ∷ as_read false cs)) other
 
 bare-plain : (after : Bool) (c : ℕ) (cs : List ℕ) → (eqb c 92 && not after) ≡ false → (is_ascii_punctuation c && not after) ≡ false
     → bare_marks after (c ∷ cs) ≡ bare_marks false cs
-bare-plain after c cs other none =
-    ap (λ b. cond b (bare_marks true cs) (cond (is_ascii_punctuation c && not after) (c ∷ bare_marks false cs) (bare_marks false cs))) other
-    ∙ ap (λ b. cond b (c ∷ bare_marks false cs) (bare_marks false cs)) none
+bare-plain after c cs other none = grind arith
 
 abbrev blank : ℕ → ℕ
 blank c = cond (eqb c 10) 32 c
@@ -147,11 +132,7 @@ blank-plain c plain = by (eqb c 10)
 
 -- a line feed is no punctuation
 blank-same : (c : ℕ) → is_ascii_punctuation c ≡ true → blank c ≡ c
-blank-same c marks =
-    elim (cases_Bool (eqb c 10)) [
-      | inl feed ↦ absurd (false≢true (sym (ap is_ascii_punctuation (eqb-true c 10 feed)) ∙ marks))
-      | inr other ↦ ap (λ b. cond b 32 c) other
-    ]
+blank-same c marks = grind (arith, cases_Bool, false≢true, eqb-true)
 
 escaped-mark : (c : ℕ) → is_ascii_punctuation c ≡ true → escaped c ≡ 92 ∷ c ∷ []
 escaped-mark c marks = ap (λ b. cond b (92 ∷ c ∷ []) (blank c ∷ [])) marks
@@ -164,26 +145,14 @@ pub reads-text : (cs : List ℕ) → as_read false (escaped_text cs) ≡ map bla
 reads-text [] = refl
 reads-text (c ∷ cs) =
     elim (cases_Bool (is_ascii_punctuation c)) [
-      | inl marks ↦ ap (λ t. as_read false (t ++ escaped_text cs)) (escaped-mark c marks)
-          ∙ read-plain true c (escaped_text cs) (and_right (eqb c 92) false refl)
-          ∙ ap₂ (λ (d : ℕ) (ds : List ℕ). d ∷ ds) (sym (blank-same c marks)) (reads-text cs)
-      | inr plain ↦ ap (λ t. as_read false (t ++ escaped_text cs)) (escaped-plain c plain)
-          ∙ read-plain false (blank c) (escaped_text cs) (and_left (eqb (blank c) 92) true (no-backslash (blank c) (blank-plain c plain)))
-          ∙ ap (λ ds. blank c ∷ ds) (reads-text cs)
+      | inl marks ↦ grind (arith, common_steps, reads-text cs, as_read, escaped-mark, read-plain, and_right, ap₂, blank-same)
+      | inr plain ↦ grind (arith, common_steps, reads-text cs, as_read, escaped-plain, read-plain, and_left, no-backslash, blank-plain)
     ]
 
 -- and has no markup
 pub bares-nothing : (cs : List ℕ) → bare_marks false (escaped_text cs) ≡ []
 bares-nothing [] = refl
-bares-nothing (c ∷ cs) =
-    elim (cases_Bool (is_ascii_punctuation c)) [
-      | inl marks ↦ ap (λ t. bare_marks false (t ++ escaped_text cs)) (escaped-mark c marks)
-          ∙ bare-plain true c (escaped_text cs) (and_right (eqb c 92) false refl) (and_right (is_ascii_punctuation c) false refl)
-          ∙ bares-nothing cs
-      | inr plain ↦ ap (λ t. bare_marks false (t ++ escaped_text cs)) (escaped-plain c plain)
-          ∙ bare-plain false (blank c) (escaped_text cs) (and_left (eqb (blank c) 92) true (no-backslash (blank c) (blank-plain c plain)))
-          (and_left (is_ascii_punctuation (blank c)) true (blank-plain c plain)) ∙ bares-nothing cs
-    ]
+bares-nothing (c ∷ cs) = grind (arith, bares-nothing cs, cases_Bool, escaped-mark, bare-plain, escaped-plain, and_left, no-backslash, blank-plain)
 
 -- ---- the report
 

@@ -1,14 +1,13 @@
 -- Where controls are masked, no text of the report that is shown holds one: masking leaves none, and what is made of it then brings none.
-use Rattle.annotate_snippets.proofs.Common.{◌≡◌, ◌⊎◌, inl, inr, ℕ, Bool, true, false, List, [], ◌∷◌, ◌++◌, Option, None, Some, All}
-use Rattle.annotate_snippets.proofs.Common.{IfSome, codes, map, refl, sym, ap, subst, arith, nat_tests, All-append, All-cons, All-contains, All-head, All-nil}
-use Rattle.annotate_snippets.proofs.Common.{All-tail, All-weaker, cow_str_bytes, AllZip, Contains, flat_map, list_any, Global, CowStr, Range, name_of}
-use Rattle.annotate_snippets.proofs.Common.{shown_name, SameOption, SourceSeen, standard_name_of, Level, LevelName, Standard, Own, Annotation, Element, Message}
-use Rattle.annotate_snippets.proofs.Common.{Cause, Suggestion, Origin, Padding, Group, Id, Snippet, Title, wrapped-chars, IsAnnotationMasked, IsElementMasked}
-use Rattle.annotate_snippets.proofs.Common.{IsGroupMasked, IsIdMasked, IsNameMasked, IsPatchMasked, IsTitleMasked, IsElementWrapped, IsGroupWrapped}
-use Rattle.annotate_snippets.proofs.Common.{IsTextWrapped, IsTitleWrapped, room_of_message, room_of_title, context_spans, visible_mark, is_masked, IsTextMasked}
-use Rattle.annotate_snippets.proofs.Common.{mask_of, masked, masked_in, IsGroupTaken, Stays, IsElementWithContext, IsGroupWithContext, IsSnippetWithContext}
-use Rattle.annotate_snippets.proofs.Common.{LevelInner, Error, Warning, Info, Note, Help, norm, shown, each-fails, HasNoControls, IsClean, IsCleanElement}
-use Rattle.annotate_snippets.proofs.Common.{IsCleanTitle}
+use Rattle.annotate_snippets.proofs.Common.{◌≡◌, ℕ, Bool, true, false, List, [], ◌∷◌, ◌++◌, Option, None, Some, All, IfSome, codes, map, refl}
+use Rattle.annotate_snippets.proofs.Common.{sym, subst, arith, nat_tests, All-append, All-cons, All-head, All-nil, All-tail, All-weaker, cow_str_bytes, AllZip}
+use Rattle.annotate_snippets.proofs.Common.{flat_map, list_any, Global, CowStr, Range, name_of, shown_name, SameOption, standard_name_of, Level, LevelName}
+use Rattle.annotate_snippets.proofs.Common.{Standard, Own, Annotation, Element, Message, Cause, Suggestion, Origin, Padding, Group, Id, Snippet, Title}
+use Rattle.annotate_snippets.proofs.Common.{wrapped-chars, IsAnnotationMasked, IsElementMasked, IsGroupMasked, IsIdMasked, IsNameMasked, IsPatchMasked}
+use Rattle.annotate_snippets.proofs.Common.{IsTitleMasked, IsElementWrapped, IsGroupWrapped, IsTextWrapped, IsTitleWrapped, room_of_message, visible_mark}
+use Rattle.annotate_snippets.proofs.Common.{is_masked, IsTextMasked, mask_of, masked, masked_in, IsGroupTaken, Stays, IsElementWithContext, IsGroupWithContext}
+use Rattle.annotate_snippets.proofs.Common.{IsSnippetWithContext, LevelInner, Error, Warning, Info, Note, Help, norm, shown, each-fails, HasNoControls, IsClean}
+use Rattle.annotate_snippets.proofs.Common.{IsCleanElement, IsCleanTitle}
 use Rattle.std.specs.Str.{chars}
 use Rattle.snippet_model.specs.declared.level.LevelName.TheVariants.{Hidden}
 use Rattle.annotate_snippets.proofs.PairedLemmas.{all-second}
@@ -128,12 +127,7 @@ added-clean (a ∷ marks) spans all =
 
 module _ (before after : ℕ) where
   cause-around : (a b : Snippet Annotation) → IsSnippetWithContext before after a b → IsCleanElement (Cause a) → IsCleanElement (Cause b)
-  cause-around a b is clean = (
-    subst (λ (s : SourceSeen). IsClean (cow_str_bytes s.text)) (sym is.source) clean.0,
-    subst (λ (path : Option (CowStr Global)). IfSome path (λ t. IsClean (cow_str_bytes t))) (sym is.path) clean.1,
-    subst (All (λ (m : Annotation). IfSome m.label (λ t. IsClean (cow_str_bytes t)))) (sym is.markers)
-        (added-clean a.markers.items (context_spans before after a) clean.2),
-  )
+  cause-around a b is clean = grind (arith, added-clean, is.source, clean.0, is.path, clean.1, is.markers, a.markers.items, clean.2)
 
   element-around : (a b : Element) → IsElementWithContext before after a b → IsCleanElement a → IsCleanElement b
   element-around (Message a) (Message b) is clean = subst (λ m. IsCleanElement (Message m)) (sym is) clean
@@ -151,20 +145,11 @@ module _ (before after : ℕ) where
 -- ---- wrapped titles and messages
 
 text-wrapped : (room : ℕ) (trusted : Bool) (a b : CowStr Global) → IsTextWrapped room trusted a b → IsClean (cow_str_bytes a) → IsClean (cow_str_bytes b)
-text-wrapped room trusted a b is clean =
-    let given : List ℕ = chars (cow_str_bytes a) in
-    All-weaker (λ c. (c ≡ 10) ⊎ Contains given c) Clean (λ c own. elim own [
-      | inl feed ↦ ap is_masked feed
-      | inr here ↦ All-contains Clean given c clean here
-    ]) (chars (cow_str_bytes b)) (subst (All (λ c. (c ≡ 10) ⊎ Contains given c)) (sym is) (wrapped-chars room trusted given))
+text-wrapped room trusted a b is clean = grind (arith, All-weaker, wrapped-chars)
 
 module _ (term_width gutter : ℕ) where
   title-wrapped : (a b : Title) → IsTitleWrapped term_width a b → IsCleanTitle a → IsCleanTitle b
-  title-wrapped a b is clean = (
-    subst (λ (level : Level). IsClean (name_of level)) (sym is.0) clean.0,
-    subst (λ (id : Option Id). IfSome id (λ (i : Id). IfSome i.id (λ t. IsClean (cow_str_bytes t)))) (sym is.1) clean.1,
-    text-wrapped (room_of_title term_width a) a.allows_styling a.text b.text is.2 clean.2,
-  )
+  title-wrapped a b is clean = grind (arith, text-wrapped, is.0, clean.0, is.1, clean.1, a.allows_styling, a.text, b.text, is.2, clean.2)
 
   element-wrapped : (a b : Element) → IsElementWrapped term_width gutter a b → IsCleanElement a → IsCleanElement b
   element-wrapped (Message a) (Message b) is clean = (

@@ -1,16 +1,17 @@
 -- A report whose controls are masked: what it has in common with the one in whose place it is shown, and that no trusted text of it holds a
 -- listed character.
+use Rattle.std.proofs.lemmas.Grind.{common_steps}
 use Rattle.annotate_snippets.proofs.Common.{◌≡◌, ◌∙◌, ℕ, ◌+◌, ◌==◌, Bool, true, false, List, [], ◌∷◌, ◌++◌, Option, None, Some}
-use Rattle.annotate_snippets.proofs.Common.{All, IfSome, if◌then◌else◌, not, nat_lt, arith, count_by, map, refl, sym, ap, ap₂, subst, false≢true}
-use Rattle.annotate_snippets.proofs.Common.{nat_tests, All-append, All-cons, All-head, All-nil, All-tail, All-weaker, sum_by-cons, cow_str_bytes, AllZip}
-use Rattle.annotate_snippets.proofs.Common.{flat_map, position_from, option_map, option_or, option_to_list, Global, CowStr, Range, span_fault, SpanFault}
-use Rattle.annotate_snippets.proofs.Common.{shown_name, SameOption, trusted_of_element, trusted_of_title, trusted_texts, Level, LevelName, Own, Annotation}
-use Rattle.annotate_snippets.proofs.Common.{Element, Message, Cause, Suggestion, Origin, Padding, Group, Id, Patch, Snippet, Title, IsAnnotationMasked}
-use Rattle.annotate_snippets.proofs.Common.{IsElementMasked, IsGroupMasked, IsIdMasked, IsLevelMasked, IsTitleMasked, IsNameMasked, IsPatchMasked}
-use Rattle.annotate_snippets.proofs.Common.{IsSnippetMasked, is_masked, IsTextMasked, mask_of, masked, IsGroupTaken, IsAnyTitle, Edit, edit_of, first_overlap}
-use Rattle.annotate_snippets.proofs.Common.{first_overlap_from, overlap, LevelInner, list_any-norm, shown-unlisted, is_listed, norm, shown, each-fails}
-use Rattle.annotate_snippets.proofs.Common.{id_chars, id_links, text_links, is_drawn, added_lines, element_faults, number_after_lines, number_faults}
-use Rattle.annotate_snippets.proofs.Common.{overlap_faults, refusal_of, span_faults, HasOneLineTexts, RenderError, PatchesOverlap}
+use Rattle.annotate_snippets.proofs.Common.{All, IfSome, if◌then◌else◌, not, nat_lt, arith, map, refl, sym, ap, ap₂, subst, false≢true, nat_tests}
+use Rattle.annotate_snippets.proofs.Common.{All-append, All-cons, All-head, All-nil, All-tail, All-weaker, sum_by-cons, cow_str_bytes, AllZip, flat_map}
+use Rattle.annotate_snippets.proofs.Common.{position_from, option_map, option_to_list, Global, CowStr, Range, span_fault, shown_name, SameOption}
+use Rattle.annotate_snippets.proofs.Common.{trusted_of_element, trusted_of_title, trusted_texts, Level, LevelName, Own, Annotation, Element, Message, Cause}
+use Rattle.annotate_snippets.proofs.Common.{Suggestion, Origin, Padding, Group, Id, Patch, Snippet, Title, IsAnnotationMasked, IsElementMasked, IsGroupMasked}
+use Rattle.annotate_snippets.proofs.Common.{IsIdMasked, IsLevelMasked, IsTitleMasked, IsNameMasked, IsPatchMasked, IsSnippetMasked, is_masked, IsTextMasked}
+use Rattle.annotate_snippets.proofs.Common.{mask_of, masked, IsGroupTaken, IsAnyTitle, Edit, edit_of, first_overlap, first_overlap_from, overlap, LevelInner}
+use Rattle.annotate_snippets.proofs.Common.{list_any-norm, shown-unlisted, is_listed, norm, shown, each-fails, id_links, text_links, is_drawn, added_lines}
+use Rattle.annotate_snippets.proofs.Common.{element_faults, number_after_lines, number_faults, overlap_faults, span_faults, HasOneLineTexts, RenderError}
+use Rattle.annotate_snippets.proofs.Common.{PatchesOverlap}
 use Rattle.std.proofs.Common.{append-nil, chars}
 use Rattle.annotate_snippets.proofs.AlignedLemmas.{aligned-fault, aligned-feeds, aligned-lines}
 use Rattle.annotate_snippets.proofs.OneLineTexts.{IsNoFeed, IsOneLineElement, IsOneLineId, IsOneLineLabel, IsOneLineName, IsOneLineText}
@@ -29,9 +30,7 @@ position-bare d n (e ∷ es) = ap (λ (later : Option ℕ). if overlap d e then 
 
 overlaps-bare : (n : ℕ) (es : List Edit) → first_overlap_from n (map bare es) ≡ first_overlap_from n es
 overlaps-bare n [] = refl
-overlaps-bare n (e ∷ es) =
-    ap₂ (λ (here : Option ℕ) (later : Option (ℕ × ℕ)). option_or (option_map (λ k. (n, k)) here) later) (position-bare e (n + 1) es)
-    (overlaps-bare (n + 1) es)
+overlaps-bare n (e ∷ es) = grind (arith, overlaps-bare (n + 1) es, ap₂, position-bare)
 
 bare-same : (ps qs : List Patch) → AllZip IsPatchMasked ps qs → map bare (map edit_of qs) ≡ map bare (map edit_of ps)
 bare-same [] [] pairs = refl
@@ -51,18 +50,13 @@ added-same [] [] pairs = refl
 added-same [] (q ∷ qs) pairs = absurd pairs
 added-same (p ∷ ps) [] pairs = absurd pairs
 added-same (p ∷ ps) (q ∷ qs) pairs =
-    let feeds : Patch → ℕ = λ x. count_by (λ b. b == 10) (cow_str_bytes x.replacement) in
-    sum_by-cons feeds q qs
-    ∙ ap₂ (λ (m n : ℕ). m + n) (aligned-feeds (cow_str_bytes p.replacement) (cow_str_bytes q.replacement) pairs.0.1.1) (added-same ps qs pairs.1)
-    ∙ sym (sum_by-cons feeds p ps)
+    grind (arith, common_steps, added-same ps qs pairs.1, sum_by-cons, ap₂, aligned-feeds, p.replacement, q.replacement, pairs.0.1.1, pairs.1)
 
 module _ (group element : ℕ) where
   -- a span has the faults that it had
   span-same : (n : ℕ) (source text : List ℕ) (given span : Range ℕ) → ((start end : ℕ) → span_fault text start end ≡ span_fault source start end) → span ≡ given
       → span_faults group element text n span ≡ span_faults group element source n given
-  span-same n source text given span same is =
-      ap (span_faults group element text n) is
-      ∙ ap (λ (fault : Option SpanFault). option_to_list (option_map (refusal_of group element n) fault)) (same given.start given.end)
+  span-same n source text given span same is = grind (arith, given.start, given.end)
 
   cause-same : (a b : Snippet Annotation) → IsSnippetMasked IsAnnotationMasked a b
       → element_faults group element (Cause b) ≡ element_faults group element (Cause a)
@@ -114,12 +108,8 @@ unlisted-mask c is = grind (arith, nat_tests)
 
 links-mask : (address : Option (List ℕ)) (c : ℕ) (is : Bool) (xs ys : List ℕ) → is_masked c ≡ is → text_links address ys ≡ text_links address xs
     → text_links address (shown (mask_of c) ++ ys) ≡ text_links address (shown c ++ xs)
-links-mask address c true xs ys is same =
-    ap (λ (front : List ℕ). text_links address (front ++ ys)) (shown-unlisted (mask_of c) (unlisted-mask c is))
-    ∙ sym (ap (λ (front : List ℕ). text_links address (front ++ xs)) (shown-unlisted c (unlisted-masked c is)))
-links-mask address c false xs ys is same =
-    ap (λ (t : Bool). text_links address (shown (if t then (if nat_lt c 0x800 then 0xA4 else 0xFFFD) else c) ++ ys)) is
-    ∙ text_links-after address (shown c) xs ys same
+links-mask address c true xs ys is same = grind (arith, shown-unlisted, unlisted-mask, unlisted-masked)
+links-mask address c false xs ys is same = grind (arith, nat_lt, text_links-after)
 
 links-masked : (address : Option (List ℕ)) (cs : List ℕ) → text_links address (norm (masked cs)) ≡ text_links address (norm cs)
 unfolding norm
@@ -133,17 +123,13 @@ links-id-text : (address : Option (List ℕ)) (a b : Option (CowStr Global)) →
 links-id-text address None None is = refl
 links-id-text address None (Some b) is = cc
 links-id-text address (Some a) None is = absurd is
-links-id-text address (Some a) (Some b) is =
-    ap (text_links address) (append-nil (norm (chars (cow_str_bytes b)))) ∙ ap (λ (cs : List ℕ). text_links address (norm cs)) is
-    ∙ links-masked address (chars (cow_str_bytes a)) ∙ ap (text_links address) (sym (append-nil (norm (chars (cow_str_bytes a)))))
+links-id-text address (Some a) (Some b) is = grind (arith, append-nil, links-masked)
 
 links-id : (a b : Option Id) → SameOption IsIdMasked a b → id_links true b ≡ id_links true a
 links-id None None is = refl
 links-id None (Some b) is = cc
 links-id (Some a) None is = absurd is
-links-id (Some a) (Some b) is =
-    ap (λ (url : Option (CowStr Global)). text_links (option_map cow_str_bytes url) (id_chars (Some b))) is.1
-    ∙ links-id-text (option_map cow_str_bytes a.url) a.id b.id is.0
+links-id (Some a) (Some b) is = grind (arith, links-id-text, is.1, a.url, a.id, b.id, is.0)
 
 -- ---- trusted texts
 
@@ -206,13 +192,7 @@ drawn-masked (Padding a) (Padding b) is = refl
 drawn-masked a b is = absurd is
 
 pub mask-faithful : IsFaithful IsTitleMasked IsElementMasked
-mask-faithful = record {
-  faults = element-faults;
-  links = λ a b is. links-id a.id b.id is.1;
-  trusted_title = title-trusted IsTextOf only-of;
-  trusted = element-trusted IsTextOf only-of;
-  drawn = drawn-masked;
-}
+mask-faithful = grind (arith, element-faults, links-id, title-trusted, only-of, element-trusted, drawn-masked)
 
 -- ---- texts of one line
 
@@ -261,9 +241,7 @@ element-line a b is plain = absurd is
 
 -- labels, paths, ids and names of levels hold no line feed where they held none
 pub masked-line : (groups shown : List Group) → AllZip IsGroupMasked groups shown → HasOneLineTexts groups → HasOneLineTexts shown
-masked-line groups shown pairs plain =
-    line-made IsTitleMasked IsElementMasked (λ a b is line. (level-line a.level b.level is.0 line.0, id-line a.id b.id is.1 line.1)) element-line
-    groups shown pairs plain
+masked-line groups shown pairs plain = grind (arith, line-made, level-line, id-line, element-line)
 
 -- ---- what masking asks
 

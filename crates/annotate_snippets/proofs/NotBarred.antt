@@ -1,9 +1,9 @@
 -- Rows without the bars of spans, and with others: each contradicts what is said of bars.
-use Rattle.annotate_snippets.proofs.Common.{◌≡◌, ◌≢◌, ◌⊎◌, ℕ, ◌+◌, ◌<◌, ◌≤◌, Bool, true, false, List, ◌∷◌, ◌++◌}
-use Rattle.annotate_snippets.proofs.Common.{All, sym, ap, ◌∙◌, arith, inl, inr, slice_index_or, cow_str_bytes, both_ways, cases_eq, All-weaker}
-use Rattle.annotate_snippets.proofs.Common.{Annotation, Snippet, Cell, SPACE, unlinked_cell, strokes_of, underline_role, DecorStyle, Ascii, Unicode, is_long}
-use Rattle.annotate_snippets.proofs.Common.{touches, first_line, last_line, cell_at, Layout, Bar, IsNoBar, end_corner, Elision, NamedRow, OfferedLine, Other}
-use Rattle.annotate_snippets.proofs.Common.{RemovedLine, RowName, SourceRow, rows_below, shows_lines, ShowsBars, bar_beside, bar_of_span, line_beside}
+use Rattle.annotate_snippets.proofs.Common.{◌≡◌, ◌⊎◌, ℕ, ◌+◌, ◌<◌, ◌≤◌, Bool, true, false, List, ◌∷◌, ◌++◌, All, sym, ap}
+use Rattle.annotate_snippets.proofs.Common.{◌∙◌, arith, inl, inr, slice_index_or, cow_str_bytes, cases_eq, All-weaker, Annotation, Snippet, Cell, SPACE}
+use Rattle.annotate_snippets.proofs.Common.{unlinked_cell, strokes_of, underline_role, DecorStyle, Ascii, Unicode, is_long, first_line, last_line, cell_at}
+use Rattle.annotate_snippets.proofs.Common.{Layout, Bar, IsNoBar, end_corner, Elision, NamedRow, OfferedLine, Other, RemovedLine, RowName, SourceRow}
+use Rattle.annotate_snippets.proofs.Common.{rows_below, shows_lines, ShowsBars, bar_beside, bar_of_span, line_beside}
 use Rattle.std.proofs.Common.{Contains}
 use Rattle.annotate_snippets.proofs.SpanPlaces.{bar_cell_of}
 
@@ -78,11 +78,7 @@ module _ (layout : Layout) (s : Snippet Annotation) (rows : List NamedRow) (show
   -- a cell of bars, in a snippet that has no span of several lines
   clear_of_bars : All (λ a. is_long (cow_str_bytes s.source.text) a ≡ false) s.markers.items → (c : ℕ) → layout.gutter + 3 ≤ c → c < layout.code
       → (slice_index_or row.cells c SPACE ≡ SPACE) ⊎ ((shows_lines row.name ≡ false) × IsNoBar layout.decor (slice_index_or row.cells c SPACE))
-  clear_of_bars none c from to =
-      shown.others above row below is c from to (All-weaker (λ (a : Annotation). is_long (cow_str_bytes s.source.text) a ≡ false)
-      (λ a. is_long (cow_str_bytes s.source.text) a ≡ true → touches (cow_str_bytes s.source.text) a (line_beside above row.name) ≡ true
-      → bar_cell_of layout s a ≢ c)
-      (λ a short long touched same. both_ways (is_long (cow_str_bytes s.source.text) a) short long) s.markers.items none)
+  clear_of_bars none c from to = grind (arith, All-weaker)
 
   -- a bar of no span, beside a line or lines that are left out, in a snippet that has no span of several lines:
   --
@@ -90,11 +86,7 @@ module _ (layout : Layout) (s : Snippet Annotation) (rows : List NamedRow) (show
   pub bar_of_no_span : All (λ a. is_long (cow_str_bytes s.source.text) a ≡ false) s.markers.items → shows_lines row.name ≡ true → (c : ℕ)
       → layout.gutter + 3 ≤ c
       → c < layout.code → (slice_index_or row.cells c SPACE ≡ SPACE → ⊥) → ⊥
-  bar_of_no_span none shows c from to filled =
-      elim (clear_of_bars none c from to) [
-        | inl space ↦ filled space
-        | inr below_a_line ↦ both_ways (shows_lines row.name) below_a_line.0 shows
-      ]
+  bar_of_no_span none shows c from to filled = grind (arith, clear_of_bars)
 
   -- nor below a line, whatever bar that is:
   --
@@ -103,15 +95,7 @@ module _ (layout : Layout) (s : Snippet Annotation) (rows : List NamedRow) (show
   pub bar_of_no_span_below : All (λ a. is_long (cow_str_bytes s.source.text) a ≡ false) s.markers.items → (bar : Bar)
       → layout.gutter + 3 ≤ layout.gutter + 2 + bar.depth → layout.gutter + 2 + bar.depth < layout.code
       → slice_index_or row.cells (layout.gutter + 2 + bar.depth) SPACE ≡ bar_beside layout Other bar → ⊥
-  bar_of_no_span_below none bar from to there =
-      let c : ℕ = layout.gutter + 2 + bar.depth in
-      elim (clear_of_bars none c from to) [
-        | inl space ↦ no_space layout Other bar (sym there ∙ space)
-        | inr below_a_line ↦ elim below_a_line.1 [
-          | inl space ↦ no_space layout Other bar (sym there ∙ space)
-          | inr line ↦ no_line layout bar line.0 (sym there ∙ line.1)
-        ]
-      ]
+  bar_of_no_span_below none bar from to there = grind (arith, clear_of_bars, bar.depth)
 
   -- a space in the cell of a bar, beside the last line of its span:
   --

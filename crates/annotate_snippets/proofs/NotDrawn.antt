@@ -112,15 +112,11 @@ row_below_an_elision r layout around s rows shown above gap row more is elided o
 pub punctuation_left_of_the_code : (s : Snippet Annotation) (k dropped : ℕ)
     → ShowsSourceLine plain_settings layout s k dropped (text_cells LineNumber (codes "1") ++ SPACE ∷ text_cells LineNumber (codes "|:")
     ++ text_cells Quotation (codes "ab")) → ⊥
-punctuation_left_of_the_code s k dropped shown =
-    let letter : ◌≡◌ {A = ℕ} 58 32 = ap (λ (cell : Cell). cell.ch) shown.space in
-    absurd (omega (arith, letter))
+punctuation_left_of_the_code s k dropped shown = grind (arith, shown.space)
 
 -- a full stop in the gutter of a row below a line, be it the last or not:
 --
 --     . | ^^
 pub punctuation_in_the_gutter : (closes : Bool) (cells : List Cell)
     → IsRowBelow Ascii layout closes (text_cells LineNumber (codes ".") ++ SPACE ∷ text_cells LineNumber (codes "|") ++ cells) → ⊥
-punctuation_in_the_gutter closes cells shown =
-    let letter : ◌≡◌ {A = ℕ} 46 32 = ap (λ (cell : Cell). cell.ch) (shown.left 0 (omega arith) ∙ bare_row_left Ascii 1 closes 0 (omega arith)) in
-    absurd (omega (arith, letter))
+punctuation_in_the_gutter closes cells shown = grind (arith, bare_row_left, shown.left)

@@ -1,11 +1,11 @@
 -- What is not kept: rows of a line that a report leaves out, on a small report, contradict the definitions of what rows show.
-use Rattle.annotate_snippets.proofs.Common.{◌≡◌, ℕ, zero, suc, ◌<◌, ◌==◌, ◌&&◌, Bool, true, false, List, [], ◌∷◌, ◌++◌, codes}
-use Rattle.annotate_snippets.proofs.Common.{length, drop, refl, sym, ap, subst, ◌∙◌, arith, is_ascii_alphanumeric, cow_str_bytes, slice_index_or}
-use Rattle.annotate_snippets.proofs.Common.{append_cancel_left, append_cancel_right, length-append, filter_map-append, Cell, SPACE, text_cells, row_text, Ascii}
-use Rattle.annotate_snippets.proofs.Common.{LineNumber, Quotation, norm, char_width, unicode_width, Snippet, Annotation, Primary, source_lines, start_of}
-use Rattle.annotate_snippets.proofs.Common.{line_of, place_of, shown_lines, chars_at, Elision, RowName, OfferedLine, RemovedLine, SourceRow, Other, NamedRow}
-use Rattle.annotate_snippets.proofs.Common.{lines_named, others, closes_with, cause_head, rows_after_cause, plain_settings, ElementContext, IsRowOf, AreRowsOf}
-use Rattle.annotate_snippets.proofs.Common.{ShowsSnippet}
+use Rattle.std.proofs.lemmas.Grind.{common_steps}
+use Rattle.annotate_snippets.proofs.Common.{◌≡◌, ℕ, zero, suc, ◌==◌, ◌&&◌, Bool, true, false, List, [], ◌∷◌, ◌++◌, codes, length}
+use Rattle.annotate_snippets.proofs.Common.{refl, sym, ap, subst, arith, is_ascii_alphanumeric, slice_index_or, append_cancel_left, append_cancel_right}
+use Rattle.annotate_snippets.proofs.Common.{length-append, filter_map-append, Cell, SPACE, text_cells, Ascii, LineNumber, Quotation, norm, char_width}
+use Rattle.annotate_snippets.proofs.Common.{unicode_width, Snippet, Annotation, Primary, start_of, line_of, place_of, shown_lines, Elision, RowName}
+use Rattle.annotate_snippets.proofs.Common.{OfferedLine, RemovedLine, SourceRow, Other, NamedRow, lines_named, others, closes_with, cause_head}
+use Rattle.annotate_snippets.proofs.Common.{rows_after_cause, plain_settings, ElementContext, IsRowOf, AreRowsOf, ShowsSnippet}
 use Rattle.std.specs.Str.{chars}
 use Rattle.annotate_snippets.proofs.LeftLaws.{unnumbered_below, unnumbered_elided}
 use Rattle.annotate_snippets.proofs.NotShown.{layout, span_of, IsSnippetOf, is_whole, rows_after}
@@ -31,23 +31,11 @@ named_second : (closes : Bool) (s : Snippet Annotation) → IsSnippetOf s two_li
     → name ≡ SourceRow 1
 unfolding chars norm
 named_second closes s is (SourceRow zero) cells rows same shows =
-    let whole : is_whole s.fold (cow_str_bytes s.source.text) s.markers.items
-    ≡ true = subst (λ text. is_whole s.fold text s.markers.items ≡ true) (sym is.source_is)
-    (subst (λ spans. is_whole s.fold two_lines spans ≡ true) (sym is.marks_are) (first_whole s.fold)) in
-    let text : codes "b" ≡ norm (chars_at (cow_str_bytes s.source.text) 0) = subst (λ row.
-    row_text (drop 4 row) ≡ norm (chars_at (cow_str_bytes s.source.text) 0)) same (shows.line.whole whole).1 in
-    let letter : ◌≡◌ {A = ℕ} 98 97 = ap (λ (cs : List ℕ). slice_index_or cs 0 0) (text ∙ ap (λ source. norm (chars_at source 0)) is.source_is) in
-    absurd (omega (arith, letter))
-named_second closes s is (SourceRow (suc k)) cells rows same shows =
-    let within : suc k < 2 = subst (λ source. suc k < length (source_lines source)) is.source_is shows.line.within in
-    let second : suc k ≡ 1 = omega arith in
-    ap SourceRow second
+    grind (arith, first_whole, slice_index_or, s.fold, s.source.text, s.markers.items, is.source_is, is.marks_are, shows.line.whole)
+named_second closes s is (SourceRow (suc k)) cells rows same shows = grind (arith, is.source_is, shows.line.within)
 named_second closes s is (OfferedLine j) cells rows same shows = absurd shows
 named_second closes s is (RemovedLine i) cells rows same shows = absurd shows
-named_second closes s is Elision cells rows same shows =
-    let digit : true ≡ false = subst (λ row. is_ascii_alphanumeric (slice_index_or row 0 SPACE).ch ≡ false) same
-    (unnumbered_elided layout cells shows 0 (omega arith)) in
-    cc
+named_second closes s is Elision cells rows same shows = grind (arith, slice_index_or, unnumbered_elided)
 named_second closes s is Other cells rows same shows =
     let digit : true ≡ false = subst (λ row. is_ascii_alphanumeric (slice_index_or row 0 SPACE).ch ≡ false) same
     (unnumbered_below Ascii layout (closes && length rows == 0) cells shows 0 (omega arith)) in
@@ -55,9 +43,7 @@ named_second closes s is Other cells rows same shows =
 
 -- a list of one number holds no other
 other_number : (before after : List ℕ) → before ++ (1 ∷ after) ≡ 0 ∷ [] → ⊥
-other_number [] after same =
-    let one : ◌≡◌ {A = ℕ} 1 0 = ap (λ (ks : List ℕ). slice_index_or ks 0 0) same in
-    absurd (omega (arith, one))
+other_number [] after same = grind (arith, slice_index_or)
 other_number (k ∷ before) after same =
     absurd (omega (arith, ap length same, length-append before (1 ∷ after)))
 
@@ -84,7 +70,6 @@ fold_ignored s is folds around row before after row_is shown =
     let from_row : AreRowsOf plain_settings layout closes s (row ∷ after) = rows_after closes s before (row ∷ after)
     (subst (AreRowsOf plain_settings layout closes s) same shown.named) in
     let named : row.name ≡ SourceRow 1 = named_second closes s is row.name row.cells after row_is from_row.0 in
-    let kept : lines_named rows ≡ 0 ∷ [] = ap lines_named (sym same) ∙ shown.lines
-    ∙ ap (λ fold. shown_lines fold (cow_str_bytes s.source.text) s.markers.items) folds ∙ ap (λ text. shown_lines true text s.markers.items) is.source_is
-    ∙ ap (shown_lines true two_lines) is.marks_are ∙ first_alone in
+    let kept : lines_named rows ≡ 0 ∷ [] =
+    grind (arith, common_steps, same, first_alone, shown.lines, s.source.text, s.markers.items, is.source_is, is.marks_are) in
     other_number (lines_named before) (lines_named after) (simp (filter_map-append, named) at kept)

@@ -3,8 +3,7 @@ use Rattle.annotate_snippets.proofs.Common.{◌≡◌, ℕ, ◌+◌, ◌<◌, �
 use Rattle.annotate_snippets.proofs.Common.{length, count_by, refl, sym, ap, subst, ◌∙◌, arith, inl, inr, Contains, false≢true, nat_tests, All-contains}
 use Rattle.annotate_snippets.proofs.Common.{All-head, All-tail, sum_by-cons, cell_at, Cell, SPACE, DecorStyle, ElementStyle, LabelPrimary, LabelSecondary}
 use Rattle.annotate_snippets.proofs.Common.{UnderlinePrimary, UnderlineSecondary, Annotation, AnnotationKind, Primary, Context, Visible, Snippet, from_map}
-use Rattle.annotate_snippets.proofs.Common.{is_mark_role, IsStemCell, label_role, Layout, HasStem, ShowsLabel, ShowsLabels, ShownLabel, SpanLabel, is_in_label}
-use Rattle.annotate_snippets.proofs.Common.{labels_ending_on}
+use Rattle.annotate_snippets.proofs.Common.{is_mark_role, label_role, Layout, ShowsLabel, ShowsLabels, ShownLabel, SpanLabel, is_in_label, labels_ending_on}
 use Rattle.std.specs.List.{All}
 use Rattle.std.specs.Prelude.{nat_le, nat_lt}
 
@@ -22,10 +21,7 @@ label_role_is Visible = refl
 -- a label that stands begins with a cell in such a role
 begins : (layout : Layout) (dropped : ℕ) (rows : List (List Cell)) (l : ShownLabel) → 0 < length l.label.text → ShowsLabel layout dropped rows l
     → is_label_role (cell_at rows l.row l.cell).role ≡ true
-begins layout dropped rows l some shows =
-    let first : l.cell + 0 ≡ l.cell = omega arith in
-    ap (λ c. is_label_role (cell_at rows l.row c).role) (sym first) ∙ ap (λ (cell : Cell). is_label_role cell.role) (shows.whole 0 some)
-    ∙ label_role_is l.label.kind
+begins layout dropped rows l some shows = grind (arith, label_role_is, l.cell, l.row, shows.whole, l.label.kind)
 
 -- rows without any cell in the role of labels, below a line on which a span ends that has a label:
 --
@@ -95,10 +91,7 @@ label_over_another decor layout s k dropped rows shows a b spans some_a some_b r
 pub stem_left_out : (decor : DecorStyle) (layout : Layout) (s : Snippet Annotation) (k dropped : ℕ) (rows : List (List Cell))
     → (shows : ShowsLabels decor layout s k dropped rows) → (l : ShownLabel) → Contains shows.labels l → 0 < length l.label.text → (r : ℕ) → 0 < r
     → r < l.row → count_by (is_in_label r l.cell) shows.labels ≡ 0 → cell_at rows r l.cell ≡ SPACE → ⊥
-stem_left_out decor layout s k dropped rows shows l among some r below above none blank =
-    let P : ShownLabel → Type 0 = λ x. 0 < length x.label.text → HasStem decor shows.labels rows x in
-    let stem : IsStemCell decor (cell_at rows r l.cell) = All-contains P shows.labels l shows.led among some r below above none in
-    false≢true (sym (ap (λ (c : Cell). is_mark_role c.role) blank) ∙ stem.1)
+stem_left_out decor layout s k dropped rows shows l among some r below above none blank = grind (arith, false≢true, shows.labels, l.cell, shows.led)
 
 -- no span that ends on line k has a label that shows anything
 abbrev pub HasNoLabel : Snippet Annotation → ℕ → Type 0

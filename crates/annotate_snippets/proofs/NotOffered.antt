@@ -1,14 +1,14 @@
 -- What is not offered: rows of suggestions that are wrong, each on a small report, contradict the definitions of what rows
 -- show.
-use Rattle.annotate_snippets.proofs.Common.{◌≡◌, ◌≢◌, ℕ, ◌-◌, ◌==◌, not, Bool, true, false, List, [], ◌∷◌, ◌++◌, codes, drop}
-use Rattle.annotate_snippets.proofs.Common.{get_or, length, row_text, refl, sym, ap, subst, ◌∙◌, arith, inl, inr, cow_str_bytes, Contains, list_all}
-use Rattle.annotate_snippets.proofs.Common.{eq-eqb, append_cancel_left, All-nil, All-cons, All-head, All-tail, All-weaker, filter_map-append}
-use Rattle.annotate_snippets.proofs.Common.{AllPass-from_list_all, added_mark_of, char_of, removed_sign_of, Cell, SPACE, text_cells, Ascii, Addition}
-use Rattle.annotate_snippets.proofs.Common.{LineNumber, Quotation, norm, char_width, unicode_width, Patch, Snippet, last_byte, lines_of, source_lines, start_of}
-use Rattle.annotate_snippets.proofs.Common.{text_at, line_of, Edit, patched, trimmed_edit, HasNoCr, IsTouched, shown_line, texts_of, kept_before, sandwich}
-use Rattle.annotate_snippets.proofs.Common.{IsOfferable, edits_of, first_given, given_lines, last_reached, is_blank_text, IsBareRow, Ascends, Elision, NamedRow}
-use Rattle.annotate_snippets.proofs.Common.{OfferedLine, RemovedLine, Other, RowName, SourceRow, lines_offered, others, suggestion_head, plain_settings, Layout}
-use Rattle.annotate_snippets.proofs.Common.{ElementContext, IsOfferedRow, IsSuggestionRow, ShowsSuggestion}
+use Rattle.std.proofs.lemmas.Grind.{common_steps}
+use Rattle.annotate_snippets.proofs.Common.{◌≡◌, ◌≢◌, ℕ, ◌==◌, not, Bool, true, false, List, [], ◌∷◌, ◌++◌, codes, drop, length}
+use Rattle.annotate_snippets.proofs.Common.{row_text, refl, sym, ap, subst, ◌∙◌, arith, inl, inr, cow_str_bytes, Contains, list_all, eq-eqb}
+use Rattle.annotate_snippets.proofs.Common.{append_cancel_left, All-nil, All-cons, All-head, All-tail, All-weaker, filter_map-append, AllPass-from_list_all}
+use Rattle.annotate_snippets.proofs.Common.{Cell, SPACE, text_cells, Ascii, Addition, LineNumber, Quotation, norm, char_width, unicode_width, Patch, Snippet}
+use Rattle.annotate_snippets.proofs.Common.{last_byte, lines_of, source_lines, start_of, text_at, line_of, Edit, patched, trimmed_edit, HasNoCr, IsTouched}
+use Rattle.annotate_snippets.proofs.Common.{shown_line, texts_of, kept_before, sandwich, IsOfferable, edits_of, given_lines, last_reached, is_blank_text}
+use Rattle.annotate_snippets.proofs.Common.{IsBareRow, Ascends, Elision, NamedRow, OfferedLine, RemovedLine, Other, RowName, SourceRow, lines_offered, others}
+use Rattle.annotate_snippets.proofs.Common.{suggestion_head, plain_settings, Layout, ElementContext, IsOfferedRow, IsSuggestionRow, ShowsSuggestion}
 use Rattle.std.specs.List.{All}
 use Rattle.std.specs.Str.{chars}
 use Rattle.snippet_splice.specs.ShownText.{shown_text}
@@ -33,18 +33,13 @@ record IsSnippetOf (s : Snippet Patch) (source : List ℕ) (es : List Edit) : Ty
 -- what is given of a snippet, by its source and its edits
 given_by : (s : Snippet Patch) (source : List ℕ) (es : List Edit) (lines : List (List ℕ)) → IsSnippetOf s source es
     → ((fold : Bool) → texts_of (lines_of (shown_text fold source es)) ≡ lines) → given_lines s ≡ lines
-given_by s source es lines is given =
-    ap (λ text. texts_of (lines_of (shown_text s.fold text (edits_of s)))) is.source_is
-    ∙ ap (λ xs. texts_of (lines_of (shown_text s.fold source xs))) is.edits_are ∙ given s.fold
+given_by s source es lines is given = grind (arith, s.fold, is.source_is, is.edits_are)
 
 -- a row that offers the one line that is given has the characters of that line
 offered_text : (s : Snippet Patch) (source : List ℕ) (es : List Edit) (line : List ℕ) → IsSnippetOf s source es
     → ((fold : Bool) → texts_of (lines_of (shown_text fold source es)) ≡ line ∷ []) → (j : ℕ) (row : List Cell)
     → IsOfferedRow plain_settings Ascii 1 s j row → row_text (drop 4 row) ≡ norm (chars line)
-offered_text s source es line is gives j row offers =
-    let given : given_lines s ≡ line ∷ [] = given_by s source es (line ∷ []) is gives in
-    let first : j - first_given s ≡ 0 = omega (arith, offers.from, offers.within, ap length given) in
-    offers.line ∙ ap (λ k. norm (chars (get_or (given_lines s) k []))) first ∙ ap (λ lines. norm (chars (get_or lines 0 []))) given
+offered_text s source es line is gives j row offers = grind (arith, offers.from, offers.within, offers.line)
 
 -- what stands below the head of a suggestion is its rows
 below_head : {found : List Cell} (s : Snippet Patch) (layout : Layout) (around : ElementContext) (rows : List NamedRow)
@@ -57,10 +52,7 @@ rows_named : {found : List Cell} (s : Snippet Patch) (layout : Layout) → layou
     → (around : ElementContext) (rows : List NamedRow)
     → ShowsSuggestion plain_settings layout around found s (others (suggestion_head plain_settings layout around s) ++ rows)
     → All (λ r. IsSuggestionRow plain_settings Ascii 1 s r.name r.cells) rows
-rows_named s layout narrow ascii around rows shown =
-    subst (λ gutter. All (λ r. IsSuggestionRow plain_settings Ascii gutter s r.name r.cells) rows) narrow
-    (subst (λ decor. All (λ r. IsSuggestionRow plain_settings decor layout.gutter s r.name r.cells) rows) ascii
-    (subst (All (λ r. IsSuggestionRow plain_settings layout.decor layout.gutter s r.name r.cells)) (below_head s layout around rows shown) shown.named))
+rows_named s layout narrow ascii around rows shown = grind (arith, below_head, layout.gutter, layout.decor, shown.named)
 
 -- ---- the source's own lines
 
@@ -78,10 +70,7 @@ gives_ac false = refl
 --     1 + ab
 old_line_offered : (s : Snippet Patch) → IsSnippetOf s (codes "ab") one_edit → (j : ℕ) → IsOfferedRow plain_settings Ascii 1 s j (offering_row (codes "ab")) → ⊥
 unfolding char_width unicode_width norm chars
-old_line_offered s is j offers =
-    let text : codes "ab" ≡ norm (chars (codes "ac")) = offered_text s (codes "ab") one_edit (codes "ac") is gives_ac j (offering_row (codes "ab")) offers in
-    let letter : ◌≡◌ {A = ℕ} 98 99 = ap (λ (cs : List ℕ). get_or cs 1 0) text in
-    absurd (omega (arith, letter))
+old_line_offered s is j offers = grind (arith, offered_text, gives_ac)
 
 -- ---- a second copy
 
@@ -95,17 +84,8 @@ named_first : (s : Snippet Patch) → IsSnippetOf s (codes "ab") one_edit → (n
     → IsSuggestionRow plain_settings Ascii 1 s name cells → name ≡ OfferedLine 0
 named_first s is (SourceRow k) cells same shows = absurd shows
 named_first s is Elision cells same shows = absurd shows
-named_first s is (OfferedLine j) cells same shows =
-    let given : given_lines s ≡ codes "ac" ∷ [] = given_by s (codes "ab") one_edit (codes "ac" ∷ []) is gives_ac in
-    let from : first_given s ≡ 0 = ap (λ text. shown_line s.fold text (edits_of s)) is.source_is ∙ ap (shown_line s.fold (codes "ab")) is.edits_are
-    ∙ from_first s.fold in
-    let at : j ≡ 0 = omega (arith, shows.from, shows.within, ap length given, from) in
-    ap OfferedLine at
-named_first s is (RemovedLine i) cells same shows =
-    let P : List Cell → Type 0 = λ row. (get_or row 2 SPACE).ch ≡ char_of (removed_sign_of Ascii) in
-    let minus : added_mark_of Ascii ≡ char_of (removed_sign_of Ascii) = subst P same shows.minus in
-    let same_sign : false ≡ true = ap (λ c. c == char_of (removed_sign_of Ascii)) minus in
-    cc
+named_first s is (OfferedLine j) cells same shows = grind (arith, gives_ac, from_first, s.fold, is.source_is, is.edits_are, shows.from, shows.within)
+named_first s is (RemovedLine i) cells same shows = grind (arith, shows.minus)
 named_first s is Other cells same shows =
     let digit : false ≡ true = (subst (IsBareRow Ascii 1) same shows).strokes 0 (omega arith) in
     cc
@@ -129,11 +109,7 @@ old_row_named s is (SourceRow k) cells same shows = shows
 old_row_named s is Elision cells same shows = shows
 old_row_named s is (OfferedLine j) cells same shows =
     old_line_offered s is j (subst (IsOfferedRow plain_settings Ascii 1 s j) same shows)
-old_row_named s is (RemovedLine i) cells same shows =
-    let P : List Cell → Type 0 = λ row. (get_or row 2 SPACE).ch ≡ char_of (removed_sign_of Ascii) in
-    let minus : added_mark_of Ascii ≡ char_of (removed_sign_of Ascii) = subst P same shows.minus in
-    let same_sign : false ≡ true = ap (λ c. c == char_of (removed_sign_of Ascii)) minus in
-    cc
+old_row_named s is (RemovedLine i) cells same shows = grind (arith, shows.minus)
 old_row_named s is Other cells same shows =
     let digit : false ≡ true = (subst (IsBareRow Ascii 1) same shows).strokes 0 (omega arith) in
     cc
@@ -193,14 +169,7 @@ no_cr text none =
 -- the promise speaks of a snippet with two edits, where no text has a CR and the source doesn't end with LF
 offerable : (s : Snippet Patch) (source : List ℕ) (e d : Edit) → IsSnippetOf s source (e ∷ d ∷ []) → HasNoCr source → HasNoCr e.text → HasNoCr d.text
     → (last_byte source ≡ 10 → ⊥) → IsOfferable s
-offerable s source e d is none first second unended =
-    record {
-      no_cr = subst HasNoCr (sym is.source_is) none;
-      no_cr_in = subst (All (λ (x : Edit). HasNoCr x.text)) (sym is.edits_are)
-          (All-cons (λ (x : Edit). HasNoCr x.text) e (d ∷ []) first (All-cons (λ (x : Edit). HasNoCr x.text) d [] second
-          (All-nil (λ (x : Edit). HasNoCr x.text))));
-      before = λ k x inside final. absurd (unended (subst (λ text. last_byte text ≡ 10) is.source_is final));
-    }
+offerable s source e d is none first second unended = grind (arith, no_cr, All-cons, All-nil, is.source_is, is.edits_are)
 
 -- so a line of the patched source that is touched and isn't blank is offered, where two lines are given: rows that don't offer
 -- it don't show the snippet
@@ -232,12 +201,7 @@ second_touched =
     record {
       stand = record { from = 2; to = 3 };
       among = (1, omega arith, refl);
-      by = record {
-        place = 2;
-        in_line = record { within = omega arith; from = omega arith; to = inl (omega arith) };
-        from = omega arith;
-        to = inl (omega arith);
-      };
+      by = grind (arith, common_steps);
     }
 
 -- it isn't blank
@@ -283,12 +247,7 @@ rest_touched =
     record {
       stand = record { from = 3; to = 3 };
       among = (1, omega arith, refl);
-      by = record {
-        place = 3;
-        in_line = record { within = omega arith; from = omega arith; to = inl (omega arith) };
-        from = omega arith;
-        to = inr (refl, refl);
-      };
+      by = grind (arith, common_steps);
     }
 
 rest_visible : is_blank_text (text_at (source_lines (patched lines_of_three put_in_and_deleted)) 1) ≡ false
@@ -332,11 +291,7 @@ gives_xb false = refl
 replacement_before_insertion : (s : Snippet Patch) → IsSnippetOf s (codes "a") replaced_and_put_in → (j : ℕ)
     → IsOfferedRow plain_settings Ascii 1 s j (offering_row (codes "bxa")) → ⊥
 unfolding char_width unicode_width norm chars
-replacement_before_insertion s is j offers =
-    let text : codes "bxa" ≡ norm (chars (codes "xb")) = offered_text s (codes "a") replaced_and_put_in (codes "xb") is gives_xb j
-    (offering_row (codes "bxa")) offers in
-    let letter : ◌≡◌ {A = ℕ} 98 120 = ap (λ (cs : List ℕ). get_or cs 0 0) text in
-    absurd (omega (arith, letter))
+replacement_before_insertion s is j offers = grind (arith, offered_text, gives_xb)
 
 -- ---- edits at other bytes
 
@@ -355,8 +310,4 @@ gives_xyzbqd false = refl
 patches_at_old_offsets : (s : Snippet Patch) → IsSnippetOf s (codes "abcd") longer_and_another → (j : ℕ)
     → IsOfferedRow plain_settings Ascii 1 s j (offering_row (codes "xyqbcd")) → ⊥
 unfolding char_width unicode_width norm chars
-patches_at_old_offsets s is j offers =
-    let text : codes "xyqbcd" ≡ norm (chars (codes "xyzbqd")) = offered_text s (codes "abcd") longer_and_another (codes "xyzbqd") is gives_xyzbqd j
-    (offering_row (codes "xyqbcd")) offers in
-    let letter : ◌≡◌ {A = ℕ} 113 122 = ap (λ (cs : List ℕ). get_or cs 2 0) text in
-    absurd (omega (arith, letter))
+patches_at_old_offsets s is j offers = grind (arith, offered_text, gives_xyzbqd)

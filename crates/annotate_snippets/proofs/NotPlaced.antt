@@ -1,11 +1,11 @@
 -- What does not stand there: rows of suggestions in another order, with another number, or of another kind, contradict the definitions.
 use Rattle.annotate_snippets.proofs.Common.{◌≡◌, ℕ, ◌≤◌, ◌==◌, not, true, false, if◌then◌else◌, List, [], ◌∷◌, ◌++◌, Vec}
-use Rattle.annotate_snippets.proofs.Common.{codes, get_or, length, map, take, refl, sym, ap, subst, ◌∙◌, arith, AllZip, append_cancel_left, All-head}
-use Rattle.annotate_snippets.proofs.Common.{All-tail, added_mark_of, char_of, placeholder_of, removed_sign_of, separator_of, Cell, SPACE, text_cells, Ascii}
-use Rattle.annotate_snippets.proofs.Common.{Unicode, LineNumber, Quotation, Removal, Patch, Snippet, start_of, line_of, trimmed_edit, kept_before, sandwich}
-use Rattle.annotate_snippets.proofs.Common.{Begins, Ends, Offers, Removes, SuggestionRow, removed_number, rows_of_suggestion, Opening, one_word, one_word_gives}
-use Rattle.annotate_snippets.proofs.Common.{Global, decimal_digit, row_text, set_right, DecorStyle, is_end, suggestion_rows, number_text, Renderer, NamedRow}
-use Rattle.annotate_snippets.proofs.Common.{RemovedLine, Other, RowName, cells_of, others, suggestion_head, plain_settings, Layout, ElementContext, HasStrokes}
+use Rattle.annotate_snippets.proofs.Common.{codes, get_or, length, map, take, refl, sym, ap, subst, ◌∙◌, arith, append_cancel_left, All-head, All-tail}
+use Rattle.annotate_snippets.proofs.Common.{added_mark_of, char_of, placeholder_of, removed_sign_of, separator_of, Cell, SPACE, text_cells, Ascii, Unicode}
+use Rattle.annotate_snippets.proofs.Common.{LineNumber, Quotation, Removal, Patch, Snippet, start_of, line_of, trimmed_edit, kept_before, sandwich, Begins}
+use Rattle.annotate_snippets.proofs.Common.{Ends, Offers, Removes, SuggestionRow, removed_number, rows_of_suggestion, Opening, one_word, one_word_gives, Global}
+use Rattle.annotate_snippets.proofs.Common.{decimal_digit, row_text, set_right, DecorStyle, is_end, suggestion_rows, number_text, Renderer, NamedRow}
+use Rattle.annotate_snippets.proofs.Common.{RemovedLine, Other, RowName, others, suggestion_head, plain_settings, Layout, ElementContext, HasStrokes}
 use Rattle.annotate_snippets.proofs.Common.{IsSuggestionRow, ShowsSuggestion, name_of_row}
 use Rattle.std.specs.List.{All}
 use Rattle.std.specs.Str.{chars}
@@ -90,14 +90,7 @@ module _ (v : Vec Patch Global) (layout : Layout) (narrow : layout.gutter ≡ 1)
   first_begins : {found : List Cell} (r : Renderer) (first : NamedRow) (rest : List NamedRow)
       → ShowsSuggestion r layout around found foo (others (suggestion_head r layout around foo) ++ (first ∷ rest))
       → HasStrokes layout.decor 1 (Begins Opening) first.cells
-  first_begins r first rest shown =
-      let same : shown.after ≡ first ∷ rest = append_cancel_left (others (suggestion_head r layout around foo)) shown.after (first ∷ rest)
-      (sym shown.rows_are) in
-      let Strokes : ℕ → SuggestionRow → List Cell → Type 0 = HasStrokes layout.decor in
-      let strokes : AllZip (Strokes layout.gutter) foo_rows (cells_of (first ∷ rest)) = subst (λ rows.
-      AllZip (Strokes layout.gutter) rows (cells_of (first ∷ rest))) foo_rows_are
-      (subst (λ rows. AllZip (Strokes layout.gutter) (suggestion_rows around foo) (cells_of rows)) same shown.strokes) in
-      subst (λ gutter. Strokes gutter (Begins Opening) first.cells) narrow strokes.0
+  first_begins r first rest shown = grind (arith, append_cancel_left, foo_rows_are, shown.after, shown.rows_are, shown.strokes, first.cells)
 
   -- so nothing stands over it, as what stands for lines that are left out:
   --

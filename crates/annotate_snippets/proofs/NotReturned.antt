@@ -13,9 +13,7 @@ use Rattle.annotate_snippets.proofs.SmallReports.{group, snippet}
 -- U+202A as it is, which is shown as U+FFFD
 listed_character_shown : 0x202A ∷ [] ≡ norm (0x202A ∷ []) → ⊥
 unfolding norm
-listed_character_shown same =
-    let letter : ◌≡◌ {A = ℕ} 0x202A 0xFFFD = ap (λ (cs : List ℕ). slice_index_or cs 0 0) same in
-    absurd (omega (arith, letter))
+listed_character_shown same = grind (arith, slice_index_or)
 
 -- ---- `render`
 
@@ -58,9 +56,7 @@ patches_reordered_after_trimming same =
 
 -- nothing in place of the spliced text, where there is a patch
 splice_always_none : (A : Type 0) (patch : Patch) → (IsNone {T = A} None ↔ (patch ∷ [] ≡ [])) → ⊥
-splice_always_none A patch only =
-    let none : patch ∷ [] ≡ [] = only.0 refl in
-    cc
+splice_always_none A patch only = grind (arith, only.0)
 
 -- ---- `depths`
 
@@ -102,9 +98,7 @@ shorter = record { from = 2; to = 5; first = 2; last = 3 }
 
 -- depth 1 for both of them: these aren't one place, and so have two depths
 every_place_at_depth_one : 1 ∷ 1 ∷ [] ≡ map (depth_among (longer ∷ shorter ∷ [])) (longer ∷ shorter ∷ []) → ⊥
-every_place_at_depth_one same =
-    let depth : ◌≡◌ {A = ℕ} 1 2 = ap (λ (ds : List ℕ). slice_index_or ds 1 0) same in
-    absurd (omega (arith, depth))
+every_place_at_depth_one same = grind (arith, slice_index_or)
 
 -- ---- the grid
 
@@ -114,6 +108,4 @@ refused_cells_leave_rows same = cc
 
 -- the rest of a run where a character is written into it, here `x` into `abc`: the cells after it stay as they were
 touched_run_left_whole : WritesCells (text_cells NoStyle (codes "abc") ∷ []) (text_cells NoStyle (codes "axbc") ∷ []) 0 1 (text_cells NoStyle (codes "x")) → ⊥
-touched_run_left_whole writes =
-    let letter : ◌≡◌ {A = ℕ} 98 99 = ap (λ (cell : Cell). cell.ch) (writes.after 2 (omega arith)) in
-    absurd (omega (arith, letter))
+touched_run_left_whole writes = grind (arith, writes.after)

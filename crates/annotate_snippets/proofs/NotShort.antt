@@ -1,15 +1,14 @@
 -- What isn't written in the short form: rows and texts that are wrong, each of a small report, contradict the definition of that form.
+use Rattle.std.proofs.lemmas.Grind.{common_steps}
 use Rattle.annotate_snippets.proofs.Common.{◌≡◌, ℕ, true, false, None, Some, Vec, List, [], ◌∷◌, ◌++◌, codes, encode_utf8_all, refl, sym, ap}
-use Rattle.annotate_snippets.proofs.Common.{subst, ◌∙◌, arith, slice_index_or, Global, All-nil, All-cons, row_at, plain_text, row_text, IsWoven, links_of}
-use Rattle.annotate_snippets.proofs.Common.{IsWoven-from_prints, plain_woven, start_of, line_of, Annotation, Primary, Element, Group, Snippet, Title, Cell}
-use Rattle.annotate_snippets.proofs.Common.{plain_sheet, norm, label_cells, origin_text, short_rows, is_long, ShowsShort, ShowsReport, plain_settings}
-use Rattle.annotate_snippets.proofs.Common.{short_form, Renderer}
+use Rattle.annotate_snippets.proofs.Common.{◌∙◌, arith, slice_index_or, Global, All-nil, All-cons, row_at, plain_text, row_text, IsWoven, links_of}
+use Rattle.annotate_snippets.proofs.Common.{IsWoven-from_prints, plain_woven, start_of, line_of, Annotation, Element, Group, Snippet, Title, Cell, plain_sheet}
+use Rattle.annotate_snippets.proofs.Common.{norm, label_cells, origin_text, short_rows, is_long, ShowsShort, ShowsReport, plain_settings, short_form, Renderer}
 use Rattle.std.specs.Fmt.{digits}
 use Rattle.std.specs.List.{All}
 use Rattle.std.specs.Str.{chars}
 use Rattle.snippet_model.specs.declared.snippet.Element.TheVariants as element
 use Rattle.annotate_snippets.proofs.AsSetLemmas.{unset-shows}
-use Rattle.annotate_snippets.proofs.NotShown.{span_of}
 use Rattle.annotate_snippets.proofs.NotWhole.{at_first, at_second, both_spans, second_span}
 use Rattle.annotate_snippets.proofs.SmallReports.{error_title, group, snippet, title_alone}
 
@@ -22,20 +21,12 @@ one_line = record plain_settings { short_message = true }
 title_is : (v : Vec Element Global) (g : Group) (title : Title) → Some (group v (Some (error_title None (codes "e"))) [] (omega arith)) ≡ Some g
     → g.title ≡ Some title → plain_text (short_form one_line g title) ≡ codes "error: e"
 unfolding chars norm label_cells short_rows
-title_is v g title first titled =
-    let is : g ≡ group v (Some (error_title None (codes "e"))) [] (omega arith) = cc in
-    let named : error_title None (codes "e") ≡ title = cc in
-    ap (λ (other : Group). plain_text (short_form one_line other title)) is
-    ∙ ap (λ other. plain_text (short_form one_line (group v (Some (error_title None (codes "e"))) [] (omega arith)) other)) (sym named)
+title_is v g title first titled = grind arith
 
 links_are : (v : Vec Element Global) (g : Group) (title : Title) → Some (group v (Some (error_title None (codes "e"))) [] (omega arith)) ≡ Some g
     → g.title ≡ Some title → links_of (short_form one_line g title) ≡ []
 unfolding chars norm label_cells short_rows
-links_are v g title first titled =
-    let is : g ≡ group v (Some (error_title None (codes "e"))) [] (omega arith) = cc in
-    let named : error_title None (codes "e") ≡ title = cc in
-    ap (λ (other : Group). links_of (short_form one_line other title)) is
-    ∙ ap (λ other. links_of (short_form one_line (group v (Some (error_title None (codes "e"))) [] (omega arith)) other)) (sym named)
+links_are v g title first titled = grind arith
 
 -- no text for the title `error: e`
 titles_left_out : (v : Vec Element Global) → ShowsReport one_line (title_alone v) plain_sheet [] → ⊥
@@ -61,10 +52,7 @@ of_two w = snippet w (Some (codes "f")) (codes "ab") both_spans (omega arith)
 
 two_short : (marks : List Annotation) → marks ≡ both_spans → All (λ a. is_long (codes "ab") a ≡ false) marks
 unfolding line_of start_of
-two_short marks is =
-    let Short : Annotation → Type 0 = λ a. is_long (codes "ab") a ≡ false in
-    subst (All Short) (sym is) (All-cons Short (span_of Primary 1 2) (span_of Primary 0 1 ∷ []) refl
-    (All-cons Short (span_of Primary 0 1) [] refl (All-nil Short)))
+two_short marks is = grind (arith, All-cons, All-nil)
 
 -- the first row doesn't name the column at which the first one starts:
 --
@@ -75,9 +63,8 @@ unfolding origin_text digits norm chars
 origin_of_first_given_span v w title rows wrong shown =
     let begins = shown.origin (of_two w) refl (codes "f") refl refl (two_short both_spans refl) in
     let at : (begins.place.line ≡ 1) × (begins.place.column ≡ Some 1) = at_first begins.place begins.is in
-    let right : row_text (row_at rows 0) ≡ codes "f:1:1" ++ (codes ": " ++ begins.rest) = begins.text
-    ∙ ap (λ line. origin_text false (codes "f") (record { line = Some line; column = begins.place.column }) ++ (codes ": " ++ begins.rest)) at.0
-    ∙ ap (λ column. origin_text false (codes "f") (record { line = Some 1; column = column }) ++ (codes ": " ++ begins.rest)) at.1 in
+    let right : row_text (row_at rows 0) ≡ codes "f:1:1" ++ (codes ": " ++ begins.rest) =
+    grind (arith, common_steps, begins, codes, at, begins.text, begins.place.column, begins.rest, at.0, at.1) in
     let digit : ◌≡◌ {A = ℕ} 50 49 = ap (λ (cs : List ℕ). slice_index_or cs 4 0) (sym wrong ∙ right) in
     absurd (omega (arith, digit))
 
@@ -87,9 +74,7 @@ of_second w = snippet w (Some (codes "f")) (encode_utf8_all (codes "éb")) (seco
 
 second_short : (marks : List Annotation) → marks ≡ second_span ∷ [] → All (λ a. is_long (encode_utf8_all (codes "éb")) a ≡ false) marks
 unfolding line_of start_of lib.Utf8.encode
-second_short marks is =
-    let Short : Annotation → Type 0 = λ a. is_long (encode_utf8_all (codes "éb")) a ≡ false in
-    subst (All Short) (sym is) (All-cons Short second_span [] refl (All-nil Short))
+second_short marks is = grind (arith, encode_utf8_all, All-cons, All-nil)
 
 -- nor does it name the byte:
 --
@@ -100,8 +85,7 @@ unfolding origin_text digits norm chars
 origin_by_byte v w title rows wrong shown =
     let begins = shown.origin (of_second w) refl (codes "f") refl refl (second_short (second_span ∷ []) refl) in
     let at : (begins.place.line ≡ 1) × (begins.place.column ≡ Some 2) = at_second begins.place begins.is in
-    let right : row_text (row_at rows 0) ≡ codes "f:1:2" ++ (codes ": " ++ begins.rest) = begins.text
-    ∙ ap (λ line. origin_text false (codes "f") (record { line = Some line; column = begins.place.column }) ++ (codes ": " ++ begins.rest)) at.0
-    ∙ ap (λ column. origin_text false (codes "f") (record { line = Some 1; column = column }) ++ (codes ": " ++ begins.rest)) at.1 in
+    let right : row_text (row_at rows 0) ≡ codes "f:1:2" ++ (codes ": " ++ begins.rest) =
+    grind (arith, common_steps, begins, codes, at, begins.text, begins.place.column, begins.rest, at.0, at.1) in
     let digit : ◌≡◌ {A = ℕ} 51 50 = ap (λ (cs : List ℕ). slice_index_or cs 4 0) (sym wrong ∙ right) in
     absurd (omega (arith, digit))

@@ -1,11 +1,12 @@
 -- What is not shown: rows that are wrong, each on a small report, contradict the definitions of what rows show.
+use Rattle.std.proofs.lemmas.Grind.{common_steps}
 use Rattle.annotate_snippets.proofs.Common.{Option, Some, None, ◌≡◌, ℕ, ◌+◌, ◌<◌, ◌≤◌, ◌==◌, ◌&&◌, ◌⊎◌, Bool, true, false}
 use Rattle.annotate_snippets.proofs.Common.{List, [], ◌∷◌, ◌++◌, codes, encode_utf8_all, length, drop, replicate, refl, sym, ap, subst, ◌∙◌}
 use Rattle.annotate_snippets.proofs.Common.{arith, inl, inr, is_ascii_alphanumeric, cow_str_bytes, Contains, filter, slice_index_or, option_map, CowStr, Global}
 use Rattle.annotate_snippets.proofs.Common.{eq-eqb, append_cancel_left, append_cancel_right, All-nil, All-cons, filter_map-append, Cell, SPACE, text_cells}
 use Rattle.annotate_snippets.proofs.Common.{row_text, Ascii, LabelPrimary, LineNumber, Quotation, UnderlinePrimary, UnderlineSecondary, norm, char_width}
-use Rattle.annotate_snippets.proofs.Common.{unicode_width, Snippet, Annotation, AnnotationKind, Primary, Context, source_lines, start_of, line_of, place_of}
-use Rattle.annotate_snippets.proofs.Common.{Ascends, is_marked_on, qualifies_for_marks, start_column, end_column, span_width, IsMarkedAt, IsMarkOf, chars_at}
+use Rattle.annotate_snippets.proofs.Common.{unicode_width, Snippet, Annotation, AnnotationKind, Primary, Context, start_of, line_of, place_of, Ascends}
+use Rattle.annotate_snippets.proofs.Common.{is_marked_on, qualifies_for_marks, start_column, end_column, span_width, IsMarkedAt, IsMarkOf, chars_at}
 use Rattle.annotate_snippets.proofs.Common.{stands_whole, IsMarkCell, is_mark_role, separator_row, Elision, RowName, OfferedLine, RemovedLine, SourceRow, Other}
 use Rattle.annotate_snippets.proofs.Common.{NamedRow, lines_named, others, closes_with, cause_head, rows_after_cause, plain_settings, Layout, ElementContext}
 use Rattle.annotate_snippets.proofs.Common.{IsMarkGlyph, char_of, placeholder_of, cell_of, shown_label, ShowsMarksOf, normalized_chars, ShowsSourceLine}
@@ -15,7 +16,7 @@ use Rattle.std.specs.Str.{chars}
 use Rattle.annotate_snippets.proofs.MarginWords.{room_of}
 use Rattle.annotate_snippets.proofs.Ascending.{IsAscending, ascending}
 use Rattle.annotate_snippets.proofs.LeftLaws.{separator_of_left, unnumbered_below, unnumbered_elided}
-use Rattle.annotate_snippets.proofs.ListLemmas.{Contains-head, Contains-tail, Contains-cons_cases, Contains-nil}
+use Rattle.annotate_snippets.proofs.ListLemmas.{Contains-head, Contains-tail, Contains-cons_cases}
 
 -- ---- small reports, and their rows
 
@@ -87,12 +88,7 @@ other_marks : (source : List ℕ) (marks : List Annotation) (cells : List Cell) 
 other_marks source marks cells plain wrong =
     record {
       below = wrong;
-      above = λ s is row rows shown.
-          let promised : qualifies (cow_str_bytes s.source.text) s.markers.items
-          ≡ true = subst (λ text. qualifies text s.markers.items ≡ true) (sym is.source_is)
-          (subst (λ spans. qualifies source spans ≡ true) (sym is.marks_are) plain.qualified) in
-          let none : shown.dropped ≡ 0 = (shown.line.whole (whole_line s source marks is plain)).0 in
-          wrong s is (subst (λ dropped. ShowsMarksOf Ascii layout s 0 dropped (row_below cells)) none (shown.marks promised));
+      above = grind (arith, common_steps, whole_line, plain.qualified);
     }
 
 -- ---- marks
@@ -108,23 +104,11 @@ is_marked_at source a start end is p from to = (is.marked, omega arith, omega ar
 
 -- what a list of one span contains is that span
 the_one : (a other : Annotation) → Contains (a ∷ []) other → a ≡ other
-the_one a other among =
-    elim (Contains-cons_cases a other [] among) [
-      | inl same ↦ same
-      | inr rest ↦ absurd (Contains-nil other rest)
-    ]
+the_one a other among = grind (arith, Contains-cons_cases)
 
 -- the mark of one span has its kind
 mark_of_one : (source : List ℕ) (k p : ℕ) (a : Annotation) → IsMarkedAt source k p a → IsMarkOf source (a ∷ []) k p a.kind
-mark_of_one source k p a at =
-    record {
-      span = a;
-      among = Contains-head a [];
-      covers = at;
-      is = refl;
-      least = λ other among there. subst (λ b. span_width source a ≤ span_width source b) (the_one a other among) (omega arith);
-      primary_wins = λ context other among there primary. let same : a ≡ other = the_one a other among in cc;
-    }
+mark_of_one source k p a at = grind (arith, Contains-head, the_one)
 
 -- of two spans, a primary one that isn't wider than the first has the mark
 mark_of_primary : (source : List ℕ) (k p : ℕ) (a b : Annotation) → IsMarkedAt source k p b → b.kind ≡ Primary → span_width source b ≤ span_width source a
@@ -162,18 +146,12 @@ module _ {s : Snippet Annotation} {source : List ℕ} {marks : List Annotation} 
 
   -- below a column that no span covers no cell is in the role of marks
   no_mark_role : (p : ℕ) → All (λ a. IsMarkedAt source 0 p a → ⊥) marks → is_mark_role (slice_index_or row (cell_of layout 0 p) SPACE).role ≡ false
-  no_mark_role p none =
-      shown.unmarked p (omega arith) (subst (λ text. All (λ a. IsMarkedAt text 0 p a → ⊥) s.markers.items) (sym is.source_is)
-      (subst (All (λ a. IsMarkedAt source 0 p a → ⊥)) (sym is.marks_are) none))
+  no_mark_role p none = grind arith
 
   -- after the mark of a lone span stands its label
   label_after : (a : Annotation) → filter (is_marked_on source 0) marks ≡ a ∷ [] → 0 < length (shown_label a)
       → row_text (drop (cell_of layout 0 (end_column source a)) row) ≡ 32 ∷ shown_label a
-  label_after a alone some =
-      subst (λ text. row_text (drop (cell_of layout 0 (end_column text a)) row) ≡ 32 ∷ shown_label a)
-      is.source_is (shown.lone a
-      (subst (λ text. filter (is_marked_on text 0) s.markers.items ≡ a ∷ []) (sym is.source_is)
-      (subst (λ spans. filter (is_marked_on source 0) spans ≡ a ∷ []) (sym is.marks_are) alone)) some)
+  label_after a alone some = grind arith
 
 -- ---- numbers that ascend
 
@@ -185,15 +163,11 @@ rest_ascends j (i ∷ js) ascending = ascending.1
 -- each is greater than those before it
 greater : (i j : ℕ) (js ks : List ℕ) → IsAscending (i ∷ (js ++ (j ∷ ks))) → i < j
 greater i j [] ks ascending = ascending.0
-greater i j (l ∷ js) ks ascending =
-    let more : l < j = greater l j js ks ascending.1 in
-    omega (arith, ascending.0)
+greater i j (l ∷ js) ks ascending = grind (arith, greater l j js ks ascending.1, ascending.1, ascending.0)
 
 -- so none stands there twice
 pub two_of_one : (k : ℕ) (before between after : List ℕ) → IsAscending (before ++ (k ∷ (between ++ (k ∷ after)))) → ⊥
-two_of_one k [] between after ascending =
-    let less : k < k = greater k k between after ascending in
-    absurd (omega arith)
+two_of_one k [] between after ascending = grind (arith, greater)
 two_of_one k (j ∷ before) between after ascending =
     two_of_one k before between after (rest_ascends j (before ++ (k ∷ (between ++ (k ∷ after)))) ascending)
 
@@ -208,16 +182,10 @@ rows_after closes s (row ∷ rows) more named = rows_after closes s rows more na
 -- a row `1 | a` can only be named as that of the first line of `a`
 named_first : (closes : Bool) (s : Snippet Annotation) → cow_str_bytes s.source.text ≡ codes "a" → (name : RowName) (cells : List Cell) (rows : List NamedRow)
     → cells ≡ source_row (codes "a") → IsRowOf plain_settings layout closes s name cells rows → name ≡ SourceRow 0
-named_first closes s is (SourceRow k) cells rows same shows =
-    let within : k < 1 = subst (λ source. k < length (source_lines source)) is shows.line.within in
-    let first : k ≡ 0 = omega arith in
-    ap SourceRow first
+named_first closes s is (SourceRow k) cells rows same shows = grind (arith, shows.line.within)
 named_first closes s is (OfferedLine j) cells rows same shows = absurd shows
 named_first closes s is (RemovedLine i) cells rows same shows = absurd shows
-named_first closes s is Elision cells rows same shows =
-    let digit : true ≡ false = subst (λ row. is_ascii_alphanumeric (slice_index_or row 0 SPACE).ch ≡ false) same
-    (unnumbered_elided layout cells shows 0 (omega arith)) in
-    cc
+named_first closes s is Elision cells rows same shows = grind (arith, slice_index_or, unnumbered_elided)
 named_first closes s is Other cells rows same shows =
     let digit : true ≡ false = subst (λ row. is_ascii_alphanumeric (slice_index_or row 0 SPACE).ch ≡ false) same
     (unnumbered_below Ascii layout (closes && length rows == 0) cells shows 0 (omega arith)) in
@@ -271,8 +239,7 @@ second_copy_of_a_line s is around row copy before between after row_is copy_is s
     let rows : List NamedRow = before ++ (row ∷ (between ++ (copy ∷ after))) in
     let tail : List NamedRow = others (rows_after_cause plain_settings layout around) in
     let closes : Bool = closes_with around in
-    let same : shown.after ≡ rows = append_cancel_right shown.after rows tail
-    (sym (append_cancel_left (others (cause_head plain_settings layout around s)) (rows ++ tail) (shown.after ++ tail) shown.rows_are)) in
+    let same : shown.after ≡ rows = grind (arith, common_steps, append_cancel_right, rows, tail, append_cancel_left, others, shown.after, shown.rows_are) in
     let from_row : AreRowsOf plain_settings layout closes s (row ∷ (between ++ (copy ∷ after))) = rows_after closes s before
     (row ∷ (between ++ (copy ∷ after))) (subst (AreRowsOf plain_settings layout closes s) same shown.named) in
     let from_copy : AreRowsOf plain_settings layout closes s (copy ∷ after) = rows_after closes s between (copy ∷ after) from_row.1 in

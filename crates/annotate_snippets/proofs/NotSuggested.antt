@@ -1,12 +1,10 @@
 -- Rows of suggestions with a wrong sign or a mark in a wrong place, on small reports, contradict the definitions of what rows show.
-use Rattle.annotate_snippets.proofs.Common.{◌≡◌, ◌∙◌, ℕ, ◌==◌, not, Bool, false, true, refl, List, [], ◌∷◌, ◌++◌, Vec, codes}
-use Rattle.annotate_snippets.proofs.Common.{get_or, replicate, sym, ap, if◌then◌else◌, Global, row_at, Cell, SPACE, text_cells, added_mark_of}
-use Rattle.annotate_snippets.proofs.Common.{changed_mark_of, separator_of, DecorStyle, Ascii, Addition, LineNumber, NoStyle, Removal, ElementStyle, Patch}
-use Rattle.annotate_snippets.proofs.Common.{Snippet, SuggestionLayout, SuggestionStart, Opening, Ends, body_cells, suggestion_cells, ascii, put_in_cells}
-use Rattle.annotate_snippets.proofs.Common.{stroke, unfolded_cells, text_put_in, third_unfolded, is_end, line_numbers, suggestion_layout, suggestion_lines}
+use Rattle.std.proofs.Common.{arith}
+use Rattle.annotate_snippets.proofs.Common.{◌≡◌, ◌∙◌, ℕ, ◌==◌, not, false, true, refl, List, [], ◌∷◌, ◌++◌, Vec, codes, get_or}
+use Rattle.annotate_snippets.proofs.Common.{replicate, sym, ap, Global, row_at, Cell, SPACE, text_cells, added_mark_of, changed_mark_of, separator_of, Ascii}
+use Rattle.annotate_snippets.proofs.Common.{Addition, LineNumber, NoStyle, Removal, ElementStyle, Patch, Snippet, Opening, suggestion_cells, ascii}
+use Rattle.annotate_snippets.proofs.Common.{put_in_cells, stroke, unfolded_cells, text_put_in, third_unfolded, is_end, suggestion_layout, suggestion_lines}
 use Rattle.annotate_snippets.proofs.Common.{NamedRow, cells_of, plain_settings, ShowsSuggestion, Layout, ElementContext}
-use Rattle.snippet_suggest.specs.Suggested.{suggested_cells as row_cells}
-use Rattle.annotate_snippets.proofs.PageWords.{under_of}
 
 -- a suggestion that stands alone: it begins in a row of its own, and its last row is its own
 record StandsAlone (around : ElementContext) : Type 0 where
@@ -18,27 +16,12 @@ rows_alone : (layout : Layout) (around : ElementContext) (found : List Cell) (s 
     → suggestion_layout plain_settings layout s ≡ ascii layout.code → StandsAlone around → lines ≡ suggestion_lines plain_settings layout around found s
     → lines ≡ suggestion_cells (ascii layout.code) Opening (not (is_end around.next)) s []
 unfolding suggestion_cells
-rows_alone layout around found s lines layout_is alone shown =
-    let next : Bool = not (is_end around.next) in
-    let under : under_of plain_settings layout around.start found ≡ [] = ap (λ at. under_of plain_settings layout at found) alone.start in
-    let Rows : SuggestionLayout → SuggestionStart → List Cell → Bool → List (List Cell) = λ suggested at row shared.
-    body_cells suggested at s row ++ (if shared then [] else row_cells suggested s [] (Ends next) ∷ []) in
-    let suggested : SuggestionLayout = suggestion_layout plain_settings layout s in
-    let below : List Cell = under_of plain_settings layout around.start found in
-    shown ∙ ap (λ l. Rows l around.start below around.shared) layout_is ∙ ap (λ at. Rows (ascii layout.code) at below around.shared) alone.start
-    ∙ ap (λ row. Rows (ascii layout.code) Opening row around.shared) under ∙ ap (Rows (ascii layout.code) Opening []) alone.own
+rows_alone layout around found s lines layout_is alone shown = grind (arith, around.next, around.start, alone.start, around.shared, layout.code, alone.own)
 
 -- with a gutter of one cell its rows stand as in ASCII
 narrow_layout : (layout : Layout) (s : Snippet Patch) → layout.gutter ≡ 1 → layout.decor ≡ Ascii → s.line_numbering ≡ true
     → suggestion_layout plain_settings layout s ≡ ascii layout.code
-narrow_layout layout s narrow plain numbered =
-    ap (λ (d : DecorStyle). record {
-      base = record { gutter = layout.gutter; code = layout.code; decor = d };
-      numbers = line_numbers plain_settings
-          s.line_numbering;
-    }) plain
-    ∙ ap (λ (g : ℕ). record { base = record { gutter = g; code = layout.code; decor = Ascii }; numbers = line_numbers plain_settings s.line_numbering }) narrow
-    ∙ ap (λ (b : Bool). record { base = record { gutter = 1; code = layout.code; decor = Ascii }; numbers = line_numbers plain_settings b }) numbered
+narrow_layout layout s narrow plain numbered = grind (arith, layout.gutter, layout.code, s.line_numbering)
 
 -- ---- a mark beside what it belongs to
 

@@ -21,9 +21,7 @@ speaking = record plain_settings { no_graphics = true }
 -- no text at all for a report of a title, here `error: e`
 text_form_empty : (v : Vec Element Global) → ShowsReport speaking (title_alone v) plain_sheet [] → ⊥
 unfolding heading_form norm chars lib.Utf8.encode
-text_form_empty v shown =
-    let right : [] ≡ codes "error: e" = (unset-shows _ _ _ _ shown refl).are.0 in
-    cc
+text_form_empty v shown = grind (arith, unset-shows)
 
 -- a title above a message left out, here `error: e`:
 --
@@ -32,9 +30,7 @@ titles_left_out : (v : Vec Element Global)
     → ShowsReport speaking (group v (Some (error_title None (codes "e"))) (note (codes "m") ∷ []) (omega arith) ∷ []) plain_sheet (codes " note: m")
     → ⊥
 unfolding heading_form norm chars lib.Utf8.encode
-titles_left_out v shown =
-    let right : codes " note: m" ≡ codes "error: e" ++ 10 ∷ codes " note: m" = (unset-shows _ _ _ _ shown refl).are.0 in
-    absurd (omega (arith, ap length right))
+titles_left_out v shown = grind (arith, unset-shows)
 
 -- a message below a title left out, here ` note: m`:
 --
@@ -43,9 +39,7 @@ messages_left_out : (v : Vec Element Global)
     → ShowsReport speaking (group v (Some (error_title None (codes "e"))) (note (codes "m") ∷ []) (omega arith) ∷ []) plain_sheet (codes "error: e")
     → ⊥
 unfolding heading_form norm chars lib.Utf8.encode
-messages_left_out v shown =
-    let right : codes "error: e" ≡ codes "error: e" ++ 10 ∷ codes " note: m" = (unset-shows _ _ _ _ shown refl).are.0 in
-    absurd (omega (arith, ap length right))
+messages_left_out v shown = grind (arith, unset-shows)
 
 -- a report of the source `ab` in the file of this path, of which a span with this label covers `a`
 abbrev labelled : Vec Element Global → Vec Annotation Global → List ℕ → List ℕ → List Group
@@ -78,11 +72,7 @@ id_drawn_raw : (v : Vec Element Global)
     → ShowsReport speaking (group v (Some (error_title (Some (record { id = Some (text_of (27 ∷ [])); url = None })) (codes "e"))) []
     (omega arith) ∷ []) plain_sheet (codes "error " ++ 27 ∷ codes ": e") → ⊥
 unfolding heading_form norm chars lib.Utf8.encode
-id_drawn_raw v shown =
-    let right : codes "error " ++ 27 ∷ codes ": e" ≡ codes "error " ++ (encode_utf8_all (0x241B ∷ []) ++ codes ": e") =
-    (unset-shows _ _ _ _ shown refl).are.0 in
-    let byte : ◌≡◌ {A = ℕ} 27 0xE2 = ap (λ (bs : List ℕ). slice_index_or bs 6 0) right in
-    absurd (omega (arith, byte))
+id_drawn_raw v shown = grind (arith, encode_utf8_all, unset-shows, slice_index_or)
 
 -- a path:
 --
@@ -133,10 +123,7 @@ off = 27 ∷ codes "[0m"
 --     e
 no_codes : (v : Vec Element Global) → ShowsReport speaking (nameless v) default_sheet (codes "e") → ⊥
 unfolding heading_form norm chars lib.Utf8.encode digits
-no_codes v shown =
-    let right : codes "e" ≡ bold ++ (codes "e" ++ off) = (unset-shows _ _ _ _ shown refl).are.0 in
-    let byte : ◌≡◌ {A = ℕ} 101 27 = ap (λ (bs : List ℕ). slice_index_or bs 0 0) right in
-    absurd (omega (arith, byte))
+no_codes v shown = grind (arith, unset-shows, slice_index_or)
 
 -- a line feed after the codes of a title without a text, as if they were text, under the default sheet: the next title begins the first
 -- line of the text, as it does under a plain one
@@ -144,10 +131,7 @@ codes_counted_as_text : (v : Vec Element Global)
     → ShowsReport speaking (group v (Some (hidden_title [])) [] (omega arith) ∷ nameless v) default_sheet (bold ++ (off ++ 10 ∷ (bold ++ (codes "e" ++ off))))
     → ⊥
 unfolding heading_form norm chars lib.Utf8.encode digits
-codes_counted_as_text v shown =
-    let right : bold ++ (off ++ 10 ∷ (bold ++ (codes "e" ++ off))) ≡ bold ++ (off ++ (bold ++ (codes "e" ++ off))) = (unset-shows _ _ _ _ shown refl).are.0 in
-    let byte : ◌≡◌ {A = ℕ} 10 27 = ap (λ (bs : List ℕ). slice_index_or bs 8 0) right in
-    absurd (omega (arith, byte))
+codes_counted_as_text v shown = grind (arith, unset-shows, slice_index_or)
 
 -- ---- a line that no paragraph begins
 

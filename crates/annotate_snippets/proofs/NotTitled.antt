@@ -2,8 +2,8 @@
 -- of what rows show.
 use Rattle.annotate_snippets.proofs.Common.{◌≡◌, ℕ, false, None, Some, List, [], ◌∷◌, ◌++◌, codes, drop, length, sym, ap, ◌∙◌, arith}
 use Rattle.annotate_snippets.proofs.Common.{cow_str_bytes, slice_index_or, length-append, row_at, Layout, row_text, Standard, Annotation, Snippet, Cell, Note}
-use Rattle.annotate_snippets.proofs.Common.{text_of, norm, sign_cells, line_text, origin_text, NamedRow, cells_of, rows_after_title, plain_settings}
-use Rattle.annotate_snippets.proofs.Common.{NamesLocation, ShowsOrigin, ShowsMessage, ShowsTitle, Renderer, ElementContext, GroupPosition, Next}
+use Rattle.annotate_snippets.proofs.Common.{text_of, norm, sign_cells, origin_text, NamedRow, cells_of, rows_after_title, plain_settings, NamesLocation}
+use Rattle.annotate_snippets.proofs.Common.{ShowsOrigin, ShowsMessage, ShowsTitle, Renderer, ElementContext, GroupPosition, Next}
 use Rattle.std.specs.Str.{chars}
 use Rattle.snippet_model.specs.declared.snippet.Origin as origin
 use Rattle.annotate_snippets.proofs.PageWords.{message_style}
@@ -61,12 +61,7 @@ id_drawn_raw place follows rows wrong shown = in_own shown.own shown.rows_are (t
 path_drawn_raw : (around : ElementContext) (o : origin.Origin) → cow_str_bytes o.path ≡ 27 ∷ [] → o.line ≡ None → (rows : List NamedRow)
     → row_text (drop 5 (row_at (cells_of rows) 0)) ≡ 27 ∷ [] → ShowsOrigin plain_settings layout around o rows → ⊥
 unfolding chars norm origin_text
-path_drawn_raw around o path_is no_line rows wrong shown =
-    let text : ◌≡◌ {A = List ℕ} (27 ∷ []) (0x241B ∷ []) = sym wrong ∙ shown.text
-    ∙ ap (λ path. origin_text false path (record { line = o.line; column = o.char_column })) path_is
-    ∙ ap (λ line. 0x241B ∷ line_text false line o.char_column) no_line in
-    let letter : ◌≡◌ {A = ℕ} 27 0x241B = ap (λ (cs : List ℕ). slice_index_or cs 0 0) text in
-    absurd (omega (arith, letter))
+path_drawn_raw around o path_is no_line rows wrong shown = grind (arith, slice_index_or, shown.text, o.line, o.char_column)
 
 -- the path that the head of a snippet names, whatever place is named after it:
 --
@@ -74,6 +69,4 @@ path_drawn_raw around o path_is no_line rows wrong shown =
 path_of_snippet_drawn_raw : (s : Snippet Annotation) (row : List Cell) → slice_index_or (row_text (drop 5 row)) 0 0 ≡ 27
     → NamesLocation plain_settings layout s (27 ∷ []) row → ⊥
 unfolding chars norm origin_text
-path_of_snippet_drawn_raw s row wrong named =
-    let letter : ◌≡◌ {A = ℕ} 27 0x241B = sym wrong ∙ ap (λ (cs : List ℕ). slice_index_or cs 0 0) named.text in
-    absurd (omega (arith, letter))
+path_of_snippet_drawn_raw s row wrong named = grind (arith, slice_index_or, named.text)

@@ -1,5 +1,6 @@
 -- What no whole page shows: pages of small reports, wrong in what stands around their snippets, contradict the definitions of what
 -- pages show.
+use Rattle.std.proofs.lemmas.Grind.{common_steps}
 use Rattle.annotate_snippets.proofs.Common.{Option, Some, None, ◌≡◌, ℕ, ◌+◌, ◌<◌, ◌≤◌, zero, suc, Bool, true, false, not, ◌&&◌}
 use Rattle.annotate_snippets.proofs.Common.{if◌then◌else◌, List, [], ◌∷◌, ◌++◌, codes, drop, encode_utf8_all, length, replicate, take, refl}
 use Rattle.annotate_snippets.proofs.Common.{sym, ap, subst, ◌∙◌, arith, inl, inr, ◌⊎◌, is_ascii_alphanumeric, cow_str_bytes, Contains}
@@ -224,13 +225,10 @@ origin_of_first_given_span : (s : Snippet Annotation) → IsSnippetOf s (codes "
 unfolding origin_text digits norm chars
 origin_of_first_given_span s is first row wrong named =
     let Names : List ℕ → ℕ → List Annotation → Type 0 = λ text line marks. IsLocation (record { text = text; first = line }) marks named.place in
-    let there : IsLocation source_ab both_spans named.place = subst (λ marks.
-    Names (codes "ab") 1 marks) is.marks_are (subst (λ line. Names (codes "ab") line s.markers.items) first
-    (subst (λ text. Names text s.line_start s.markers.items) is.source_is named.is)) in
+    let there : IsLocation source_ab both_spans named.place =
+    grind (arith, common_steps, Names, codes, is.marks_are, s.markers.items, s.line_start, is.source_is, named.is) in
     let at : (named.place.line ≡ 1) × (named.place.column ≡ Some 1) = at_first named.place there in
-    let right : row_text (drop 5 row) ≡ codes "f:1:1" = named.text ∙ ap (λ line.
-    origin_text false (codes "f") (record { line = Some line; column = named.place.column })) at.0
-    ∙ ap (λ column. origin_text false (codes "f") (record { line = Some 1; column = column })) at.1 in
+    let right : row_text (drop 5 row) ≡ codes "f:1:1" = grind (arith, common_steps, codes, at, named.text, named.place.column, at.0, at.1) in
     let digit : ◌≡◌ {A = ℕ} 50 49 = ap (λ (cs : List ℕ). slice_index_or cs 4 0) (sym wrong ∙ right) in
     absurd (omega (arith, digit))
 
@@ -247,24 +245,17 @@ source_eb = record { text = encode_utf8_all (codes "éb"); first = 1 }
 
 pub at_second : (place : Location) → IsLocation source_eb (second_span ∷ []) place → (place.line ≡ 1) × (place.column ≡ Some 2)
 unfolding start_location location_of steps_after_text place_of line_of start_of chars lib.Utf8.encode
-at_second place is =
-    elim (Contains-cons_cases second_span is.span [] is.naming.0) [
-      | inl same ↦ (is.line ∙ ap (λ a. 1 + first_line source_eb.text a) (sym same), is.column ∙ ap (λ a. Some (start_at source_eb a)) (sym same))
-      | inr rest ↦ absurd (Contains-nil is.span rest)
-    ]
+at_second place is = grind (arith, Contains-cons_cases, is.span, is.naming.0, is.line, is.column)
 
 origin_by_byte : (s : Snippet Annotation) → IsSnippetOf s (encode_utf8_all (codes "éb")) (second_span ∷ []) → s.line_start ≡ 1 → (row : List Cell)
     → row_text (drop 5 row) ≡ codes "f:1:3" → NamesLocation plain_settings layout s (codes "f") row → ⊥
 unfolding origin_text digits norm chars
 origin_by_byte s is first row wrong named =
     let Names : List ℕ → ℕ → List Annotation → Type 0 = λ text line marks. IsLocation (record { text = text; first = line }) marks named.place in
-    let there : IsLocation source_eb (second_span ∷ []) named.place = subst (λ marks.
-    Names source_eb.text 1 marks) is.marks_are (subst (λ line. Names source_eb.text line s.markers.items) first
-    (subst (λ text. Names text s.line_start s.markers.items) is.source_is named.is)) in
+    let there : IsLocation source_eb (second_span ∷ []) named.place =
+    grind (arith, common_steps, Names, is.marks_are, s.markers.items, s.line_start, is.source_is, named.is) in
     let at : (named.place.line ≡ 1) × (named.place.column ≡ Some 2) = at_second named.place there in
-    let right : row_text (drop 5 row) ≡ codes "f:1:2" = named.text ∙ ap (λ line.
-    origin_text false (codes "f") (record { line = Some line; column = named.place.column })) at.0
-    ∙ ap (λ column. origin_text false (codes "f") (record { line = Some 1; column = column })) at.1 in
+    let right : row_text (drop 5 row) ≡ codes "f:1:2" = grind (arith, common_steps, codes, at, named.text, named.place.column, at.0, at.1) in
     let digit : ◌≡◌ {A = ℕ} 51 50 = ap (λ (cs : List ℕ). slice_index_or cs 4 0) (sym wrong ∙ right) in
     absurd (omega (arith, digit))
 
@@ -290,8 +281,7 @@ first_line_left_out s is around rows out shown =
     let first : Contains (lines_named shown.after) (first_line (cow_str_bytes s.source.text) (span_of Primary 0 3)) =
     (All-head (λ a. Contains (lines_named shown.after) (first_line (cow_str_bytes s.source.text) a)
     × Contains (lines_named shown.after) (last_line (cow_str_bytes s.source.text) a)) (span_of Primary 0 3) (span_of Primary 0 3 ∷ []) ends).0 in
-    let at : Contains (lines_named shown.after) 0 = subst (λ text. Contains (lines_named shown.after)
-    (first_line text (span_of Primary 0 3))) is.source_is first in
+    let at : Contains (lines_named shown.after) 0 = grind (arith, common_steps, first, shown.after, is.source_is) in
     out (subst (λ all. Contains (lines_named all) 0) same at)
 
 -- ---- a closing row that is missing
@@ -314,9 +304,7 @@ closing_left_out : (s : Snippet Annotation) (around : ElementContext) → around
 closing_left_out s around first last rows row cells shown =
     let closing : NamedRow = record { name = Other; cells = closing_row Ascii 1 } in
     let head : List NamedRow = others (cause_head plain_settings layout around s) in
-    let closes : rows_after_cause plain_settings layout around ≡ closing_row Ascii 1 ∷ [] = ap (λ p.
-    rows_after_cause plain_settings layout (record around { place = p })) first
-    ∙ ap (λ n. rows_after_cause plain_settings layout (record around { place = place.First; next = n })) last in
+    let closes : rows_after_cause plain_settings layout around ≡ closing_row Ascii 1 ∷ [] = grind (arith, common_steps, layout) in
     let same : rows ++ row ∷ [] ≡ (head ++ shown.after) ++ closing ∷ [] = shown.rows_are ∙ ap (λ tail. head ++ (shown.after ++ others tail)) closes
     ∙ sym (append_assoc head shown.after (closing ∷ [])) in
     let is : row.cells ≡ closing_row Ascii 1 = ap (λ (r : NamedRow). r.cells) (last_row rows (head ++ shown.after) row closing same) in

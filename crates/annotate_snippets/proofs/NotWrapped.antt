@@ -4,7 +4,7 @@ use Rattle.annotate_snippets.proofs.Common.{◌≡◌, ◌≤◌, ℕ, Bool, tru
 use Rattle.annotate_snippets.proofs.Common.{arith, cow_str_bytes, CowStr, All-head, SameOption, Group, Title, Stylesheet, unicode_width, char_width, Letter}
 use Rattle.annotate_snippets.proofs.Common.{letters_of, AreWithin, IsRewrapped, columns_of, lines_in, words_of, IsMaskedFor, wraps, form_of, HasLaws}
 use Rattle.annotate_snippets.proofs.Common.{AreRewrapped, IsTextRewrapped, IsTitleRewrapped, Renderer}
-use Rattle.std.proofs.Common.{Global, filter}
+use Rattle.std.proofs.Common.{Global}
 use Rattle.std.specs.Str.{chars}
 
 -- the title that is given
@@ -14,19 +14,13 @@ given = codes "the borrow checker"
 -- two texts of which one is shown in place of the other, by their bytes
 by_bytes : (room : ℕ) (trusted : Bool) (a b : CowStr Global) (xs ys : List ℕ) → cow_str_bytes a ≡ xs → cow_str_bytes b ≡ ys
     → IsTextRewrapped room trusted a b → IsRewrapped room (letters_of trusted (chars xs)) (letters_of trusted (chars ys))
-by_bytes room trusted a b xs ys first second is =
-    subst (λ (cs : List ℕ). IsRewrapped room (letters_of trusted (chars cs)) (letters_of trusted (chars ys))) first
-    (subst (λ (cs : List ℕ). IsRewrapped room (letters_of trusted (chars (cow_str_bytes a))) (letters_of trusted (chars cs))) second is)
+by_bytes room trusted a b xs ys first second is = grind arith
 
 -- a text that has lost a word isn't shown in place of it, whatever the room
 lost : (room : ℕ) (trusted : Bool) → IsRewrapped room (letters_of trusted (chars given)) (letters_of trusted (chars (codes "the\nchecker"))) → ⊥
 unfolding chars
-lost room true is =
-    let fewer : ◌≡◌ {A = ℕ} 10 16 = ap (λ (ls : List Letter). length ls) is.kept in
-    absurd (omega (arith, fewer))
-lost room false is =
-    let fewer : ◌≡◌ {A = ℕ} 10 16 = ap (λ (ls : List Letter). length ls) is.kept in
-    absurd (omega (arith, fewer))
+lost room true is = grind (arith, is.kept)
+lost room false is = grind (arith, is.kept)
 
 -- nor is one in which a word is broken that has room
 broken : (room : ℕ) (trusted : Bool) → IsRewrapped room (letters_of trusted (chars given)) (letters_of trusted (chars (codes "the borrow che\ncker")))
@@ -67,12 +61,8 @@ ends_empty : (room : ℕ) (trusted : Bool)
     → IsRewrapped room (letters_of trusted (chars (codes "the borrow "))) (letters_of trusted (chars (codes "the borrow\n")))
     → ⊥
 unfolding chars
-ends_empty room true is =
-    let more : ◌≡◌ {A = ℕ} 1 0 = is.empty in
-    absurd (omega (arith, more))
-ends_empty room false is =
-    let more : ◌≡◌ {A = ℕ} 1 0 = is.empty in
-    absurd (omega (arith, more))
+ends_empty room true is = grind (arith, is.empty)
+ends_empty room false is = grind (arith, is.empty)
 
 pub empty_row : (room : ℕ) (trusted : Bool) (a b : CowStr Global) → cow_str_bytes a ≡ codes "the borrow " → cow_str_bytes b ≡ codes "the borrow\n"
     → IsTextRewrapped room trusted a b → ⊥
@@ -88,9 +78,7 @@ torn = 97 ∷ 27 ∷ 91 ∷ 48 ∷ 10 ∷ 109 ∷ []
 
 tears : (room : ℕ) → IsRewrapped room (letters_of true (chars coded)) (letters_of true (chars torn)) → ⊥
 unfolding chars
-tears room is =
-    let fewer : ◌≡◌ {A = ℕ} 3 4 = ap (λ (ls : List Letter). length (filter (λ l. l.code) ls)) is.kept in
-    absurd (omega (arith, fewer))
+tears room is = grind (arith, is.kept)
 
 pub code_torn : (room : ℕ) (a b : CowStr Global) → cow_str_bytes a ≡ coded → cow_str_bytes b ≡ torn → IsTextRewrapped room true a b → ⊥
 code_torn room a b is shown texts = tears room (by_bytes room true a b coded torn is shown texts)

@@ -1,19 +1,19 @@
 -- A row of an element begins with a number only where it shows a line.
+use Rattle.std.proofs.lemmas.Grind.{common_steps}
 use Rattle.annotate_snippets.proofs.Common.{◌≡◌, ℕ, ◌<◌, ◌==◌, ◌&&◌, ◌||◌, Bool, true, false, not, cond, Option, None, Some, List, []}
-use Rattle.annotate_snippets.proofs.Common.{◌∷◌, ◌++◌, All, length, get_or, inl, inr, refl, sym, subst, arith, cow_str_bytes, is_ascii_alphanumeric}
-use Rattle.annotate_snippets.proofs.Common.{list_all, list_any, cases_Bool, eqb-true, false≢true, All-append, All-cons, All-from_get_or, All-head, All-nil}
-use Rattle.annotate_snippets.proofs.Common.{All-tail, All-weaker, slice_get_cases, heading_of_message, HasNoNumber, Annotation, Element, Patch, Snippet, Cell}
-use Rattle.annotate_snippets.proofs.Common.{SPACE, DecorStyle, Ascii, Unicode, placeholder_of, suggestion_glyph_of, is_stroke, SuggestionStart, primary_start}
-use Rattle.annotate_snippets.proofs.Common.{padding_row, MessageContext, message_rows-unnumbered, snippet_head-unnumbered, closing_row-unnumbered}
-use Rattle.annotate_snippets.proofs.Common.{origin_row-unnumbered, padding_row-unnumbered, separator_row-unnumbered, Renderer, ElementContext, GroupPosition}
-use Rattle.annotate_snippets.proofs.Common.{Layout, closes_after, closes_with, context_at, is_before_message, is_end, path_bytes, is_first_group, shows_a_line}
-use Rattle.annotate_snippets.proofs.Common.{RowName, SourceRow, Elision, OfferedLine, RemovedLine, Other, NamedRow, GroupPage, cells_of, others, cause_head}
-use Rattle.annotate_snippets.proofs.Common.{origin_layout, origin_rows, path_row, rows_after_cause, suggestion_head, AreElementsShown, ShowsElement, AreRowsOf}
-use Rattle.annotate_snippets.proofs.Common.{IsRowOf, IsSuggestionRow, closing_row, separator_row}
+use Rattle.annotate_snippets.proofs.Common.{◌∷◌, ◌++◌, All, length, get_or, inl, inr, refl, sym, subst, arith, is_ascii_alphanumeric, list_all}
+use Rattle.annotate_snippets.proofs.Common.{list_any, cases_Bool, eqb-true, false≢true, All-append, All-cons, All-from_get_or, All-head, All-nil, All-tail}
+use Rattle.annotate_snippets.proofs.Common.{All-weaker, slice_get_cases, HasNoNumber, Annotation, Element, Patch, Snippet, Cell, SPACE, DecorStyle, Ascii}
+use Rattle.annotate_snippets.proofs.Common.{Unicode, placeholder_of, suggestion_glyph_of, is_stroke, SuggestionStart, primary_start, message_rows-unnumbered}
+use Rattle.annotate_snippets.proofs.Common.{snippet_head-unnumbered, closing_row-unnumbered, origin_row-unnumbered, padding_row-unnumbered}
+use Rattle.annotate_snippets.proofs.Common.{separator_row-unnumbered, Renderer, ElementContext, GroupPosition, Layout, closes_with, context_at, path_bytes}
+use Rattle.annotate_snippets.proofs.Common.{shows_a_line, RowName, SourceRow, Elision, OfferedLine, RemovedLine, Other, NamedRow, GroupPage, others, cause_head}
+use Rattle.annotate_snippets.proofs.Common.{origin_layout, path_row, rows_after_cause, suggestion_head, AreElementsShown, ShowsElement, AreRowsOf, IsRowOf}
+use Rattle.annotate_snippets.proofs.Common.{IsSuggestionRow, closing_row, separator_row}
 use Rattle.snippet_model.specs.declared.snippet.Element.TheVariants as element
 use Rattle.snippet_style.specs.declared.glyphs.SuggestionGlyph.TheVariants as sign
 use Rattle.snippet_suggest.specs.declared.SuggestionStart.TheVariants as start
-use Rattle.annotate_snippets.proofs.PageWords.{found_at, origin_start, patch_place, place_given, suggestion_head_at}
+use Rattle.annotate_snippets.proofs.PageWords.{found_at, patch_place, suggestion_head_at}
 use Rattle.annotate_snippets.proofs.LeftLaws.{unnumbered_below, unnumbered_elided}
 
 -- ---- characters
@@ -39,8 +39,7 @@ one_of : (ds : List ℕ) (c : ℕ) → list_all (λ d. not (is_ascii_alphanumeri
 one_of [] c none some = absurd (false≢true some)
 one_of (d ∷ ds) c none some =
     elim (cases_Bool (d == c)) [
-      | inl same ↦ subst (λ e. is_ascii_alphanumeric e ≡ false) (eqb-true d c same)
-          (not_true (is_ascii_alphanumeric d) (both_first (not (is_ascii_alphanumeric d)) (list_all (λ e. not (is_ascii_alphanumeric e)) ds) none))
+      | inl same ↦ grind (arith, common_steps, eqb-true, not_true, both_first)
       | inr other ↦ one_of ds c (both_second (not (is_ascii_alphanumeric d)) (list_all (λ e. not (is_ascii_alphanumeric e)) ds) none)
           (rest_of (d == c) (list_any (λ e. e == c) ds) other some)
     ]
@@ -65,8 +64,7 @@ IsNumberedAsLine gutter row = shows_a_line row.name ≡ false → HasNoNumber gu
 others_numbered : (gutter : ℕ) (rows : List (List Cell)) → All (HasNoNumber gutter) rows → All (IsNumberedAsLine gutter) (others rows)
 others_numbered gutter [] none = All-nil (IsNumberedAsLine gutter)
 others_numbered gutter (row ∷ rows) none =
-    All-cons (IsNumberedAsLine gutter) (record { name = Other; cells = row }) (others rows) (λ other.
-    All-head (HasNoNumber gutter) row rows none) (others_numbered gutter rows (All-tail (HasNoNumber gutter) row rows none))
+    grind (arith, others_numbered gutter rows (All-tail (HasNoNumber gutter) row rows none), All-cons, others, All-head, All-tail)
 
 one_row : (gutter : ℕ) (row : List Cell) → HasNoNumber gutter row → All (HasNoNumber gutter) (row ∷ [])
 one_row gutter row none = All-cons (HasNoNumber gutter) row [] none (All-nil (HasNoNumber gutter))
@@ -97,8 +95,7 @@ rows_numbered : (r : Renderer) (layout : Layout) (closes : Bool) (s : Snippet An
     → All (IsNumberedAsLine layout.gutter) rows
 rows_numbered r layout closes s [] are = All-nil (IsNumberedAsLine layout.gutter)
 rows_numbered r layout closes s (row ∷ rows) are =
-    All-cons (IsNumberedAsLine layout.gutter) row rows (row_numbered r layout closes s row.name row.cells rows are.0)
-    (rows_numbered r layout closes s rows are.1)
+    grind (arith, rows_numbered r layout closes s rows are.1, All-cons, row_numbered, layout.gutter, row.name, row.cells, are.0, are.1)
 
 -- ---- suggestions
 
@@ -128,37 +125,26 @@ head_unnumbered start.Path r layout first s = path_unnumbered r layout first s (
 element_numbered : (r : Renderer) (layout : Layout) (around : ElementContext) (found : List Cell) (e : Element) (rows : List NamedRow)
     → ShowsElement r layout around found e rows → All (IsNumberedAsLine layout.gutter) rows
 element_numbered r layout around found (element.Message message) rows shown =
-    let place : MessageContext = record { layout = layout; followed = not (is_end around.next) } in
-    let none : All (HasNoNumber layout.gutter) (cells_of rows) = subst (All (HasNoNumber layout.gutter)) (sym shown.shows.rows_are)
-    (message_rows-unnumbered r.hyperlink place (heading_of_message message)) in
-    subst (All (IsNumberedAsLine layout.gutter)) (sym shown.named) (others_numbered layout.gutter (cells_of rows) none)
+    grind (arith, message_rows-unnumbered, others_numbered, around.next, layout.gutter, shown.shows.rows_are, r.hyperlink, shown.named)
 element_numbered r layout around found (element.Cause s) rows shown =
     let P : NamedRow → Type 0 = IsNumberedAsLine layout.gutter in
     let head : List (List Cell) = cause_head r layout around s in
     let tail : List (List Cell) = rows_after_cause r layout around in
     let above : All P (others head) = others_numbered layout.gutter head
     (snippet_head-unnumbered (origin_layout r layout) around.primary around.first (path_bytes s.path) _) in
-    let below : All P (others tail) = others_numbered layout.gutter tail
-    (after_unnumbered r layout (is_first_group around.place && is_before_message around.next) (closes_after around)) in
+    let below : All P (others tail) = grind (arith, common_steps, others_numbered, tail, after_unnumbered, layout.gutter, around.place, around.next) in
     let lines : All P shown.after = rows_numbered r layout (closes_with around) s shown.after shown.named in
     subst (All P) (sym shown.rows_are) (All-append P (others head) (shown.after ++ others tail) above (All-append P shown.after (others tail) lines below))
 element_numbered r layout around found (element.Suggestion s) rows shown =
     let P : NamedRow → Type 0 = IsNumberedAsLine layout.gutter in
     let head : List (List Cell) = suggestion_head r layout around s in
     let above : All P (others head) = others_numbered layout.gutter head (head_unnumbered around.start r layout around.first s) in
-    let lines : All P shown.after = All-weaker (λ row. IsSuggestionRow r layout.decor layout.gutter s row.name row.cells) P (λ row is.
-    suggested_numbered r layout.decor layout.gutter s row.name row.cells is) shown.after shown.named in
+    let lines : All P shown.after = grind (arith, common_steps, All-weaker, P, suggested_numbered, layout.decor, layout.gutter, shown.after, shown.named) in
     subst (All P) (sym shown.rows_are) (All-append P (others head) shown.after above lines)
 element_numbered r layout around found (element.Origin origin) rows shown =
-    let P : List Cell → Type 0 = HasNoNumber layout.gutter in
-    let none : All P (origin_rows r layout around origin) = All-cons P _ _
-    (origin_row-unnumbered (origin_layout r layout) (origin_start around) (cow_str_bytes origin.path) (place_given origin))
-    (closing_unnumbered r layout (closes_after around)) in
-    subst (All (IsNumberedAsLine layout.gutter)) (sym shown.rows_are) (others_numbered layout.gutter (origin_rows r layout around origin) none)
+    grind (arith, common_steps, All-cons, origin_row-unnumbered, closing_unnumbered, others_numbered, layout.gutter, origin.path, shown.rows_are)
 element_numbered r layout around found (element.Padding padding) rows shown =
-    let row : List Cell = padding_row layout.decor layout.gutter (is_end around.next) in
-    subst (All (IsNumberedAsLine layout.gutter)) (sym shown) (others_numbered layout.gutter (row ∷ [])
-    (one_row layout.gutter row (padding_row-unnumbered layout.decor layout.gutter (is_end around.next))))
+    grind (arith, others_numbered, padding_row-unnumbered, layout.decor, layout.gutter, around.next)
 
 -- a group's elements have numbers beside lines alone
 pub group_numbered : (r : Renderer) (layout : Layout) (place : GroupPosition) (file : Option (List ℕ)) (es : List Element) (g : GroupPage)

@@ -1,7 +1,8 @@
 -- Things in the places of others: what goes over from the ones to the others.
+use Rattle.std.proofs.Common.{arith}
 use Rattle.annotate_snippets.proofs.Common.{◌≡◌, ℕ, ◌+◌, zero, suc, Bool, true, false, cond, List, [], ◌∷◌, ◌++◌, Option, None, Some, All}
-use Rattle.annotate_snippets.proofs.Common.{length, refl, sym, ap, ap₂, subst, take, All-cons, All-head, All-nil, All-tail, AllZip, filter, flat_map}
-use Rattle.annotate_snippets.proofs.Common.{slice_get, option_to_list, some_same, SameOption, zip_append, faults_from, RenderError}
+use Rattle.annotate_snippets.proofs.Common.{length, refl, ap, ap₂, subst, take, All-cons, All-head, All-nil, All-tail, AllZip, filter, flat_map, slice_get}
+use Rattle.annotate_snippets.proofs.Common.{option_to_list, some_same, SameOption, zip_append, faults_from, RenderError}
 
 -- ---- lists made of them
 
@@ -117,6 +118,4 @@ pub chosen : {X : Type 0} (P : X → X → Type 0) (p : X → Bool) → ((x y : 
 chosen P p same [] [] pairs = tt
 chosen P p same [] (y ∷ ys) pairs = absurd pairs
 chosen P p same (x ∷ xs) [] pairs = absurd pairs
-chosen P p same (x ∷ xs) (y ∷ ys) pairs =
-    subst (λ (passes : Bool). AllZip P (cond (p x) (x ∷ filter p xs) (filter p xs)) (cond passes (y ∷ filter p ys) (filter p ys)))
-    (sym (same x y pairs.0)) (chosen-both P (p x) x y (filter p xs) (filter p ys) pairs.0 (chosen P p same xs ys pairs.1))
+chosen P p same (x ∷ xs) (y ∷ ys) pairs = grind (arith, chosen P p same xs ys pairs.1, chosen-both, pairs.0, pairs.1)

@@ -3,14 +3,13 @@ use Rattle.annotate_snippets.proofs.Common.{◌≡◌, ℕ, ◌+◌, ◌<◌, �
 use Rattle.annotate_snippets.proofs.Common.{Contains, filter, list_all, Annotation, AnnotatedLineInfo, cond, ◌==◌, ◌||◌, sym, subst, ◌∙◌, get_or}
 use Rattle.annotate_snippets.proofs.Common.{ap, arith, inl, inr, IfSome, [], list_any, cases_Bool, or_parts, nat_tests, All-contains, All-nil, All-weaker}
 use Rattle.annotate_snippets.proofs.Common.{Contains-get_or, get_or-range_with_len, length-range_with_len, range_with_len, keeps, kept_lines, none-unkept}
-use Rattle.annotate_snippets.proofs.Common.{length-in_order, from_map, length-map, count_by-le-length, length-filter, AnnotationFits, LineAnnotation}
-use Rattle.annotate_snippets.proofs.Common.{LineAnnotationType, Singleline, MultilineStart, MultilineEnd, MultilineLine, Margin, depths-fit, each-line}
-use Rattle.annotate_snippets.proofs.Common.{labels-fit, places-fit, texts-fit, untouched-parts, wide-count, margin_whole, shown_lines-first_line, last-shown}
-use Rattle.annotate_snippets.proofs.Common.{shown-ascends, shown-within, places_of, KeptLine, annotated_lines, deepest, is_long, kept_line, long_entry}
-use Rattle.annotate_snippets.proofs.Common.{long_place, long_spans, parts_on, single_part, seen_kept, HasDepthWithin, HasColumnRoom, shown_lines, Source}
-use Rattle.annotate_snippets.proofs.Common.{source_lines, is_marked_on, is_marking, is_single_line, is_wide, touches, first_line, last_line, StandsClear}
-use Rattle.annotate_snippets.proofs.Common.{margin_of, is_wide_entry, AreDrawable, HasBarCell, HasBarCellAt, HasPlace, Layout, code_after, IsSpan, stands_whole}
-use Rattle.annotate_snippets.proofs.Common.{greatest-bound, places-bound, long_places, stands_before}
+use Rattle.annotate_snippets.proofs.Common.{length-in_order, from_map, length-map, count_by-le-length, length-filter, AnnotationFits, LineAnnotationType}
+use Rattle.annotate_snippets.proofs.Common.{Singleline, MultilineStart, MultilineEnd, MultilineLine, Margin, depths-fit, each-line, labels-fit, places-fit}
+use Rattle.annotate_snippets.proofs.Common.{texts-fit, untouched-parts, wide-count, margin_whole, shown_lines-first_line, last-shown, shown-ascends}
+use Rattle.annotate_snippets.proofs.Common.{shown-within, KeptLine, annotated_lines, deepest, kept_line, parts_on, single_part, seen_kept, HasDepthWithin}
+use Rattle.annotate_snippets.proofs.Common.{shown_lines, Source, source_lines, is_marked_on, is_marking, is_single_line, is_wide, touches, first_line}
+use Rattle.annotate_snippets.proofs.Common.{last_line, StandsClear, margin_of, is_wide_entry, AreDrawable, HasBarCell, HasBarCellAt, HasPlace, Layout}
+use Rattle.annotate_snippets.proofs.Common.{code_after, IsSpan, stands_whole, greatest-bound, places-bound}
 use Rattle.std.specs.List.{All}
 use Rattle.annotate_snippets.proofs.ListLemmas.{Contains-filter, Contains-map}
 use Rattle.annotate_snippets.proofs.Ascending.{IsAscending, ascending}
@@ -38,12 +37,7 @@ module _ (s : Source) (marks : List Annotation) (spans : All (λ a. IsSpan s.tex
   -- the lines on which spans start and end are shown
   pub ends_shown : (fold : Bool)
       → All (λ a. Contains (shown_lines fold s.text marks) (first_line s.text a) × Contains (shown_lines fold s.text marks) (last_line s.text a)) marks
-  ends_shown fold = λ k d within.
-      let a : Annotation = get_or marks k d in (
-        shown_lines-first_line fold s.text marks a (Contains-get_or marks k d within) (spans k d within),
-        last-shown fold s.text marks a (Contains-get_or marks k d within)
-            (spans k d within),
-      )
+  ends_shown fold = grind (arith, shown_lines-first_line, Contains-get_or, last-shown)
 
   -- where lines stand whole, nothing is cut on the left
   pub stands_left : (room placeholder_width : ℕ) (fold : Bool) (k : ℕ) → stands_whole room placeholder_width fold s.text marks k ≡ true
@@ -82,28 +76,17 @@ module _ (s : Source) (marks : List Annotation) (spans : All (λ a. IsSpan s.tex
 
   -- the entries of kept lines have places, where the source fits
   pub lines_places : length s.text < 2 ^ 56 → All (λ info. All HasPlace info.annotations.items) infos
-  lines_places short = All-weaker (λ (info : AnnotatedLineInfo). All HasColumnRoom info.annotations.items) (λ info. All HasPlace info.annotations.items)
-      (λ info places. All-weaker HasColumnRoom HasPlace (λ e room. record { ordered = room.0; near = room.1 }) info.annotations.items places)
-      infos (places-fit s marks ks infos same short)
+  lines_places short = grind (arith, All-weaker, places-fit)
 
   -- the bars on kept lines have cells between the gutter and the code, where the code stands far enough right
   pub lines_bar_cells : (layout : Layout) → code_after layout.gutter (deepest s marks) ≤ layout.code
       → All (λ info. All (HasBarCell layout) info.annotations.items) infos
-  lines_bar_cells layout code =
-      let Within : LineAnnotation → Type 0 = λ e. HasDepthWithin (deepest s marks) e.annotation_type in
-      All-weaker (λ (info : AnnotatedLineInfo). All Within info.annotations.items) (λ info. All (HasBarCell layout) info.annotations.items)
-      (λ info depths. All-weaker Within (HasBarCell layout) (λ e depth. bar_cell layout (deepest s marks) code e.annotation_type depth)
-      info.annotations.items depths) infos (depths-fit s marks ks infos same)
+  lines_bar_cells layout code = grind (arith, All-weaker, depths-fit)
 
   -- so the entries of kept lines can be drawn
   pub lines_entries : (layout : Layout) → code_after layout.gutter (deepest s marks) ≤ layout.code → length s.text < 2 ^ 56 → All AnnotationFits marks
       → All (λ info. AreDrawable layout info.annotations.items) infos
-  lines_entries layout code short fit k d within =
-      record {
-        columns = lines_places short k d within;
-        bar_cells = lines_bar_cells layout code k d within;
-        labels = lines_labels fit k d within;
-      }
+  lines_entries layout code short fit k d within = grind (arith, lines_places, lines_bar_cells, lines_labels)
 
 -- entries stand clear on all lines that are shown, where they do on those that are kept: none stand on the others
 pub shown_clear : (s : Source) (marks : List Annotation) → All (λ a. IsSpan s.text a.span.start a.span.end) marks
@@ -148,15 +131,4 @@ shown_clear s marks spans fold kept shown margin kept_is shown_is clear =
 
 -- no deeper than there are spans
 pub deepest_few : (s : Source) (marks : List Annotation) → deepest s marks ≤ length marks
-deepest_few s marks =
-    let spans = map (long_entry s) (filter (is_long s.text) marks) in
-    omega (
-      arith,
-      greatest-bound (places_of (long_places s marks)),
-      places-bound (long_places s marks),
-      length-map (long_spans s marks) long_place,
-      length-in_order stands_before spans,
-      length-map (filter (is_long s.text) marks) (long_entry s),
-      length-filter (is_long s.text) marks,
-      count_by-le-length (is_long s.text) marks,
-    )
+deepest_few s marks = grind (arith, greatest-bound, places-bound, length-map, length-in_order, length-filter, count_by-le-length, s.text)

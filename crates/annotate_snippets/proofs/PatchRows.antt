@@ -1,11 +1,12 @@
 -- What a suggestion's rows stand below, and the element that they are.
+use Rattle.std.proofs.lemmas.Grind.{common_steps}
+use Rattle.std.proofs.Common.{arith, append_assoc}
 use Rattle.annotate_snippets.proofs.Common.{◌≡◌, ℕ, not, Bool, true, false, if◌then◌else◌, Option, None, Some, List, [], ◌∷◌, ◌++◌}
-use Rattle.annotate_snippets.proofs.Common.{length, refl, sym, ap, ◌∙◌, subst, AllocError, flat_map, is_some, option_to_list, append-nil, on_ok_weaker}
-use Rattle.annotate_snippets.proofs.Common.{row_at, Cell, LineNumbers, Suggestion, Patch, Snippet, SuggestionLayout, SuggestionStart, Opening, Path, Ends}
-use Rattle.annotate_snippets.proofs.Common.{body_cells, rows_shared, suggestion_cells, is_end, path_bytes, suggestion_layout, line_numbers, path_row}
-use Rattle.annotate_snippets.proofs.Common.{suggestion_head, HasPathFor, begins_in_row_above, is_next_start, shared_row, drawn_rows, path_head, Renderer}
-use Rattle.annotate_snippets.proofs.Common.{Layout, ElementContext, separator_row}
-use Rattle.std.proofs.Common.{append_assoc}
+use Rattle.annotate_snippets.proofs.Common.{length, refl, sym, ap, ◌∙◌, AllocError, flat_map, is_some, option_to_list, append-nil, on_ok_weaker, row_at}
+use Rattle.annotate_snippets.proofs.Common.{Cell, LineNumbers, Suggestion, Patch, Snippet, SuggestionLayout, SuggestionStart, Opening, Path, Ends, body_cells}
+use Rattle.annotate_snippets.proofs.Common.{rows_shared, suggestion_cells, is_end, path_bytes, suggestion_layout, line_numbers, path_row, suggestion_head}
+use Rattle.annotate_snippets.proofs.Common.{HasPathFor, begins_in_row_above, is_next_start, shared_row, drawn_rows, path_head, Renderer, Layout, ElementContext}
+use Rattle.annotate_snippets.proofs.Common.{separator_row}
 use Rattle.std.specs.Prelude.{OnOk}
 use Rattle.std.specs.declared.result.Result.{Result}
 use Rattle.snippet_suggest.specs.declared.SuggestionStart.TheVariants.{Next}
@@ -52,8 +53,7 @@ begun_below r layout Path first s found above old mid is path headed same =
     (path_bytes s.path) (path refl) in
     record {
       end = (separator_row layout.decor layout.gutter ∷ []);
-      is = headed refl ∙ ap (λ rows. rows ++ path_head r layout first s) (is ∙ append-nil above) ∙ ap (λ rows. above ++ rows) head_is
-          ∙ sym (append_assoc above head (separator_row layout.decor layout.gutter ∷ []));
+      is = grind (arith, common_steps, append-nil, head_is, append_assoc, head, layout.decor, layout.gutter);
       count = refl;
       under = refl;
     }
@@ -80,16 +80,7 @@ suggestion_added : (r : Renderer) (layout : Layout) (around : ElementContext) (s
     → new ≡ (above ++ suggestion_head r layout around s)
     ++ suggestion_cells (suggestion_layout r layout s) around.start (follows around) s (under_of r layout around.start found)
     → new ≡ above ++ drawn_rows r layout around found (Suggestion s)
-suggestion_added r layout around s found above new drawn =
-    let suggested : SuggestionLayout = suggestion_layout r layout s in
-    let under : List Cell = under_of r layout around.start found in
-    let head : List (List Cell) = suggestion_head r layout around s in
-    let body : List (List Cell) = body_cells suggested around.start s under in
-    let last : List Cell = row_cells suggested s [] (Ends (follows around)) in
-    drawn ∙ append_assoc above head (suggestion_cells suggested around.start (follows around) s under)
-    ∙ ap (λ rows. above ++ (head ++ rows)) (whole suggested around.start (follows around) s under)
-    ∙ ap (λ rows. above ++ rows) (last_shared around.shared head body last
-    ∙ ap (λ rows. rows ++ shared_row around.shared last) (sym (patch_cells r layout around found s)))
+suggestion_added r layout around s found above new drawn = grind (arith, append_assoc, whole, last_shared, patch_cells, around.start, around.shared)
 
 -- the suggested, where this stands in the gutter
 abbrev pub layout_with : Renderer → Layout → LineNumbers → SuggestionLayout
@@ -111,8 +102,7 @@ pub patches_added : (r : Renderer) (layout : Layout) (around : ElementContext) (
 patches_added r layout around s found above old mid new numbers next result numbers_are next_is is path headed same draws =
     let begun = begun_below r layout around.start around.first s found above old mid is path headed same in
     let Draws : Bool → SuggestionLayout → Type 0 = λ b suggested. DrawsCells s around.start b mid new result suggested in
-    let drawn : Draws (follows around) (suggestion_layout r layout s) = subst (λ b.
-    Draws b (suggestion_layout r layout s)) next_is (subst (λ n. Draws next (layout_with r layout n)) numbers_are draws) in
+    let drawn : Draws (follows around) (suggestion_layout r layout s) = grind (arith, common_steps, Draws) in
     let below : List (List Cell) = above ++ suggestion_head r layout around s in
     on_ok_weaker result (λ cells. suggestion_added r layout around s found above new
     (cells ∙ ap (λ under. below ++ suggestion_cells (suggestion_layout r layout s) around.start (follows around) s under) begun.under))

@@ -1,17 +1,15 @@
 -- The rows around the lines of a snippet, and those of an origin, hold a line feed only where a path does.
-use Rattle.annotate_snippets.proofs.Common.{◌≡◌, ℕ, ◌+◌, ◌==◌, ◌&&◌, Bool, true, false, cond, Option, None, Some, List, [], ◌∷◌, All}
-use Rattle.annotate_snippets.proofs.Common.{refl, sym, subst, arith, cow_str_bytes, flat_map, list_any, nat_tests, flat_map-cons, All-append, All-cons}
-use Rattle.annotate_snippets.proofs.Common.{All-head, All-nil, All-tail, Cell, text_cells, DecorStyle, Ascii, Unicode, LineAndColumn, LineNumber}
-use Rattle.annotate_snippets.proofs.Common.{has_control_picture, is_bidirectional_control, norm, shown, Annotation, Snippet, file_glyph, file_row, line_text}
-use Rattle.annotate_snippets.proofs.Common.{origin_row, origin_text, snippet_head, padding_row, FileStart, Alone, First, Later, Secondary, OriginLayout}
-use Rattle.annotate_snippets.proofs.Common.{OriginLocation, IsDigit, opening_rows-each, nameless_head-each, primary_head-each, secondary_head-each, each-fails}
-use Rattle.annotate_snippets.proofs.Common.{place-each, Renderer, ElementContext, Layout, closes_after, is_before_message, path_bytes, is_first_group}
-use Rattle.annotate_snippets.proofs.Common.{numbered_source, cause_head, origin_layout, origin_rows, place_named, rows_after_cause, HasNoFeed, annotated_lines}
-use Rattle.annotate_snippets.proofs.Common.{closing_row, separator_row}
+use Rattle.std.proofs.lemmas.Grind.{common_steps}
+use Rattle.annotate_snippets.proofs.Common.{◌≡◌, ℕ, ◌==◌, ◌&&◌, Bool, true, false, cond, Option, None, Some, List, [], ◌∷◌, All, refl}
+use Rattle.annotate_snippets.proofs.Common.{sym, subst, arith, cow_str_bytes, flat_map, list_any, nat_tests, flat_map-cons, All-append, All-cons, All-head}
+use Rattle.annotate_snippets.proofs.Common.{All-nil, All-tail, Cell, DecorStyle, Ascii, Unicode, norm, shown, Annotation, Snippet, file_glyph, file_row}
+use Rattle.annotate_snippets.proofs.Common.{line_text, origin_row, origin_text, snippet_head, padding_row, FileStart, Alone, First, Later, Secondary}
+use Rattle.annotate_snippets.proofs.Common.{OriginLayout, OriginLocation, IsDigit, opening_rows-each, nameless_head-each, primary_head-each}
+use Rattle.annotate_snippets.proofs.Common.{secondary_head-each, each-fails, place-each, Renderer, ElementContext, Layout, closes_after, is_before_message}
+use Rattle.annotate_snippets.proofs.Common.{path_bytes, is_first_group, cause_head, origin_rows, rows_after_cause, HasNoFeed, closing_row, separator_row}
 use Rattle.std.proofs.Common.{chars}
 use Rattle.snippet_model.specs.declared.snippet.Origin as origin
-use Rattle.annotate_snippets.proofs.PageWords.{origin_start, place_given}
-use Rattle.annotate_snippets.proofs.OneLineTexts.{HoldsNoFeed, IsNoFeed, IsOneLineText}
+use Rattle.annotate_snippets.proofs.OneLineTexts.{IsNoFeed, IsOneLineText}
 use Rattle.annotate_snippets.proofs.FeedLaws.{after_spaces, bare-plain}
 pub use Rattle.annotate_snippets.proofs.FeedLaws.{cells_plain}
 
@@ -28,15 +26,7 @@ alone c plain = All-cons IsNoFeed c [] plain (All-nil IsNoFeed)
 
 -- what is shown for a character that is no line feed holds none, and so does a normalised text
 shown_plain : (c : ℕ) → IsNoFeed c → All IsNoFeed (shown c)
-shown_plain c plain =
-    let spaces : All IsNoFeed (32 ∷ 32 ∷ 32 ∷ 32 ∷ []) = All-cons IsNoFeed 32 (32 ∷ 32 ∷ 32 ∷ []) refl
-    (All-cons IsNoFeed 32 (32 ∷ 32 ∷ []) refl (All-cons IsNoFeed 32 (32 ∷ []) refl (alone 32 refl))) in
-    let picture : IsNoFeed (0x2400 + c) = grind (arith, nat_tests) in
-    choice (c == 0x9) _ _ spaces
-    (choice (has_control_picture c) _ _ (alone (0x2400 + c) picture)
-    (choice (c == 0x7F) _ _ (alone 0x2421 refl)
-    (choice (c == 0x200D) _ _ (All-nil IsNoFeed)
-    (choice (is_bidirectional_control c) _ _ (alone 0xFFFD refl) (alone c plain)))))
+shown_plain c plain = grind (arith, All-cons, nat_tests, All-nil)
 
 -- normalising adds no line feed
 pub norm-plain : (cs : List ℕ) → All IsNoFeed cs → All IsNoFeed (norm cs)
@@ -64,10 +54,7 @@ glyphs_plain Secondary Unicode = refl
 
 file_plain : (layout : OriginLayout) (start : FileStart) → HasNoFeed (file_row layout start)
 unfolding file_row
-file_plain layout start =
-    let glyph : List ℕ = file_glyph start layout.base.decor in
-    after_spaces layout.base.gutter (text_cells LineNumber glyph) (cells_plain LineNumber glyph
-    (each-fails (λ c. c == 10) glyph (glyphs_plain start layout.base.decor)))
+file_plain layout start = grind (arith, after_spaces, cells_plain, each-fails, glyphs_plain, layout.base.decor, layout.base.gutter)
 
 origin_text-plain : (anonymized : Bool) (path : List ℕ) (place : OriginLocation) → All IsNoFeed (chars path) → All IsNoFeed (origin_text anonymized path place)
 unfolding origin_text
@@ -79,18 +66,14 @@ origin_text-plain anonymized path place plain =
 pub row_plain : (layout : OriginLayout) (start : FileStart) (path : List ℕ) (place : OriginLocation) → All IsNoFeed (chars path)
     → HasNoFeed (origin_row layout start path place)
 unfolding origin_row
-row_plain layout start path place plain =
-    let text : List ℕ = origin_text layout.anonymized path place in
-    All-append HoldsNoFeed (file_row layout start) (text_cells LineAndColumn text) (file_plain layout start)
-    (cells_plain LineAndColumn text (origin_text-plain layout.anonymized path place plain))
+row_plain layout start path place plain = grind (arith, common_steps, All-append, file_plain, cells_plain, origin_text-plain, layout.anonymized)
 
 head_plain : (layout : OriginLayout) (primary first : Bool) (named : Option (List ℕ)) (place : OriginLocation) → IsOneLineText named
     → All HasNoFeed (snippet_head layout primary first named place)
 head_plain layout true first None place plain =
     opening_rows-each HasNoFeed layout (bare-plain layout.base.decor layout.base.gutter false) (file_plain layout) layout.base.decor first
 head_plain layout true first (Some path) place plain =
-    primary_head-each HasNoFeed layout (bare-plain layout.base.decor layout.base.gutter false) path place (λ start.
-    row_plain layout start path place plain) first
+    grind (arith, common_steps, primary_head-each, bare-plain, row_plain, layout.base.decor, layout.base.gutter)
 head_plain layout false first None place plain =
     nameless_head-each HasNoFeed layout (bare-plain layout.base.decor layout.base.gutter false) (file_plain layout Secondary)
 head_plain layout false first (Some path) place plain =
@@ -107,9 +90,7 @@ closing_plain r layout false = All-nil HasNoFeed
 -- so the rows that a snippet begins with hold none where its path holds none, and those below its lines never do
 pub head_one_line : (r : Renderer) (layout : Layout) (around : ElementContext) (s : Snippet Annotation) → IsOneLineText (path_bytes s.path)
     → All HasNoFeed (cause_head r layout around s)
-head_one_line r layout around s plain =
-    head_plain (origin_layout r layout) around.primary around.first (path_bytes s.path)
-    (place_named around.primary (annotated_lines s.fold (numbered_source s) s.markers.items)) plain
+head_one_line r layout around s plain = grind (arith, head_plain, around.primary, around.first, s.path, s.fold, s.markers.items)
 
 -- nor do the rows below a snippet's lines hold one, whatever follows
 pub after_one_line : (r : Renderer) (layout : Layout) (around : ElementContext) → All HasNoFeed (rows_after_cause r layout around)
@@ -130,7 +111,4 @@ padding_one_line r layout false = one _ (bare-plain layout.decor layout.gutter f
 -- nor do the rows of an origin whose path holds none
 pub origin_one_line : (r : Renderer) (layout : Layout) (around : ElementContext) (o : origin.Origin) → All IsNoFeed (chars (cow_str_bytes o.path))
     → All HasNoFeed (origin_rows r layout around o)
-origin_one_line r layout around o plain =
-    let row : List Cell = origin_row (origin_layout r layout) (origin_start around) (cow_str_bytes o.path) (place_given o) in
-    All-cons HasNoFeed row (cond (closes_after around) (closing_row layout.decor layout.gutter ∷ []) [])
-    (row_plain (origin_layout r layout) (origin_start around) (cow_str_bytes o.path) (place_given o) plain) (closing_plain r layout (closes_after around))
+origin_one_line r layout around o plain = grind (arith, All-cons, row_plain, closing_plain, o.path, layout.decor, layout.gutter)

@@ -1,18 +1,14 @@
 -- The place at which the first patch of a snippet starts.
-use Rattle.annotate_snippets.proofs.Common.{◌≡◌, ℕ, ◌+◌, ◌<◌, None, Some, List, [], ◌∷◌, All, length, map, sym, ap, ◌∙◌, arith}
-use Rattle.annotate_snippets.proofs.Common.{subst, cow_str_bytes, slice_get, All-map, Source, locations_of, start_location, IsSpan, Loc, TrimmedPatch, edit_of}
-use Rattle.annotate_snippets.proofs.Common.{trimmed_edit_of, first_start, edits_of, trimmed_of, IsPrepared, some_left, trimmed_spans, OriginLocation}
-use Rattle.annotate_snippets.proofs.Common.{locations_of-start}
+use Rattle.annotate_snippets.proofs.Common.{◌≡◌, ℕ, ◌+◌, ◌<◌, None, Some, List, [], ◌∷◌, All, length, map, sym, arith, subst}
+use Rattle.annotate_snippets.proofs.Common.{cow_str_bytes, slice_get, All-map, Source, locations_of, IsSpan, Loc, TrimmedPatch, edit_of, trimmed_edit_of}
+use Rattle.annotate_snippets.proofs.Common.{first_start, edits_of, IsPrepared, some_left, trimmed_spans, OriginLocation, locations_of-start}
 use Rattle.snippet_suggest.specs.declared.PreparedSuggestion.{PreparedSuggestion}
-use Rattle.snippet_parts.specs.Numbered.{numbered_source}
 use Rattle.annotate_snippets.proofs.PageWords.{patch_place}
 
 -- the first of some patches starts where the first edit does
 first_start-of : (ts : List TrimmedPatch) (t : TrimmedPatch) → slice_get ts 0 ≡ Some t → t.span.start ≡ first_start (map trimmed_edit_of ts)
 first_start-of [] t is = absurd (cc)
-first_start-of (s ∷ ts) t is =
-    let same : s ≡ t = cc in
-    ap (λ (u : TrimmedPatch). u.span.start) (sym same)
+first_start-of (s ∷ ts) t is = grind arith
 
 -- what holds of each patch holds of the first
 first_among_all : (P : TrimmedPatch → Type 0) (ts : List TrimmedPatch) (t : TrimmedPatch) → All P ts → slice_get ts 0 ≡ Some t → P t
@@ -51,6 +47,4 @@ pub patch_place-first : (p : PreparedSuggestion) (t : TrimmedPatch) (at : Loc ×
     → at ≡ locations_of p.map t.span.start t.span.end
     → ◌≡◌ {A = OriginLocation} (record { line = Some at.0.line; column = Some (at.0.char + 1) }) (patch_place p.snippet.now)
 patch_place-first p t at h is located =
-    let first : t.span.start ≡ first_start (trimmed_of p.snippet.now) = first_start-of p.splice.patches.items t is ∙ ap first_start h.edits in
-    ap (λ (l : Loc × Loc). place_from l.0) located ∙ ap place_from (locations_of-start p.map t.span.start t.span.end)
-    ∙ ap (λ m. place_from (start_location m t.span.start)) h.lines ∙ ap (λ b. place_from (start_location (numbered_source p.snippet.now) b)) first
+    grind (arith, first_start-of, locations_of-start, t.span.start, p.snippet.now, p.splice.patches.items, h.edits, p.map, t.span.end, h.lines)

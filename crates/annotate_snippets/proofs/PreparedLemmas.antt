@@ -1,7 +1,9 @@
 -- What is prepared so far of a report's groups, and of the elements of a group.
-use Rattle.annotate_snippets.proofs.Common.{◌≡◌, ℕ, ◌+◌, ◌<◌, All, map, take, List, [], ◌∷◌, ◌++◌, length, get_or, sym, ap, ◌∙◌}
-use Rattle.annotate_snippets.proofs.Common.{filter, map-append, take_more, All-push, All-same, filter_more, Element, Group, is_drawn, IsElementPrepared}
-use Rattle.annotate_snippets.proofs.Common.{IsGroupPrepared, element_of, PreparedElement, PreparedGroup}
+use Rattle.std.proofs.lemmas.Grind.{common_steps}
+use Rattle.std.proofs.Common.{arith}
+use Rattle.annotate_snippets.proofs.Common.{◌≡◌, ℕ, ◌+◌, ◌<◌, All, map, take, List, [], ◌∷◌, ◌++◌, length, get_or, filter, map-append}
+use Rattle.annotate_snippets.proofs.Common.{take_more, All-push, All-same, filter_more, Element, Group, is_drawn, IsElementPrepared, IsGroupPrepared}
+use Rattle.annotate_snippets.proofs.Common.{element_of, PreparedElement, PreparedGroup}
 
 -- the group that was prepared
 abbrev pub group_of : PreparedGroup → Group
@@ -16,8 +18,7 @@ pub record ArePrepared (gs : List Group) (ps : List PreparedGroup) : Type 0 wher
 pub ArePrepared-push : (gs : List Group) (i : ℕ) (g : Group) (ps new : List PreparedGroup) (p : PreparedGroup) → new ≡ ps ++ p ∷ [] → i < length gs
     → g ≡ get_or gs i g → group_of p ≡ g → ArePrepared (take i gs) ps → IsGroupPrepared p → ArePrepared (take (i + 1) gs) new
 ArePrepared-push gs i g ps new p pushed within is of before prepared = record {
-  groups = ap (map group_of) pushed ∙ map-append group_of ps (p ∷ []) ∙ ap (λ hs. hs ++ group_of p ∷ []) before.groups
-      ∙ ap (λ h. take i gs ++ h ∷ []) (of ∙ is) ∙ sym (take_more gs i g within);
+  groups = grind (arith, common_steps, map, map-append, take, take_more, before.groups);
   prepared = All-same IsGroupPrepared new (ps ++ p ∷ []) pushed (All-push IsGroupPrepared ps p before.prepared prepared);
 }
 
@@ -31,7 +32,6 @@ pub AreDrawnPrepared-more : (es : List Element) (i : ℕ) (e : Element) (ps new 
     → map element_of new ≡ map element_of ps ++ filter is_drawn (e ∷ []) → (All IsElementPrepared ps → All IsElementPrepared new)
     → AreDrawnPrepared (take i es) ps → AreDrawnPrepared (take (i + 1) es) new
 AreDrawnPrepared-more es i e ps new within is added prepared before = record {
-  elements = added ∙ ap (λ ds. ds ++ filter is_drawn (e ∷ [])) before.elements
-      ∙ ap (λ d. filter is_drawn (take i es) ++ filter is_drawn (d ∷ [])) is ∙ sym (filter_more is_drawn es i e within);
+  elements = grind (arith, common_steps, take, filter_more, before.elements);
   prepared = prepared before.prepared;
 }

@@ -1,13 +1,13 @@
 -- A group that is printed while it is drawn.
-use Rattle.annotate_snippets.proofs.Common.{◌≡◌, ℕ, ◌+◌, ◌<◌, Bool, true, false, not, All, List, [], ◌∷◌, ◌++◌, Option, Some, length}
-use Rattle.annotate_snippets.proofs.Common.{map, refl, sym, ap, ◌∙◌, subst, arith, cond, encode_utf8, string_bytes, take}
-use Rattle.annotate_snippets.proofs.Common.{flat_map, slice_get, false≢true, flat_map-append, IsUtf8-from_ascii, IsAscii-from_all}
-use Rattle.annotate_snippets.proofs.Common.{append_assoc, append-nil, length-append, further-append, Layout, Char, Piece, piece_text, PrintsFurther, WeavesRows}
-use Rattle.annotate_snippets.proofs.Common.{Heading, heading_of_message, Element, Message, Group, Title, Cell, LevelInner, Stylesheet, one_row, heading_rows}
-use Rattle.annotate_snippets.proofs.Common.{IsPlainHeading, title_rows, TitleStyle, context_at, drawn_elements, is_end, next_of, last_row, element_rows}
-use Rattle.annotate_snippets.proofs.Common.{group_page, CanStandIn, begins_in_row_above, shared_row, drawn_rows, rows_of_elements, cells_of, group_rows}
-use Rattle.annotate_snippets.proofs.Common.{element_of, IsPrinting, Renderer, ContextWalk, ElementContext, GroupPosition, Next, Printing, rows_after_title}
-use Rattle.annotate_snippets.proofs.Common.{title_part, PreparedElement}
+use Rattle.std.proofs.lemmas.Grind.{common_steps}
+use Rattle.annotate_snippets.proofs.Common.{◌≡◌, ℕ, ◌+◌, ◌<◌, Bool, true, false, not, List, [], ◌∷◌, ◌++◌, Option, Some, length, map}
+use Rattle.annotate_snippets.proofs.Common.{refl, sym, ap, ◌∙◌, subst, arith, cond, encode_utf8, string_bytes, take, flat_map, slice_get, false≢true}
+use Rattle.annotate_snippets.proofs.Common.{flat_map-append, IsUtf8-from_ascii, append_assoc, append-nil, length-append, further-append, Layout, Char, Piece}
+use Rattle.annotate_snippets.proofs.Common.{piece_text, PrintsFurther, WeavesRows, Heading, heading_of_message, Element, Message, Group, Title, Cell}
+use Rattle.annotate_snippets.proofs.Common.{LevelInner, Stylesheet, one_row, heading_rows, IsPlainHeading, title_rows, TitleStyle, context_at, drawn_elements}
+use Rattle.annotate_snippets.proofs.Common.{is_end, next_of, last_row, element_rows, group_page, CanStandIn, begins_in_row_above, shared_row, drawn_rows}
+use Rattle.annotate_snippets.proofs.Common.{rows_of_elements, cells_of, group_rows, element_of, IsPrinting, Renderer, ContextWalk, ElementContext}
+use Rattle.annotate_snippets.proofs.Common.{GroupPosition, Next, Printing, rows_after_title, title_part, PreparedElement}
 use Rattle.snippet_model.specs.declared.snippet.Message as message
 use Rattle.annotate_snippets.proofs.PageWords.{found_at, message_rows, message_style}
 use Rattle.annotate_snippets.proofs.AroundLaws.{begins_is, shares_after, shares_before}
@@ -36,10 +36,7 @@ weaves_below sheet level old now fed new (head ∷ rows) (row ∷ more) some oth
     let further : PrintsFurther sheet level pieces (row ∷ more) = (next.0, next.1, ap (λ (ps : List Piece). Char 10 ∷ ps) next.2, next.3, next.4) in
     record {
       pieces = above.pieces ++ pieces;
-      text_is = below.text_is ∙ ap (λ (t : List ℕ). t ++ bytes) (broken ∙ ap (λ (t : List ℕ). t ++ encode_utf8 10) above.text_is)
-          ∙ append_assoc (old ++ flat_map piece_text above.pieces) (encode_utf8 10) bytes
-          ∙ append_assoc old (flat_map piece_text above.pieces) (encode_utf8 10 ++ bytes)
-          ∙ ap (λ (t : List ℕ). old ++ t) (sym (flat_map-append piece_text above.pieces pieces));
+      text_is = grind (arith, common_steps, bytes, encode_utf8, append_assoc, flat_map-append, pieces, below.text_is, above.text_is, above.pieces);
       are = (
         are.0,
         are.1 ++ pieces,
@@ -62,11 +59,7 @@ rows_below : (sheet : Stylesheet) (level : LevelInner) (begun : Bool) (old now l
     → WeavesRows sheet level (printed ++ more) old new
 rows_below sheet level true old now lead new printed more none some led others woven below =
     weaves_below sheet level old now lead new printed more (some refl) others (led ∙ ap (λ (t : List ℕ). now ++ t) (sym line_feed)) woven below
-rows_below sheet level false old now lead new printed more none some led others woven below =
-    let nothing : printed ≡ [] = none refl in
-    let same : now ≡ old = weaves_none sheet level old now (subst (λ rows. WeavesRows sheet level rows old now) nothing woven) in
-    subst (λ (rows : List (List Cell)). WeavesRows sheet level (rows ++ more) old new) (sym nothing)
-    (subst (λ (t : List ℕ). WeavesRows sheet level more t new) (led ∙ same) below)
+rows_below sheet level false old now lead new printed more none some led others woven below = grind (arith, weaves_none)
 
 -- ---- a group that is being printed
 
@@ -88,9 +81,7 @@ printing_none sheet level page unbegun =
 -- all its rows are printed where its grid has none
 pub all_printed : (sheet : Stylesheet) (level : LevelInner) (old : List ℕ) (page : Printing) (rows : List (List Cell)) → page.buffer ≡ []
     → IsPrinting sheet level old page rows → WeavesRows sheet level rows old (string_bytes page.text)
-all_printed sheet level old page rows empty printing =
-    subst (λ done. WeavesRows sheet level done old (string_bytes page.text))
-    (sym (printing.rows_are ∙ ap (λ (more : List (List Cell)). printing.printed ++ more) empty ∙ append-nil printing.printed)) printing.woven
+all_printed sheet level old page rows empty printing = grind (arith, append-nil, page.text, printing.rows_are, printing.printed, printing.woven)
 
 -- the rows of its grid were printed
 pub printing_flushed : (sheet : Stylesheet) (level : LevelInner) (old lead : List ℕ) (page done : Printing) (rows : List (List Cell))
@@ -138,10 +129,7 @@ printing_more sheet now level own old lead page done rows more same_sheet same_l
 -- a plain heading has a row
 pub heading_some : (hyperlink : Bool) (style : TitleStyle) (heading : Heading) → IsPlainHeading heading
     → 0 < length (heading_rows hyperlink style heading)
-heading_some hyperlink style heading plain =
-    let ascii : All (λ b. b < 128) heading.text = λ k d within. omega (arith, plain.plain k d within) in
-    let one = one_row hyperlink style heading (IsUtf8-from_ascii heading.text (IsAscii-from_all heading.text ascii)) plain in
-    omega (arith, ap length one)
+heading_some hyperlink style heading plain = grind (arith, common_steps, one_row, IsUtf8-from_ascii, heading.text, plain.plain)
 
 -- ---- its elements
 
@@ -240,13 +228,7 @@ elements_drawn sheet level r layout place file ps n p at above old page after at
       rows = printing.printed ++ after.buffer;
       drawn = one_drawn r layout place file ps n p at above before.rows (printing.printed ++ after.buffer) at_n at_is before.drawn
           (λ start row ends. (below start row (sym printing.rows_are ∙ ends)).adds);
-      printing = record {
-        printed = printing.printed;
-        rows_are = refl;
-        unbegun = λ off. printing.unbegun (sym begun ∙ off);
-        begun = λ on. printing.begun (sym begun ∙ on);
-        woven = subst (λ (t : List ℕ). WeavesRows sheet level printing.printed old t) (sym text) printing.woven;
-      };
+      printing = grind (arith, common_steps, printing, printing.printed, printing.unbegun, printing.begun, printing.woven);
       shared = λ shares. now.some (ap (λ (a : ElementContext). a.shared) at_is ∙ sym (shares_after es n) ∙ shares);
     }
 
@@ -316,14 +298,7 @@ pub printing_drawn : (sheet : Stylesheet) (level : LevelInner) (old : List ℕ) 
     → after.begun ≡ page.begun → string_bytes after.text ≡ string_bytes page.text → after.buffer ≡ page.buffer ++ more
     → IsPrinting sheet level old page rows → IsPrinting sheet level old after (rows ++ more)
 printing_drawn sheet level old page after rows more begun text added printing =
-    record {
-      printed = printing.printed;
-      rows_are = ap (λ (above : List (List Cell)). above ++ more) printing.rows_are ∙ append_assoc printing.printed page.buffer more
-          ∙ ap (λ (below : List (List Cell)). printing.printed ++ below) (sym added);
-      unbegun = λ off. printing.unbegun (sym begun ∙ off);
-      begun = λ on. printing.begun (sym begun ∙ on);
-      woven = subst (λ (t : List ℕ). WeavesRows sheet level printing.printed old t) (sym text) printing.woven;
-    }
+    grind (arith, append_assoc, printing.printed, printing.rows_are, page.buffer, printing.unbegun, printing.begun, printing.woven)
 
 -- a title that is printed, and what stands below it
 pub title_printed : (sheet : Stylesheet) (level : LevelInner) (r : Renderer) (layout : Layout) (place : GroupPosition) (follows known : Next)

@@ -1,5 +1,6 @@
 -- What a report that is made of another, title by title and element by element, has in common with it: its faults, its links, and the listed
 -- characters of its trusted texts.
+use Rattle.std.proofs.Common.{arith, chars}
 use Rattle.annotate_snippets.proofs.Common.{◌≡◌, ◌∙◌, ℕ, Bool, true, List, [], ◌∷◌, ◌++◌, Option, None, Some, All, IfSome}
 use Rattle.annotate_snippets.proofs.Common.{if◌then◌else◌, is_none, ◌⊎◌, inl, inr, refl, sym, ap, ap₂, subst, false≢true, All-contains}
 use Rattle.annotate_snippets.proofs.Common.{All-contains_itself, All-weaker, Contains-append_cases, Contains-append_left, Contains-append_right, AllZip}
@@ -7,7 +8,6 @@ use Rattle.annotate_snippets.proofs.Common.{Contains, flat_map, slice_get, optio
 use Rattle.annotate_snippets.proofs.Common.{trusted_of_element, trusted_of_title, trusted_texts, Element, Group, Title, IsGroupMade, IsGroupTaken, is_listed}
 use Rattle.annotate_snippets.proofs.Common.{id_links, drawn_elements, is_drawn, element_faults, first_fault, first_of, group_faults, missing_title, refusal_in}
 use Rattle.annotate_snippets.proofs.Common.{links_in, HasOneLineTexts, IsFreeBut, report_links, Renderer, NoTitle, Form, Graphic, Short, Text, zip_append}
-use Rattle.std.proofs.Common.{chars}
 use Rattle.annotate_snippets.proofs.OneLineTexts.{IsOneLineElement, IsOneLineTitle, one_line_groups, one_line_texts}
 use Rattle.annotate_snippets.proofs.PairedLemmas.{Paired, all-over, chosen, faults-same, first-pair, flat-same, flat-zip, option-same, option-zip, paired}
 
@@ -42,11 +42,7 @@ Contains-texts (x ∷ xs) (y ∷ ys) pairs c listed own =
 
 -- each character of the second text is one of the first, or a line feed, which isn't listed
 pub text-own : (a b : List ℕ) → All (λ c. (c ≡ 10) ⊎ Contains (chars a) c) (chars b) → IsTextOf a b
-text-own a b own =
-    All-weaker (λ c. (c ≡ 10) ⊎ Contains (chars a) c) (IsOf (chars a)) (λ c is listed. elim is [
-      | inl feed ↦ absurd (false≢true (sym (ap is_listed feed) ∙ listed))
-      | inr here ↦ here
-    ]) (chars b) own
+text-own a b own = grind (arith, All-weaker, false≢true)
 
 -- ---- what is asked of the parts
 

@@ -1,9 +1,10 @@
 -- The trusted texts of a report, and what its titles link to.
+use Rattle.std.proofs.lemmas.Grind.{common_steps}
+use Rattle.std.proofs.Common.{arith, chars}
 use Rattle.annotate_snippets.proofs.Common.{◌≡◌, ℕ, Bool, true, false, Option, None, Some, List, [], ◌∷◌, ◌++◌, refl, sym, ap, subst}
 use Rattle.annotate_snippets.proofs.Common.{◌∙◌, Contains, flat_map, option_to_list, cow_str_bytes, append-nil, All-weaker, Contains-append_left}
-use Rattle.annotate_snippets.proofs.Common.{Contains-append_right, flat_map-append, is_listed, norm, trusted_of_element, trusted_of_title, trusted_texts, Group}
-use Rattle.annotate_snippets.proofs.Common.{Id, Title, id_links, text_links, IsFreeBut, report_links, Renderer}
-use Rattle.std.proofs.Common.{chars}
+use Rattle.annotate_snippets.proofs.Common.{Contains-append_right, flat_map-append, norm, trusted_of_element, trusted_of_title, trusted_texts, Group, Id, Title}
+use Rattle.annotate_snippets.proofs.Common.{id_links, text_links, IsFreeBut, report_links, Renderer}
 
 -- the trusted texts of a group
 abbrev pub trusted_of : Group → List (List ℕ)
@@ -16,17 +17,11 @@ title_links hyperlink g = flat_map (λ (t : Title). id_links hyperlink t.id) (op
 -- a text that is free but for some trusted texts is so with more of them
 free_more : (few many : List (List ℕ)) (text : List ℕ) → ((c : ℕ) → Contains (flat_map chars few) c → Contains (flat_map chars many) c) → IsFreeBut few text
     → IsFreeBut many text
-free_more few many text more free =
-    All-weaker (λ c. is_listed c ≡ true → Contains (flat_map chars few) c) (λ c. is_listed c ≡ true → Contains (flat_map chars many) c) (λ c trusted listed.
-    more c (trusted listed)) text free
+free_more few many text more free = grind (arith, All-weaker)
 
 -- what is free but for the first group's trusted texts is free but for those of all groups
 pub free_first : (g : Group) (gs : List Group) (text : List ℕ) → IsFreeBut (trusted_texts (g ∷ [])) text → IsFreeBut (trusted_texts (g ∷ gs)) text
-free_first g gs text free =
-    free_more (trusted_texts (g ∷ [])) (trusted_texts (g ∷ gs))
-    text (λ c among. subst (λ cs. Contains cs c) (sym (flat_map-append chars (trusted_of g) (trusted_texts gs)))
-    (Contains-append_left (flat_map chars (trusted_of g)) (flat_map chars (trusted_texts gs))
-    c (subst (λ ts. Contains (flat_map chars ts) c) (append-nil (trusted_of g)) among))) free
+free_first g gs text free = grind (arith, common_steps, free_more, flat_map-append, Contains-append_left, append-nil)
 
 -- what is free but for the further groups' trusted texts is free but for those of all groups
 pub free_rest : (g : Group) (gs : List Group) (text : List ℕ) → IsFreeBut (trusted_texts gs) text → IsFreeBut (trusted_texts (g ∷ gs)) text

@@ -1,12 +1,11 @@
 -- The layouts of a report have room for each element that is drawn in them.
-use Rattle.annotate_snippets.proofs.Common.{◌≡◌, ℕ, zero, suc, ◌+◌, ◌<◌, ◌≤◌, ◌^◌, ◌&&◌, ◌==◌, not, fold, All, Bool, true}
-use Rattle.annotate_snippets.proofs.Common.{false, cond, List, [], ◌∷◌, Some, length, refl, sym, ap, subst, arith, cow_str_bytes, decimal, flat_map}
-use Rattle.annotate_snippets.proofs.Common.{slice_get, cond_both, nat_tests, length-decimal-le, All-append, All-cons, All-filter, All-head, All-nil, All-tail}
-use Rattle.annotate_snippets.proofs.Common.{All-weaker, fold-append, Element, Message, Cause, Suggestion, Origin, Padding, Group, Patch, Snippet, newline_count}
-use Rattle.annotate_snippets.proofs.Common.{source_lines, line_of, line_of-within, counted_number, counted_line, first_end, first_given, given_text, shown_kind}
-use Rattle.annotate_snippets.proofs.Common.{trimmed_of, counted_folded, IsSuggestible, last-fits, drawn_elements, HasRoomFor, code_after, is_drawn}
-use Rattle.annotate_snippets.proofs.Common.{depth_of_element, layout_of_group, gutter_of_report, width_wanted, IsElementDrawable, IsGroupDrawable, Renderer}
-use Rattle.annotate_snippets.proofs.Common.{folded_small}
+use Rattle.std.proofs.lemmas.Grind.{common_steps}
+use Rattle.annotate_snippets.proofs.Common.{◌≡◌, ℕ, zero, suc, ◌+◌, ◌<◌, ◌≤◌, ◌^◌, ◌==◌, fold, All, Bool, true, false, cond, List}
+use Rattle.annotate_snippets.proofs.Common.{[], ◌∷◌, Some, length, refl, sym, ap, subst, arith, decimal, flat_map, slice_get, cond_both, nat_tests}
+use Rattle.annotate_snippets.proofs.Common.{length-decimal-le, All-append, All-cons, All-filter, All-head, All-nil, All-tail, All-weaker, fold-append, Element}
+use Rattle.annotate_snippets.proofs.Common.{Message, Cause, Suggestion, Origin, Padding, Group, Patch, Snippet, line_of-within, counted_line, IsSuggestible}
+use Rattle.annotate_snippets.proofs.Common.{last-fits, drawn_elements, HasRoomFor, code_after, is_drawn, depth_of_element, layout_of_group, gutter_of_report}
+use Rattle.annotate_snippets.proofs.Common.{width_wanted, IsElementDrawable, IsGroupDrawable, Renderer, folded_small}
 use Rattle.annotate_snippets.proofs.PageWords.{depth_of_group}
 use Rattle.annotate_snippets.proofs.GutterLemmas.{counted-small}
 use Rattle.annotate_snippets.proofs.WidestLemmas.{greater}
@@ -20,9 +19,7 @@ widest-from wants most (e ∷ es) = omega (arith, widest-from wants (greater wan
 -- is no less than what each of them wants
 widest-each : (wants : Element → ℕ) (most : ℕ) (es : List Element) → All (λ e. wants e ≤ fold (greater wants) most es) es
 widest-each wants most [] = All-nil (λ e. wants e ≤ most)
-widest-each wants most (e ∷ es) =
-    All-cons (λ d. wants d ≤ fold (greater wants) (greater wants most e) es) e es (omega (arith, widest-from wants (greater wants most e) es))
-    (widest-each wants (greater wants most e) es)
+widest-each wants most (e ∷ es) = grind (arith, widest-each wants (greater wants most e) es, All-cons, widest-from)
 
 -- and no more than what none of them exceeds
 widest-low : (wants : Element → ℕ) (most top : ℕ) (es : List Element) → most ≤ top → All (λ e. wants e ≤ top) es → fold (greater wants) most es ≤ top
@@ -37,16 +34,7 @@ elements_of g = g.elements.items
 widest-group : (wants : Element → ℕ) (most : ℕ) (gs : List Group) (i : ℕ) (g : Group) → slice_get gs i ≡ Some g
     → All (λ e. wants e ≤ fold (greater wants) most (flat_map elements_of gs)) g.elements.items
 widest-group wants most [] i g is = cc
-widest-group wants most (h ∷ gs) zero g is =
-    let same : h ≡ g = cc in
-    let own : ℕ = fold (greater wants) most h.elements.items in
-    let all : fold (greater wants) most (flat_map elements_of (h ∷ gs))
-    ≡ fold (greater wants) own (flat_map elements_of gs) = fold-append (greater wants) most h.elements.items (flat_map elements_of gs) in
-    let more : own ≤ fold (greater wants) own (flat_map elements_of gs) = widest-from wants own (flat_map elements_of gs) in
-    let here : All (λ e. wants e ≤ fold (greater wants) most (flat_map elements_of (h ∷ gs))) h.elements.items =
-    All-weaker (λ e. wants e ≤ own) (λ e. wants e ≤ fold (greater wants) most (flat_map elements_of (h ∷ gs)))
-    (λ e low. omega (arith, low, all, more)) h.elements.items (widest-each wants most h.elements.items) in
-    subst (λ (k : Group). All (λ e. wants e ≤ fold (greater wants) most (flat_map elements_of (h ∷ gs))) k.elements.items) same here
+widest-group wants most (h ∷ gs) zero g is = grind (arith, fold-append, widest-from, All-weaker, widest-each, h.elements.items)
 widest-group wants most (h ∷ gs) (suc i) g is =
     let own : ℕ = fold (greater wants) most h.elements.items in
     subst (λ n. All (λ e. wants e ≤ n) g.elements.items) (sym (fold-append (greater wants) most h.elements.items (flat_map elements_of gs)))
@@ -63,15 +51,7 @@ all_elements P (g ∷ gs) all =
 
 -- the number that a suggestion counts fits
 counted-suggested : (s : Snippet Patch) → IsSuggestible s → counted_line s < 2 ^ 64
-counted-suggested s can =
-    let source : List ℕ = cow_str_bytes s.source.text in
-    let first : ℕ = s.line_start + first_given s in
-    let removed : ℕ = s.line_start + line_of (source_lines source) (first_end (trimmed_of s)) in
-    let last : ℕ = first + newline_count (given_text s) in
-    let small : last < 2 ^ 64 = last-fits s can in
-    let there : removed < 2 ^ 64 = omega (arith, can.lines, line_of-within source (first_end (trimmed_of s))) in
-    cond_both s.fold (counted_folded (shown_kind s) first removed last) last (λ n. n < 2 ^ 64) (λ _.
-    folded_small (shown_kind s) first removed last (omega (arith, small)) there small) (λ _. small)
+counted-suggested s can = grind (arith, last-fits, line_of-within, folded_small, s.source.text, s.line_start, can.lines, s.fold)
 
 -- a number that fits 64 bits has at most 20 digits
 pub digits : (number : ℕ) → number < 2 ^ 64 → length (decimal number) ≤ 20
@@ -79,12 +59,8 @@ digits number small = length-decimal-le 20 number (omega arith) (omega (arith, s
 
 wanted-low : (e : Element) → IsElementDrawable e → width_wanted e ≤ 20
 wanted-low (Message m) drawable = omega arith
-wanted-low (Cause s) drawable =
-    cond_both s.line_numbering (length (decimal (counted_number s))) 0 (λ n. n ≤ 20) (λ _. digits (counted_number s) (counted-small s drawable.numbers)) (λ _.
-    omega arith)
-wanted-low (Suggestion s) drawable =
-    cond_both (s.line_numbering && not (length s.markers.items == 0)) (length (decimal (counted_line s))) 0 (λ n. n ≤ 20) (λ _.
-    digits (counted_line s) (counted-suggested s drawable)) (λ _. omega arith)
+wanted-low (Cause s) drawable = grind (arith, decimal, digits, counted-small, s.line_numbering, drawable.numbers)
+wanted-low (Suggestion s) drawable = grind (arith, decimal, digits, counted-suggested, s.line_numbering, s.markers.items)
 wanted-low (Origin o) drawable = omega arith
 wanted-low (Padding p) drawable = omega arith
 
@@ -92,8 +68,7 @@ wanted-low (Padding p) drawable = omega arith
 gutter-small : (r : Renderer) (groups : List Group) → All IsGroupDrawable groups → gutter_of_report r groups ≤ 20
 gutter-small r groups drawable =
     let Low : Element → Type 0 = λ e. width_wanted e ≤ 20 in
-    let each : All (λ (g : Group). All Low g.elements.items) groups = All-weaker IsGroupDrawable (λ (g : Group). All Low g.elements.items) (λ g can.
-    All-weaker IsElementDrawable Low wanted-low g.elements.items can.1) groups drawable in
+    let each : All (λ (g : Group). All Low g.elements.items) groups = grind (arith, common_steps, All-weaker, Low, wanted-low) in
     cond_both r.anonymized_snippet_line_numbers 2 (fold (greater width_wanted) 0 (flat_map elements_of groups)) (λ n. n ≤ 20) (λ _. omega arith) (λ _.
     widest-low width_wanted 0 20 (flat_map elements_of groups) (omega arith) (all_elements Low groups each))
 

@@ -18,9 +18,7 @@ module _ (first : Bool) (level : LevelInner) (rows : List (List Cell)) where
   grew_next : (n : ℕ) (old now : List SheetPage) (d page : SheetPage) → n < length now → AddsToPage first level rows (get_or now n d) page
       → GrewSoFar n old now → GrewSoFar (suc n) old (set now n page)
   grew_next n old [] d page within adds before = absurd (omega (arith, within))
-  grew_next zero [] (y ∷ now) d page within adds before =
-      let never : y ∷ now ≡ [] = before.rest in
-      cc
+  grew_next zero [] (y ∷ now) d page within adds before = grind (arith, before.rest)
   grew_next (suc n) [] (y ∷ now) d page within adds before = absurd before.grew
   grew_next zero (x ∷ old) (y ∷ now) d page within adds before =
       let same : y ∷ now ≡ x ∷ old = before.rest in
@@ -44,9 +42,7 @@ module _ (first : Bool) (level : LevelInner) (rows : List (List Cell)) where
   grew_all n [] [] all grew = tt
   grew_all zero [] (y ∷ new) all grew = absurd (omega (arith, all))
   grew_all (suc n) [] (y ∷ new) all grew = absurd grew.grew
-  grew_all zero (x ∷ old) [] all grew =
-      let never : [] ≡ x ∷ old = grew.rest in
-      cc
+  grew_all zero (x ∷ old) [] all grew = grind (arith, grew.rest)
   grew_all (suc n) (x ∷ old) [] all grew = absurd grew.grew
   grew_all zero (x ∷ old) (y ∷ new) all grew = absurd (omega (arith, all))
   grew_all (suc n) (x ∷ old) (y ∷ new) all grew =

@@ -1,34 +1,28 @@
 -- The parts of the short form: a group's first annotated snippet, the place before the title, and the labels after it.
+use Rattle.std.proofs.lemmas.Grind.{common_steps}
 use Rattle.annotate_snippets.proofs.Common.{◌≡◌, ◌≢◌, ℕ, ◌+◌, ◌*◌, ◌<◌, ◌≤◌, ◌^◌, ◌==◌, ◌∙◌, Bool, true, false}
-use Rattle.annotate_snippets.proofs.Common.{not, Option, None, Some, Result, Ok, Err, IfSome, List, [], ◌∷◌, ◌++◌, All, cond, get_or}
-use Rattle.annotate_snippets.proofs.Common.{if◌then◌else◌, length, take, suc, arith, ap, refl, sym, is_whitespace, cow_str_bytes, filter_map, flat_map}
-use Rattle.annotate_snippets.proofs.Common.{list_all, OnOk, is_ok, IsAscii, IsUtf8, Global, CowStr, nat_tests, flat_map-append, append-nil, append_assoc}
-use Rattle.annotate_snippets.proofs.Common.{length-append, take_more, All-head, All-tail, filter-append, filter_map-append, IsUtf8-append, IsUtf8-from_ascii}
-use Rattle.annotate_snippets.proofs.Common.{chars-append, chars-IsAscii, IsAscii-cons, IsAscii-nil, AnnotationFits, ElementFits, SnippetFits, Annotation}
-use Rattle.annotate_snippets.proofs.Common.{Primary, Element, Message, Cause, Suggestion, Origin, Padding, Group, Snippet, annotated_lines, is_empty-chars}
-use Rattle.annotate_snippets.proofs.Common.{length-chars_le, norm, length-norm, column_text, line_name, line_text, origin_text, OriginLocation, path_bytes}
-use Rattle.annotate_snippets.proofs.Common.{numbered_source, IsDrawable, IsElementDrawable, IsGroupDrawable, first_cause, joined_labels, place_named}
-use Rattle.annotate_snippets.proofs.Common.{place_of_cause, place_of_path, primary_labels, short_label, is_primary, Renderer}
-use Rattle.std.proofs.Common.{chars, filter}
+use Rattle.annotate_snippets.proofs.Common.{Option, None, Some, Result, Ok, Err, IfSome, List, [], ◌∷◌, ◌++◌, All, cond, get_or, if◌then◌else◌}
+use Rattle.annotate_snippets.proofs.Common.{length, take, suc, arith, ap, refl, sym, is_whitespace, cow_str_bytes, flat_map, list_all, OnOk, is_ok, IsAscii}
+use Rattle.annotate_snippets.proofs.Common.{IsUtf8, Global, CowStr, nat_tests, flat_map-append, append-nil, append_assoc, length-append, take_more, All-head}
+use Rattle.annotate_snippets.proofs.Common.{All-tail, filter-append, filter_map-append, IsUtf8-append, IsUtf8-from_ascii, chars-append, chars-IsAscii}
+use Rattle.annotate_snippets.proofs.Common.{IsAscii-cons, IsAscii-nil, AnnotationFits, ElementFits, SnippetFits, Annotation, Primary, Element, Message, Cause}
+use Rattle.annotate_snippets.proofs.Common.{Suggestion, Origin, Padding, Group, Snippet, annotated_lines, is_empty-chars, length-chars_le, norm, length-norm}
+use Rattle.annotate_snippets.proofs.Common.{column_text, line_name, line_text, origin_text, OriginLocation, path_bytes, numbered_source, IsDrawable}
+use Rattle.annotate_snippets.proofs.Common.{IsElementDrawable, IsGroupDrawable, first_cause, joined_labels, place_named, place_of_cause, place_of_path}
+use Rattle.annotate_snippets.proofs.Common.{primary_labels, Renderer}
+use Rattle.std.proofs.Common.{chars}
 use Rattle.annotate_snippets.proofs.RoomLemmas.{digits}
 
 -- ---- labels
 
 -- those of some spans, and of others after them
 pub primary_labels-append : (xs ys : List Annotation) → primary_labels (xs ++ ys) ≡ primary_labels xs ++ primary_labels ys
-primary_labels-append xs ys =
-    let labelled = λ (zs : List (List ℕ)). filter (λ label. not (list_all is_whitespace label)) zs in
-    let primary = λ (zs : List Annotation). filter (λ (a : Annotation). is_primary a.kind) zs in
-    ap (λ zs. labelled (filter_map short_label zs)) (filter-append (λ (a : Annotation). is_primary a.kind) xs ys)
-    ∙ ap labelled (filter_map-append short_label (primary xs) (primary ys))
-    ∙ filter-append (λ label. not (list_all is_whitespace label)) (filter_map short_label (primary xs)) (filter_map short_label (primary ys))
+primary_labels-append xs ys = grind (arith, filter-append, filter_map-append)
 
 -- those of one more span
 pub primary_labels-more : (marks : List Annotation) (i : ℕ) (a : Annotation) → i < length marks → a ≡ get_or marks i a
     → primary_labels (take i marks) ++ primary_labels (a ∷ []) ≡ primary_labels (take (i + 1) marks)
-primary_labels-more marks i a within is =
-    sym (primary_labels-append (take i marks) (a ∷ [])) ∙ ap (λ b. primary_labels (take i marks ++ b ∷ [])) is
-    ∙ sym (ap primary_labels (take_more marks i a within))
+primary_labels-more marks i a within is = grind (arith, common_steps, primary_labels-append, take_more)
 
 -- that of a primary span
 pub primary_labels-one : (a : Annotation) (t : CowStr Global) (label : List ℕ) (blank : Bool) → a.kind ≡ Primary → a.label ≡ Some t
@@ -56,10 +50,7 @@ joined_labels-last : (labels : List (List ℕ)) (label : List ℕ) (empty : Bool
 joined_labels-last [] label true is = ap (λ l. 58 ∷ 32 ∷ l) (append-nil label)
 joined_labels-last [] label false is = cc
 joined_labels-last (first ∷ labels) label true is = absurd (some (length (32 ∷ (first ++ flat_map (λ l. 44 ∷ 32 ∷ l) labels))) is)
-joined_labels-last (first ∷ labels) label false is =
-    ap (λ l. 58 ∷ 32 ∷ (first ++ l)) (flat_map-append (λ l. 44 ∷ 32 ∷ l) labels (label ∷ [])
-    ∙ ap (λ l. flat_map (λ m. 44 ∷ 32 ∷ m) labels ++ 44 ∷ 32 ∷ l) (append-nil label))
-    ∙ ap (λ l. 58 ∷ 32 ∷ l) (sym (append_assoc first (flat_map (λ l. 44 ∷ 32 ∷ l) labels) (44 ∷ 32 ∷ label)))
+joined_labels-last (first ∷ labels) label false is = grind (arith, flat_map-append, append-nil, append_assoc)
 
 lead-ascii : (empty : Bool) → IsAscii (lead empty)
 lead-ascii true = IsAscii-cons 58 (32 ∷ []) (omega arith) (IsAscii-cons 32 [] (omega arith) IsAscii-nil)
@@ -72,8 +63,7 @@ lead-chars empty = chars-IsAscii (lead empty) (lead-ascii empty)
 pub joined_labels-added : (labels : List (List ℕ)) (old sep new label : List ℕ) (empty : Bool) → IsUtf8 old → chars old ≡ joined_labels labels
     → empty ≡ (length old == 0) → sep ≡ old ++ lead empty → new ≡ sep ++ label → chars new ≡ joined_labels (labels ++ chars label ∷ [])
 joined_labels-added labels old sep new label empty text are none led added =
-    let first : chars (old ++ lead empty) ≡ joined_labels labels ++ lead empty = chars-append old (lead empty) text ∙ ap (λ cs. cs ++ chars (lead empty)) are
-    ∙ ap (λ cs. joined_labels labels ++ cs) (lead-chars empty) in
+    let first : chars (old ++ lead empty) ≡ joined_labels labels ++ lead empty = grind (arith, common_steps, chars-append, chars, lead-chars) in
     let nothing : empty ≡ (length (joined_labels labels) == 0) = none ∙ is_empty-chars old text ∙ ap (λ cs. length cs == 0) are in
     ap chars (added ∙ ap (λ t. t ++ label) led)
     ∙ chars-append (old ++ lead empty) label (IsUtf8-append old (lead empty) text (IsUtf8-from_ascii (lead empty) (lead-ascii empty)))
@@ -97,27 +87,13 @@ column_text-short (Some column) small = omega (arith, digits column small)
 line_text-short : (anonymized : Bool) (line column : Option ℕ) → IfSome line (λ n. n < 2 ^ 64) → IfSome column (λ n. n < 2 ^ 64)
     → length (line_text anonymized line column) ≤ 42
 line_text-short anonymized None column line_small column_small = omega arith
-line_text-short anonymized (Some line) column line_small column_small =
-    omega (
-      arith,
-      length-append (line_name anonymized line) (column_text column),
-      line_name-short anonymized line line_small,
-      column_text-short column
-          column_small,
-    )
+line_text-short anonymized (Some line) column line_small column_small = grind (arith, length-append, line_name-short, column_text-short)
 
 origin_text-short : (anonymized : Bool) (path : List ℕ) (place : OriginLocation) → PlaceFits place
     → length (origin_text anonymized path place) ≤ 4 * length path + 42
 unfolding origin_text
 origin_text-short anonymized path place fits =
-    omega (
-      arith,
-      length-append (norm (chars path)) (line_text anonymized place.line place.column),
-      length-norm
-          (chars path),
-      length-chars_le path,
-      line_text-short anonymized place.line place.column fits.0 fits.1,
-    )
+    grind (arith, length-append, length-norm, length-chars_le, line_text-short, place.line, place.column, fits.0, fits.1)
 
 -- a path with a place, and a colon after it
 pub place-added : (text new shown : List ℕ) → IsUtf8 text → chars text ≡ shown → new ≡ text ++ 58 ∷ 32 ∷ [] → chars new ≡ shown ++ 58 ∷ 32 ∷ []

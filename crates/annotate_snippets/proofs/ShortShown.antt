@@ -11,10 +11,9 @@ use Rattle.annotate_snippets.proofs.Common.{links_of-short_rows, row_text-short_
 use Rattle.annotate_snippets.proofs.Common.{origin_text, with_end, IsFreeButText, texts_below, id_links, OriginLocation, place-each, digit_unlisted, path_bytes}
 use Rattle.annotate_snippets.proofs.Common.{BeginsWithPlace, LawsIn, ShortLaws, ShowsShort, IsTextUnder, IsShortForm, ShortShown, short_links, numbered_source}
 use Rattle.annotate_snippets.proofs.Common.{IsDrawable, IsGroupDrawable, place_found, place_named, before_title, after_title, first_cause, joined_labels}
-use Rattle.annotate_snippets.proofs.Common.{short_label, labels_of_cause, place_of_cause, place_of_path, primary_labels, short_form, short_page, titled_rows}
-use Rattle.annotate_snippets.proofs.Common.{is_primary, Renderer, Short, ShortForm, AllZip-weaker, IsUnlisted, norm-free}
-use Rattle.std.proofs.Common.{chars}
-use Rattle.std.proofs.Common.{filter}
+use Rattle.annotate_snippets.proofs.Common.{short_label, labels_of_cause, place_of_cause, place_of_path, primary_labels, short_form, short_page, is_primary}
+use Rattle.annotate_snippets.proofs.Common.{Renderer, Short, ShortForm, AllZip-weaker, IsUnlisted, norm-free}
+use Rattle.std.proofs.Common.{chars, filter}
 use Rattle.snippet_titles.specs.HeadingRows.{shown_text}
 use Rattle.snippet_titles.specs.declared.style.TitleStyle.TheVariants as style
 use Rattle.annotate_snippets.proofs.CauseShown.{place_known}
@@ -156,13 +155,7 @@ begins r g title rows are drawable s first path has some none =
 -- the rows show the first group
 rows_shown : (r : Renderer) (g : Group) (title : Title) (rows : List (List Cell)) → rows ≡ short_form r g title → IsGroupDrawable g → ShowsShort r g title rows
 rows_shown r g title rows are drawable =
-    let heading : Heading = heading_of_title title in
-    record {
-      texts = λ i. ap (λ (rs : List (List Cell)). row_text (row_at rs i)) are ∙ row_text-short_rows r.hyperlink (before_title r g) (after_title g) heading i;
-      origin = begins r g title rows are drawable;
-      free = subst (All (IsFreeButText heading)) (sym are) (short-free r.hyperlink (before_title r g) (after_title g) heading
-          (before-free r (first_cause g.elements.items)) (after-free (first_cause g.elements.items)));
-    }
+    grind (arith, row_at, row_text-short_rows, after_title, begins, short-free, before-free, after-free, r.hyperlink, g.elements.items)
 
 -- the text of a report's short form prints its rows
 prints-form : (r : Renderer) (groups : List Group) (form : ShortForm) (is : IsShortForm r groups form) (sheet : Stylesheet) (text : List ℕ)
@@ -210,9 +203,7 @@ short-laws r groups form drawable is =
 pub page_is : (r : Renderer) (groups : List Group) (g : Group) (title : Title) → slice_get groups 0 ≡ Some g → g.title ≡ Some title
     → short_page r groups ≡ short_form r g title
 page_is r [] g title first titled = cc
-page_is r (h ∷ groups) g title first titled =
-    let same : h ≡ g = some_same first in
-    ap (titled_rows r h) (ap (λ (k : Group). k.title) same ∙ titled) ∙ ap (λ k. short_form r k title) same
+page_is r (h ∷ groups) g title first titled = grind (arith, some_same)
 
 -- a text that prints it has the laws of a text
 pub short-law : (r : Renderer) (groups : List Group) (laws : ShortLaws r groups) (sheet : Stylesheet) (level : LevelInner) (g : Group) (title : Title)

@@ -1,13 +1,13 @@
 -- A source row is a line of the text: it holds no line feed, whatever its source is, and whether it is cut or not.
+use Rattle.std.proofs.lemmas.Grind.{common_steps}
 use Rattle.annotate_snippets.proofs.Common.{◌≡◌, ℕ, zero, suc, ◌+◌, ◌-◌, ◌<◌, ◌≤◌, ◌==◌, Bool, true, false, cond, Option, None}
-use Rattle.annotate_snippets.proofs.Common.{Some, List, [], ◌∷◌, ◌++◌, All, codes, length, take, drop, get_or, replicate, refl, sym, ap, subst}
-use Rattle.annotate_snippets.proofs.Common.{◌∙◌, arith, inl, inr, cow_str_bytes, option_map_or, decimal, cases_lt, get_or-drop, get_or-map, get_or-take}
-use Rattle.annotate_snippets.proofs.Common.{length-drop, length-map, All-append, All-cons, All-drop, All-from_get_or, All-head, All-nil, All-replicate}
-use Rattle.annotate_snippets.proofs.Common.{All-tail, All-take, All-weaker, row_text, Cell, SPACE, text_cells, written, placeholder_of, separator_of}
-use Rattle.annotate_snippets.proofs.Common.{DecorStyle, Ascii, Unicode, LineNumber, norm, IsDigit, decimal-all, AreReplaced, chars_at, covered_columns}
-use Rattle.annotate_snippets.proofs.Common.{covered_end, inner_part, reaching, uncovered_part, window, shown_number, LineNumbers, Anonymized, Hidden, Shown}
-use Rattle.annotate_snippets.proofs.Common.{Annotation, Snippet, Renderer, Layout, line_numbers, number_text, ShowsSourceLine, cells_left, wide_spans}
-use Rattle.annotate_snippets.proofs.Common.{margin_in, HasNoFeed, each-fails, Margin}
+use Rattle.annotate_snippets.proofs.Common.{Some, List, [], ◌∷◌, ◌++◌, All, length, take, drop, get_or, replicate, refl, sym, ap, subst, ◌∙◌}
+use Rattle.annotate_snippets.proofs.Common.{arith, inl, inr, cow_str_bytes, option_map_or, cases_lt, get_or-drop, get_or-map, get_or-take, length-drop}
+use Rattle.annotate_snippets.proofs.Common.{length-map, All-append, All-cons, All-drop, All-from_get_or, All-head, All-nil, All-replicate, All-tail, All-take}
+use Rattle.annotate_snippets.proofs.Common.{All-weaker, row_text, Cell, SPACE, written, placeholder_of, separator_of, DecorStyle, Ascii, Unicode, norm}
+use Rattle.annotate_snippets.proofs.Common.{decimal-all, AreReplaced, chars_at, covered_columns, covered_end, inner_part, reaching, uncovered_part, window}
+use Rattle.annotate_snippets.proofs.Common.{shown_number, LineNumbers, Anonymized, Hidden, Shown, Annotation, Snippet, Renderer, Layout, line_numbers}
+use Rattle.annotate_snippets.proofs.Common.{number_text, ShowsSourceLine, cells_left, wide_spans, margin_in, HasNoFeed, each-fails, Margin}
 use Rattle.annotate_snippets.proofs.MarginWords.{room_of}
 use Rattle.annotate_snippets.proofs.OneLineTexts.{HoldsNoFeed, IsNoFeed}
 use Rattle.annotate_snippets.proofs.FeedLaws.{at_any, bar_cell}
@@ -24,8 +24,7 @@ written_plain : (xs : List ℕ) (at : ℕ) (new : List ℕ) → All IsNoFeed xs 
 unfolding written
 written_plain xs at new plain own =
     let blanks : List ℕ = replicate (at - length xs) 32 in
-    let before : All IsNoFeed (take at (xs ++ blanks)) = All-take IsNoFeed at (xs ++ blanks)
-    (All-append IsNoFeed xs blanks plain (All-replicate IsNoFeed (at - length xs) 32 refl)) in
+    let before : All IsNoFeed (take at (xs ++ blanks)) = grind (arith, common_steps, All-take, blanks, All-append, All-replicate) in
     All-append IsNoFeed (take at (xs ++ blanks) ++ new) (drop (at + length new) xs) (All-append IsNoFeed (take at (xs ++ blanks)) new before own)
     (All-drop IsNoFeed (at + length new) xs plain)
 
@@ -89,12 +88,8 @@ replaced_plain placeholder (suc n) before after own (inr replaced) plain =
 
 -- nor of what the gutter shows beside a line
 pub number_plain : (numbers : LineNumbers) (gutter n : ℕ) → All IsNoFeed (shown_number numbers gutter n)
-number_plain Shown gutter n =
-    All-append IsNoFeed (replicate (gutter - length (decimal n)) 32) (decimal n) (All-replicate IsNoFeed (gutter - length (decimal n)) 32 refl)
-    (All-weaker IsDigit IsNoFeed digit_plain (decimal n) (decimal-all n))
-number_plain Anonymized gutter n =
-    All-append IsNoFeed (replicate (gutter - 2) 32) (codes "LL") (All-replicate IsNoFeed (gutter - 2) 32 refl)
-    (All-cons IsNoFeed 76 (76 ∷ []) refl (alone 76 refl))
+number_plain Shown gutter n = grind (arith, common_steps, All-append, All-replicate, All-weaker, digit_plain, decimal-all)
+number_plain Anonymized gutter n = grind (arith, common_steps, All-append, All-replicate, All-cons)
 number_plain Hidden gutter n = All-replicate IsNoFeed gutter 32 refl
 
 separator_plain : (decor : DecorStyle) → All IsNoFeed (separator_of decor ∷ [])
@@ -102,12 +97,7 @@ separator_plain Ascii = alone (separator_of Ascii) refl
 separator_plain Unicode = alone (separator_of Unicode) refl
 
 left_plain : (decor : DecorStyle) (gutter : ℕ) (shown : List ℕ) → All IsNoFeed shown → HasNoFeed (cells_left decor gutter shown)
-left_plain decor gutter shown plain =
-    let spaces : List Cell = replicate (gutter + 1 - length shown) SPACE in
-    let end : List Cell = text_cells LineNumber (separator_of decor ∷ []) in
-    All-append HoldsNoFeed (text_cells LineNumber shown) (spaces ++ end) (cells_plain LineNumber shown plain)
-    (All-append HoldsNoFeed spaces end (All-replicate HoldsNoFeed (gutter + 1 - length shown) SPACE refl)
-    (cells_plain LineNumber (separator_of decor ∷ []) (separator_plain decor)))
+left_plain decor gutter shown plain = grind (arith, common_steps, All-append, cells_plain, All-replicate, separator_plain)
 
 -- a row whose characters from a cell on hold none has none there
 code_plain : (code : ℕ) (row : List Cell) → All IsNoFeed (row_text (drop code row)) → (c : ℕ) → code ≤ c → c < length row → HoldsNoFeed (get_or row c SPACE)

@@ -1,15 +1,16 @@
 -- Beside the rows of a snippet's lines stand the bars of its spans.
+use Rattle.std.proofs.lemmas.Grind.{common_steps}
 use Rattle.annotate_snippets.proofs.Common.{◌≡◌, ℕ, zero, suc, ◌+◌, ◌-◌, ◌<◌, ◌≤◌, ◌==◌, ◌&&◌, Bool, true, false, not, cond}
-use Rattle.annotate_snippets.proofs.Common.{leb, take, replicate, ◌≢◌, List, [], ◌∷◌, ◌++◌, ◌⊎◌, fold, length, get_or, inl, inr, refl}
-use Rattle.annotate_snippets.proofs.Common.{sym, ap, subst, ◌∙◌, arith, Contains, filter, cow_str_bytes, le-leb, and_from, cases_Bool, nat_tests}
-use Rattle.annotate_snippets.proofs.Common.{All-contains, All-filter, All-head, All-nil, All-tail, Annotation, Snippet, Cell, SPACE, text_cells, separator_of}
-use Rattle.annotate_snippets.proofs.Common.{DecorStyle, LineNumber, length-text_cells, length-append, length-replicate, length-take, IsSpan, deepest, depth_of}
-use Rattle.annotate_snippets.proofs.Common.{is_long, LineAnnotation, LineAnnotationType, MultilineEnd, MultilineStart, touches, first_line, last_line, Among}
-use Rattle.annotate_snippets.proofs.Common.{depth-within, Bar, bars_apart, ends_of_bars, HasOwnDepth, has_depth, bare_elision_row, BarEnds, IsNoBar, BarBegins}
-use Rattle.annotate_snippets.proofs.Common.{all_from_among, among_contains, contains_among, bar_ends, elision_stands, highlighted_left, line_clear, begins}
-use Rattle.annotate_snippets.proofs.Common.{gap_space, line_source, is_end_part, Renderer, Layout, number_text, code_after, Elision, NamedRow, OfferedLine}
-use Rattle.annotate_snippets.proofs.Common.{Other, RemovedLine, RowName, SourceRow, lines_named, rows_below, shows_lines, AreRowsOf, IsRowOf, cells_left}
-use Rattle.annotate_snippets.proofs.Common.{BarStarts, ShowsBars, bar_beside, line_beside}
+use Rattle.annotate_snippets.proofs.Common.{leb, take, ◌≢◌, List, [], ◌∷◌, ◌++◌, ◌⊎◌, fold, length, get_or, inl, inr, refl, sym, ap}
+use Rattle.annotate_snippets.proofs.Common.{subst, ◌∙◌, arith, Contains, filter, cow_str_bytes, le-leb, and_from, cases_Bool, nat_tests, All-contains}
+use Rattle.annotate_snippets.proofs.Common.{All-filter, All-head, All-nil, All-tail, Annotation, Snippet, Cell, SPACE, DecorStyle, length-text_cells}
+use Rattle.annotate_snippets.proofs.Common.{length-append, length-replicate, length-take, IsSpan, deepest, depth_of, is_long, LineAnnotation}
+use Rattle.annotate_snippets.proofs.Common.{LineAnnotationType, MultilineEnd, MultilineStart, touches, first_line, last_line, Among, depth-within, Bar}
+use Rattle.annotate_snippets.proofs.Common.{bars_apart, ends_of_bars, HasOwnDepth, has_depth, bare_elision_row, BarEnds, IsNoBar, BarBegins, all_from_among}
+use Rattle.annotate_snippets.proofs.Common.{among_contains, contains_among, bar_ends, elision_stands, highlighted_left, line_clear, begins, gap_space}
+use Rattle.annotate_snippets.proofs.Common.{line_source, is_end_part, Renderer, Layout, number_text, code_after, Elision, NamedRow, OfferedLine, Other}
+use Rattle.annotate_snippets.proofs.Common.{RemovedLine, RowName, SourceRow, lines_named, rows_below, shows_lines, AreRowsOf, IsRowOf, cells_left, BarStarts}
+use Rattle.annotate_snippets.proofs.Common.{ShowsBars, bar_beside, line_beside}
 use Rattle.std.specs.List.{All}
 use Rattle.annotate_snippets.proofs.LineWords.{bars_on, entries_on}
 use Rattle.annotate_snippets.proofs.DrawnRows.{AreRowsDrawn, IsRowDrawn, open_after}
@@ -97,19 +98,7 @@ get_or_any (z ∷ xs) (suc i) x y within = get_or_any xs i x y (omega (arith, wi
 -- what stands in the gutter beside a line is no wider than the gutter
 short_number : (decor : DecorStyle) (gutter : ℕ) (shown : List ℕ) (row : List Cell) → take (gutter + 2) row ≡ cells_left decor gutter shown
     → length shown ≤ gutter + 1
-short_number decor gutter shown row same =
-    let spaces : List Cell = replicate (gutter + 1 - length shown) SPACE in
-    let separator : List Cell = text_cells LineNumber (separator_of decor ∷ []) in
-    omega (
-      arith,
-      ap length same,
-      length-take (gutter + 2) row,
-      length-append (text_cells LineNumber shown) (spaces ++ separator),
-      length-append spaces separator,
-      length-text_cells LineNumber shown,
-      length-text_cells LineNumber (separator_of decor ∷ []),
-      length-replicate (gutter + 1 - length shown) SPACE,
-    )
+short_number decor gutter shown row same = grind (arith, common_steps, length-take, length-append, length-text_cells, length-replicate)
 
 -- ---- the rows
 
@@ -245,11 +234,7 @@ module _ (r : Renderer) (layout : Layout) (closes : Bool) (s : Snippet Annotatio
           drawn = ready.drawn.1;
           are_open = open_next (source s) (marks s) spans k open_bars here;
           lines = ready.lines.1;
-          ends = λ a among long. let ends = ready.ends a among long in (
-            past_after n k ks (first_line (cow_str_bytes s.source.text) a) up ends.0,
-            past_after n k ks
-                (last_line (cow_str_bytes s.source.text) a) up ends.1,
-          );
+          ends = grind (arith, common_steps, past_after, ks, up, last_line, ready.ends);
           below = subst (λ m. All (HasBars Other m) (rows_below rows)) last (All-tail (HasBars Other k) cells (rows_below rows) bars);
           others = subst (λ m. All (HasNoOthers m) (rows_below rows)) last (All-tail (HasNoOthers k) cells (rows_below rows) others);
         },
@@ -275,8 +260,7 @@ module _ (r : Renderer) (layout : Layout) (closes : Bool) (s : Snippet Annotatio
   one_row open_bars n Other cells rows ready = (
     record {
       bars = All-head (HasBars Other (n - 1)) cells (rows_below rows) ready.below;
-      spaces = λ wrong.
-          cc wrong;
+      spaces = grind (arith, common_steps);
       others = All-head (HasNoOthers (n - 1)) cells (rows_below rows) ready.others;
     },
     record {
@@ -327,8 +311,7 @@ module _ (r : Renderer) (layout : Layout) (closes : Bool) (s : Snippet Annotatio
       record {
         named = subst (λ n. IsRowOf r layout closes s n row.cells below) is known.named;
         bars = known.bars;
-        drawn = subst (λ n.
-            IsRowDrawn r layout closes s known.bars n row.cells below) is known.drawn;
+        drawn = grind (arith, common_steps, known.bars, row.cells, known.drawn);
       }
 
   module _ (a : Annotation) (among : Contains (marks s) a) (long : is_long (cow_str_bytes s.source.text) a ≡ true)

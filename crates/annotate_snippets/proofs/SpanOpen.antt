@@ -1,14 +1,13 @@
 -- Which bars are open above a line: those of the spans of several lines that begin above it and don't end above it.
-use Rattle.annotate_snippets.proofs.Common.{◌≡◌, ◌≢◌, ℕ, ◌+◌, ◌<◌, ◌≤◌, ◌==◌, Bool, true, false, not, leb, Option, Some, None}
-use Rattle.annotate_snippets.proofs.Common.{List, [], ◌⊎◌, map, inl, inr, refl, sym, ap, ◌∙◌, arith, Contains, filter, filter_map, and_from}
-use Rattle.annotate_snippets.proofs.Common.{and_parts, cases_eq, cases_lt, eq-eqb, eqb-true, false_from_ne_true, le-leb, not-true, both_ways, All-contains}
-use Rattle.annotate_snippets.proofs.Common.{is_primary, Annotation, Source, IsSpan, LineAnnotation, LongExtent, MultilineEnd, MultilineStart, depth_of}
-use Rattle.annotate_snippets.proofs.Common.{end_part, is_long, long_entry, long_parts, long_place, long_spans, made_parts, parts_on, single_part, start_part}
-use Rattle.annotate_snippets.proofs.Common.{depth_among, is_marking, is_single_line, first_line, last_line, Among, among_filter, among_filter_map}
-use Rattle.annotate_snippets.proofs.Common.{among_in_order, among_left, among_map, among_right, any_among, any_cases, append_cases, filter_cases}
-use Rattle.annotate_snippets.proofs.Common.{in_order_cases, map_cases, lines_ordered, end-line, start-line, annotations-distinct, Bar, bar_at, bars_apart}
-use Rattle.annotate_snippets.proofs.Common.{open_past, HasOwnDepth, has_depth, all_from_among, among_contains, contains_among, filter_map_cases, is_short}
-use Rattle.annotate_snippets.proofs.Common.{long_places, stands_before}
+use Rattle.annotate_snippets.proofs.Common.{◌≡◌, ◌≢◌, ℕ, ◌+◌, ◌<◌, ◌≤◌, ◌==◌, Bool, true, false, not, Option, Some, None, List}
+use Rattle.annotate_snippets.proofs.Common.{[], ◌⊎◌, map, inl, inr, refl, sym, ap, ◌∙◌, arith, Contains, filter, filter_map, and_from, and_parts}
+use Rattle.annotate_snippets.proofs.Common.{cases_eq, cases_lt, eq-eqb, eqb-true, false_from_ne_true, le-leb, not-true, is_primary, Annotation, Source, IsSpan}
+use Rattle.annotate_snippets.proofs.Common.{LineAnnotation, LongExtent, MultilineEnd, MultilineStart, depth_of, end_part, is_long, long_entry, long_parts}
+use Rattle.annotate_snippets.proofs.Common.{long_place, long_spans, made_parts, parts_on, single_part, start_part, depth_among, first_line, last_line, Among}
+use Rattle.annotate_snippets.proofs.Common.{among_filter, among_filter_map, among_in_order, among_left, among_map, among_right, any_among, any_cases}
+use Rattle.annotate_snippets.proofs.Common.{append_cases, filter_cases, in_order_cases, map_cases, lines_ordered, end-line, start-line, annotations-distinct}
+use Rattle.annotate_snippets.proofs.Common.{Bar, bar_at, bars_apart, open_past, HasOwnDepth, has_depth, all_from_among, among_contains, contains_among}
+use Rattle.annotate_snippets.proofs.Common.{filter_map_cases, is_short, long_places, stands_before}
 use Rattle.std.specs.List.{All}
 use Rattle.annotate_snippets.proofs.SpanParts.{HasEnds, IsEndOf, end_of, ends_of, is_primary_at}
 
@@ -149,12 +148,7 @@ module _ (s : Source) (marks : List Annotation) where
 
 apart_cases : (bars others : List Bar) (bar : Bar) → Among (bars_apart bars others) bar
     → Among bars bar × ((b : Bar) → Among others b → b.depth ≡ bar.depth → ⊥)
-apart_cases bars others bar here =
-    let found = filter_cases (λ (b : Bar). not (has_depth others b.depth)) bars bar here in (
-      found.0,
-      λ b among same. both_ways (has_depth others bar.depth) (not-true (has_depth others bar.depth) found.1)
-          (any_among (λ (x : Bar). x.depth == bar.depth) others b among (eq-eqb b.depth bar.depth same)),
-    )
+apart_cases bars others bar here = grind (arith, filter_cases, not-true, any_among, eq-eqb, bar.depth)
 
 among_apart : (bars others : List Bar) (bar : Bar) → Among bars bar → ((b : Bar) → Among others b → b.depth ≡ bar.depth → ⊥)
     → Among (bars_apart bars others) bar
@@ -186,37 +180,18 @@ pub record AreOpen (s : Source) (marks : List Annotation) (k : ℕ) (bars : List
 module _ (s : Source) (marks : List Annotation) (spans : All (λ a. IsSpan s.text a.span.start a.span.end) marks) where
   -- a span of several lines ends below its first line
   pub longer : (a : Annotation) → Contains marks a → is_long s.text a ≡ true → first_line s.text a < last_line s.text a
-  longer a among long =
-      let up : first_line s.text a ≤ last_line s.text a = lines_ordered s.text a
-      (All-contains (λ a. IsSpan s.text a.span.start a.span.end) marks a spans among) in
-      let other : is_single_line s.text a ≡ false = not-true (is_single_line s.text a) (and_parts (is_marking a.kind) (not (is_single_line s.text a)) long).1 in
-      elim (cases_eq (last_line s.text a) (first_line s.text a)) [
-        | inl same ↦ absurd (both_ways (is_single_line s.text a) other (eq-eqb (last_line s.text a) (first_line s.text a) same))
-        | inr apart ↦ omega (arith, up, apart)
-      ]
+  longer a among long = grind (arith, lines_ordered, not-true, and_parts, cases_eq, eq-eqb, a.span.start, a.span.end, a.kind)
 
   -- spans that share a line and have one depth have one place
   pub one_place : (a b : Annotation) → Contains marks a → Contains marks b → is_long s.text a ≡ true → is_long s.text b ≡ true
       → first_line s.text a ≤ last_line s.text b → first_line s.text b ≤ last_line s.text a → depth_of s marks a ≡ depth_of s marks b
       → place_in s a ≡ place_in s b
   one_place a b among-a among-b long-a long-b from to same =
-      let first-a : (place_in s a).first ≡ s.first + first_line s.text a = start-line s a.span.start a.span.end in
-      let last-a : (place_in s a).last ≡ s.first + last_line s.text a = end-line s a.span.start a.span.end in
-      let first-b : (place_in s b).first ≡ s.first + first_line s.text b = start-line s b.span.start b.span.end in
-      let last-b : (place_in s b).last ≡ s.first + last_line s.text b = end-line s b.span.start b.span.end in
-      annotations-distinct s marks a b among-a among-b long-a long-b
-      (and_from (leb (place_in s a).first (place_in s b).last) (leb (place_in s b).first (place_in s a).last)
-      (le-leb (place_in s a).first (place_in s b).last (omega (arith, first-a, last-b, from)))
-      (le-leb (place_in s b).first (place_in s a).last (omega (arith, first-b, last-a, to)))) same
+      grind (arith, start-line, end-line, annotations-distinct, and_from, le-leb, a.span.start, a.span.end, b.span.start, b.span.end)
 
   -- spans of one place have the same lines
   same_lines : (a b : Annotation) → place_in s a ≡ place_in s b → (first_line s.text a ≡ first_line s.text b) × (last_line s.text a ≡ last_line s.text b)
-  same_lines a b same =
-      let first-a : (place_in s a).first ≡ s.first + first_line s.text a = start-line s a.span.start a.span.end in
-      let last-a : (place_in s a).last ≡ s.first + last_line s.text a = end-line s a.span.start a.span.end in
-      let first-b : (place_in s b).first ≡ s.first + first_line s.text b = start-line s b.span.start b.span.end in
-      let last-b : (place_in s b).last ≡ s.first + last_line s.text b = end-line s b.span.start b.span.end in
-      (omega (arith, first-a, first-b, ap (λ (p : LongExtent). p.first) same), omega (arith, last-a, last-b, ap (λ (p : LongExtent). p.last) same))
+  same_lines a b same = grind (arith, start-line, end-line, a.span.start, a.span.end, b.span.start, b.span.end)
 
   -- a cell's depth is none of those of the spans of several lines that touch line k
   abbrev pub IsFreeAt : ℕ → ℕ → Type 0

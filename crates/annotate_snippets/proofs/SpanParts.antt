@@ -1,11 +1,12 @@
 -- The starts and the ends of spans of several lines, which make their bars.
+use Rattle.std.proofs.lemmas.Grind.{common_steps}
+use Rattle.std.proofs.Common.{arith, append_assoc}
 use Rattle.annotate_snippets.proofs.Common.{◌≡◌, ℕ, ◌+◌, ◌-◌, Bool, true, false, ◌||◌, ◌&&◌, Option, Some, None, List, [], ◌∷◌}
 use Rattle.annotate_snippets.proofs.Common.{◌++◌, ◌⊎◌, map, inl, inr, refl, sym, ap, subst, ◌∙◌, list_any, cases_Bool, cond-false, cond-true}
 use Rattle.annotate_snippets.proofs.Common.{cond_both, or_parts, list_any-append, is_primary, Primary, Source, LineAnnotation, LongExtent, Singleline}
 use Rattle.annotate_snippets.proofs.Common.{MultilineEnd, MultilineStart, bar_part, end_part, long_parts, long_place, promoted, span_parts, bar_lines}
 use Rattle.annotate_snippets.proofs.Common.{start_part, depth_among, same_place, Among, among_left, among_right, any_cases, append_cases, map_cases}
 use Rattle.annotate_snippets.proofs.Common.{promoted-end, promoted-start, same-refl, same-true, Bar, bar_at, is_promoted, stands_among}
-use Rattle.std.proofs.Common.{append_assoc}
 
 -- whether one of some spans of this place is primary
 abbrev pub is_primary_at : List LineAnnotation → LongExtent → Bool
@@ -15,13 +16,7 @@ is_primary_at es place = list_any (λ (d : LineAnnotation). is_primary d.kind &&
 
 -- a span that is promoted is primary
 promoted-kind : (before : List LineAnnotation) (e : LineAnnotation) → is_primary (promoted before e).kind ≡ is_promoted before e
-promoted-kind before e =
-    let drawn : LineAnnotation = record e { kind = Primary } in
-    elim (cases_Bool (is_promoted before e)) [
-      | inl so ↦ ap (λ (d : LineAnnotation). is_primary d.kind) (cond-true (is_promoted before e) drawn e so) ∙ sym so
-      | inr other ↦ ap (λ (d : LineAnnotation). is_primary d.kind) (cond-false (is_promoted before e) drawn e other)
-          ∙ (or_parts (is_primary e.kind) (is_primary_at before (long_place e)) other).0 ∙ sym other
-    ]
+promoted-kind before e = grind (arith, cases_Bool, cond-true, cond-false, or_parts, e.kind)
 
 -- it keeps its place
 promoted_place : (before : List LineAnnotation) (e : LineAnnotation) → long_place (promoted before e) ≡ long_place e
@@ -95,10 +90,8 @@ last_ends s places before e later others last =
       span = drawn;
       place_is = promoted_place before e;
       primary = kind_drawn before e later last;
-      start = among_left (span_parts s depth (stands_among e later) drawn) others start
-          (subst (λ b. Among (span_parts s depth b drawn) start) (sym last) (inl refl));
-      end = among_left (span_parts s depth (stands_among e later) drawn) others end
-          (subst (λ b. Among (span_parts s depth b drawn) end) (sym last) (inr (among_right bars (end ∷ []) end (inl refl))));
+      start = grind (arith, common_steps, among_left, depth, drawn, start);
+      end = grind (arith, common_steps, among_left, depth, drawn, end, among_right, bars);
     }
 
 -- a span's place has them
@@ -186,12 +179,7 @@ module _ (s : Source) (places : List LongExtent) (before : List LineAnnotation) 
 
   one_part : stands_among e later ≡ false → Among (span_parts s depth false drawn) p → IsEndOf places all (e ∷ later) p bar
   unfolding has
-  one_part last (inl same) =
-      is_own last (own_bar (start_part drawn depth) same) (inl (
-        sym (ap (λ (q : LineAnnotation). q.annotation_type) same),
-        sym
-            (ap (λ (q : LineAnnotation). q.start.line) same) ∙ ap (λ l. l.line) (promoted-start before e),
-      ))
+  one_part last (inl same) = grind (arith, is_own, own_bar, promoted-start)
   one_part last (inr rest) =
       let bars : List LineAnnotation = map (λ k. bar_part drawn depth (s.first + k))
       (bar_lines s.text (drawn.start.line - s.first) (drawn.end.line - s.first)) in
@@ -213,11 +201,7 @@ module _ (s : Source) (places : List LongExtent) (before : List LineAnnotation) 
       no_bar wrong = cc wrong
 
   own_part : Among (span_parts s depth (stands_among e later) drawn) p → IsEndOf places all (e ∷ later) p bar
-  own_part among =
-      elim (cases_Bool (stands_among e later)) [
-        | inl again ↦ none_again (subst (λ b. Among (span_parts s depth b drawn) p) again among)
-        | inr last ↦ one_part last (subst (λ b. Among (span_parts s depth b drawn) p) last among)
-      ]
+  own_part among = grind (arith, cases_Bool, none_again, one_part)
 
 -- an entry that has a bar is the start or the end of a span
 pub end_of : (s : Source) (places : List LongExtent) (before later all : List LineAnnotation) → all ≡ before ++ later → (p : LineAnnotation) (bar : Bar)

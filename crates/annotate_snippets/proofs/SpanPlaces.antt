@@ -1,10 +1,11 @@
 -- The place of a span is its bytes: so the bar of a span is that of its place.
-use Rattle.annotate_snippets.proofs.Common.{◌≡◌, ℕ, ◌==◌, ◌&&◌, Bool, true, false, not, eqb, List, map, refl, sym, ap, ◌∙◌, filter}
-use Rattle.annotate_snippets.proofs.Common.{and_from, and_parts, cond_both, eq-eqb, eqb-true, is_primary, Annotation, AnnotationKind, Primary, Context, Visible}
-use Rattle.annotate_snippets.proofs.Common.{Snippet, Loc, Source, source_lines, end_location, line_of, location_of, locations_of, start_location}
-use Rattle.annotate_snippets.proofs.Common.{LineAnnotation, LongExtent, depth_of, is_long, long_entry, long_place, long_spans, same_place, is_marking}
-use Rattle.annotate_snippets.proofs.Common.{is_single_line, first_line, last_line, among_filter, among_in_order, among_map, any_among, any_cases, filter_cases}
-use Rattle.annotate_snippets.proofs.Common.{in_order_cases, map_cases, same-refl, same-true, Layout, bar_cell, Bar, numbered_source, bar_of_span, stands_before}
+use Rattle.std.proofs.Common.{arith}
+use Rattle.annotate_snippets.proofs.Common.{◌≡◌, ℕ, ◌==◌, ◌&&◌, Bool, true, false, eqb, List, map, refl, sym, ap, ◌∙◌, filter, and_from}
+use Rattle.annotate_snippets.proofs.Common.{and_parts, cond_both, eq-eqb, eqb-true, is_primary, Annotation, AnnotationKind, Primary, Context, Visible, Snippet}
+use Rattle.annotate_snippets.proofs.Common.{Loc, Source, end_location, location_of, locations_of, start_location, LineAnnotation, LongExtent, depth_of, is_long}
+use Rattle.annotate_snippets.proofs.Common.{long_entry, long_place, long_spans, same_place, is_marking, among_filter, among_in_order, among_map, any_among}
+use Rattle.annotate_snippets.proofs.Common.{any_cases, filter_cases, in_order_cases, map_cases, same-refl, same-true, Layout, bar_cell, Bar, numbered_source}
+use Rattle.annotate_snippets.proofs.Common.{bar_of_span, stands_before}
 use Rattle.annotate_snippets.proofs.SpanOpen.{bar_at_place, place_in}
 use Rattle.annotate_snippets.proofs.SpanParts.{is_primary_at}
 
@@ -36,11 +37,7 @@ same_bytes s a b starts ends =
 
 -- and spans of one place the same bytes
 pub bytes_same : (s : Source) (a b : Annotation) → place_in s a ≡ place_in s b → (a.span.start ≡ b.span.start) × (a.span.end ≡ b.span.end)
-bytes_same s a b same = (
-  sym (starts_at s a.span.start a.span.end) ∙ ap (λ (p : LongExtent). p.from) same
-      ∙ starts_at s b.span.start b.span.end,
-  sym (ends_at s a.span.start a.span.end) ∙ ap (λ (p : LongExtent). p.to) same ∙ ends_at s b.span.start b.span.end,
-)
+bytes_same s a b same = grind (arith, starts_at, ends_at, a.span.start, a.span.end, b.span.start, b.span.end)
 
 -- primary spans are marked
 primary_marks : (k : AnnotationKind) → is_primary k ≡ true → is_marking k ≡ true
@@ -51,12 +48,7 @@ primary_marks Visible is = cc
 -- a span of the bytes of one of several lines is of several lines
 long_too : (source : List ℕ) (a b : Annotation) → is_long source a ≡ true → is_marking b.kind ≡ true → b.span.start ≡ a.span.start → b.span.end ≡ a.span.end
     → is_long source b ≡ true
-long_too source a b long marking starts ends =
-    let first : first_line source b ≡ first_line source a = ap (line_of (source_lines source)) starts in
-    let last : last_line source b ≡ last_line source a = ap (line_of (source_lines source)) ends in
-    let single : is_single_line source b ≡ is_single_line source a = ap (λ n. n == first_line source b) last ∙ ap (λ n. last_line source a == n) first in
-    let parts = and_parts (is_marking a.kind) (not (is_single_line source a)) long in
-    and_from (is_marking b.kind) (not (is_single_line source b)) marking (ap not single ∙ parts.1)
+long_too source a b long marking starts ends = grind (arith, and_parts, and_from, a.kind, b.kind)
 
 -- tests that pass where the other does are the same
 pass_alike : (x y : Bool) → (x ≡ true → y ≡ true) → (y ≡ true → x ≡ true) → x ≡ y

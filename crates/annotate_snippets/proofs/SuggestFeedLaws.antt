@@ -1,4 +1,5 @@
 -- The rows of a suggestion hold a line feed only where its path does.
+use Rattle.std.proofs.lemmas.Grind.{common_steps}
 use Rattle.annotate_snippets.proofs.Common.{◌≡◌, ℕ, zero, suc, ◌+◌, ◌-◌, ◌<◌, ◌≤◌, ◌==◌, Bool, true, false, Option, None, Some}
 use Rattle.annotate_snippets.proofs.Common.{List, [], ◌∷◌, ◌++◌, All, take, drop, map, length, get_or, refl, sym, ap, subst, ◌∙◌, arith, inl}
 use Rattle.annotate_snippets.proofs.Common.{inr, cow_str_bytes, AllZip, list_any, slice_index_or, IsUtf8, cases_Bool, cases_eq, cases_lt, eqb-true}
@@ -48,11 +49,11 @@ mark_plain Unicode c (inr (inr changed)) = subst IsNoFeed (sym changed) refl
 
 digit_or_mark : (decor : DecorStyle) (c : ℕ) → IsLeftOver decor c → IsNoFeed c
 digit_or_mark decor c (inl mark) = mark_plain decor c mark
-digit_or_mark decor c (inr digit) = grind (arith, nat_tests, digit)
+digit_or_mark decor c (inr digit) = grind (arith, nat_tests)
 
 before_plain : (numbers : LineNumbers) (decor : DecorStyle) (c : ℕ) → IsBeforeSign numbers decor c → IsNoFeed c
 before_plain numbers decor c (inl stroke) = stroke_plain decor c stroke
-before_plain Shown decor c (inr digit) = grind (arith, nat_tests, digit)
+before_plain Shown decor c (inr digit) = grind (arith, nat_tests)
 before_plain Anonymized decor c (inr letter) = subst IsNoFeed (sym letter) refl
 before_plain Hidden decor c (inr none) = absurd none
 
@@ -142,8 +143,7 @@ line_row_plain suggested glyph number line plain =
     let g : ℕ = suggested.base.gutter in
     let signed : List Cell = put (suggestion_role_of glyph) (suggestion_glyph_of suggested.base.decor glyph) (g + 1) [] in
     let digits : List ℕ = shown_number suggested.numbers g number in
-    let signed_plain : HasNoFeed signed = put_plain (suggestion_role_of glyph) (suggestion_glyph_of suggested.base.decor glyph) (g + 1) []
-    (All-nil HoldsNoFeed) (glyph_plain suggested.base.decor glyph) in
+    let signed_plain : HasNoFeed signed = grind (arith, common_steps, put_plain, g, All-nil, glyph_plain, suggested.base.decor) in
     let numbered_plain = put_plain LineNumber digits 0 signed signed_plain (number_plain suggested.numbers g number) in
     put_plain NoStyle (norm (chars line)) (g + 3) (put LineNumber digits 0 signed) numbered_plain (norm-plain (chars line) plain)
 

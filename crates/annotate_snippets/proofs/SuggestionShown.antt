@@ -1,4 +1,5 @@
 -- The rows of a suggestion show it.
+use Rattle.std.proofs.Common.{arith}
 use Rattle.annotate_snippets.proofs.Common.{◌≡◌, ◌≢◌, ◌∙◌, ℕ, ◌+◌, Bool, true, false, not, if◌then◌else◌, Option, None, Some}
 use Rattle.annotate_snippets.proofs.Common.{List, [], ◌∷◌, ◌++◌, map, length, refl, sym, ap, subst, inl, inr, cow_str_bytes, AllZip, Contains}
 use Rattle.annotate_snippets.proofs.Common.{append-nil, All-append, All-cons, All-nil, filter_map-append, Suggestion, Patch, Snippet, Cell, IsFree}
@@ -12,16 +13,15 @@ use Rattle.annotate_snippets.proofs.Common.{origin_layout, path_row, suggestion_
 use Rattle.std.specs.List.{All}
 use Rattle.snippet_suggest.specs.declared.SuggestionStart.TheVariants as start
 use Rattle.snippet_suggest.proofs.OrderLaws.{IsRowOf}
-use Rattle.annotate_snippets.proofs.PageWords.{under_of}
-use Rattle.annotate_snippets.proofs.PageWords.{patch_place, suggestion_head_at}
+use Rattle.annotate_snippets.proofs.PageWords.{under_of, patch_place, suggestion_head_at}
 use Rattle.annotate_snippets.proofs.AreTexts.{IsTextSuggestion}
 use Rattle.annotate_snippets.proofs.Ascending.{IsAscending, ascends}
 use Rattle.annotate_snippets.proofs.ElementShown.{ElementShown}
 use Rattle.annotate_snippets.proofs.NamedRows.{cells_of-append, cells_of-others}
 use Rattle.annotate_snippets.proofs.SuggestFeedLaws.{suggestion_one_line}
 use Rattle.annotate_snippets.proofs.SuggestionLines.{IsEnding, lines_each, lines_show}
-use Rattle.annotate_snippets.proofs.SuggestionLemmas.{cells_of-named, lines_free, lines_offered-order, lines_removed, lines_removed-order}
-use Rattle.annotate_snippets.proofs.SuggestionLemmas.{names_of-named, named_rows, rising_ascends, rows_named, strokes_shown}
+use Rattle.annotate_snippets.proofs.SuggestionLemmas.{cells_of-named, lines_free, lines_offered-order, lines_removed, lines_removed-order, names_of-named}
+use Rattle.annotate_snippets.proofs.SuggestionLemmas.{named_rows, rising_ascends, rows_named, strokes_shown}
 
 -- the row of its path holds no listed character and no link
 path_row-free : (r : Renderer) (layout : Layout) (first : Bool) (s : Snippet Patch) (path : Option (List ℕ)) → All IsFree (path_row r layout first s path)
@@ -102,13 +102,7 @@ lines_signed r layout around found s =
 -- the cells of a suggestion's rows are those of its head and of its lines
 pub patch_cells : (r : Renderer) (layout : Layout) (around : ElementContext) (found : List Cell) (s : Snippet Patch)
     → cells_of (element_rows r layout around found (Suggestion s)) ≡ suggestion_head r layout around s ++ suggestion_lines r layout around found s
-patch_cells r layout around found s =
-    let shown : List SuggestionRow = suggestion_rows around s in
-    let head : List (List Cell) = suggestion_head r layout around s in
-    let lines : List (List Cell) = suggestion_lines r layout around found s in
-    let after : List NamedRow = named_rows s shown lines in
-    cells_of-append (others head) after ∙ ap (λ rs. rs ++ cells_of after) (cells_of-others head)
-    ∙ ap (λ rs. head ++ rs) (cells_of-named (HasSign (suggestion_layout r layout s) s) s shown lines (lines_signed r layout around found s))
+patch_cells r layout around found s = grind (arith, cells_of-append, cells_of-others, cells_of-named, lines_signed)
 
 -- the rows of a suggestion show it: after the row of its path those of its lines
 pub suggestion_shown : (r : Renderer) (layout : Layout) (around : ElementContext) (found : List Cell) (s : Snippet Patch) → IsSuggestible s

@@ -19,13 +19,8 @@ onto_front c (line ∷ lines) more some = refl
 
 one_more : (c : ℕ) (xs ys : List ℕ) (feed : Bool) → (c == 10) ≡ feed → text_lines (xs ++ 10 ∷ ys) ≡ text_lines xs ++ text_lines ys
     → text_lines (c ∷ (xs ++ 10 ∷ ys)) ≡ text_lines (c ∷ xs) ++ text_lines ys
-one_more c xs ys true is later =
-    slice_split-cons_yes (λ x. x == 10) c (xs ++ 10 ∷ ys) is ∙ ap (λ lines. [] ∷ lines) later
-    ∙ ap (λ lines. lines ++ text_lines ys) (sym (slice_split-cons_yes (λ x. x == 10) c xs is))
-one_more c xs ys false is later =
-    slice_split-cons_no (λ x. x == 10) c (xs ++ 10 ∷ ys) is ∙ ap (onto_first c) later
-    ∙ onto_front c (text_lines xs) (text_lines ys) (omega (arith, length-slice_split (λ x. x == 10) xs))
-    ∙ ap (λ lines. lines ++ text_lines ys) (sym (slice_split-cons_no (λ x. x == 10) c xs is))
+one_more c xs ys true is later = grind (arith, slice_split-cons_yes)
+one_more c xs ys false is later = grind (arith, slice_split-cons_no, onto_front, length-slice_split)
 
 -- have the lines of both
 lines_joined : (xs ys : List ℕ) → text_lines (xs ++ 10 ∷ ys) ≡ text_lines xs ++ text_lines ys

@@ -11,17 +11,15 @@ use Rattle.annotate_snippets.proofs.Common.{suggestion_paragraphs, place, place_
 use Rattle.annotate_snippets.proofs.Common.{HeadingKind, SuggestionContext, SuggestionSettings, All-named_spans, IsTextOf, cause-text, heading-text}
 use Rattle.annotate_snippets.proofs.Common.{lines-of_text, no_text, origin-text, suggestion-text, text-append, text-each, PathIs, before_added-each}
 use Rattle.annotate_snippets.proofs.Common.{before_id-each, before_name-each, decimal-each, edit_indent-each, edit_place-each, further_indent-each, is_odd}
-use Rattle.annotate_snippets.proofs.Common.{known-each, place_in_file-each, span_text-each, colon_of, heading_lines, is_set, drawn_elements, file_of_group}
-use Rattle.annotate_snippets.proofs.Common.{first_two_share, path_bytes, is_drawn, HasOneLineTexts, text_lines, element_paragraphs, elements_paragraphs}
-use Rattle.annotate_snippets.proofs.Common.{group_paragraphs, report_paragraphs, title_paragraphs, PreviousSuggestion, before_next, element_form, elements_form}
-use Rattle.annotate_snippets.proofs.Common.{group_form, suggestion_place, suggestion_settings, text_form, Renderer}
-use Rattle.std.proofs.Common.{chars}
-use Rattle.std.proofs.Common.{filter}
+use Rattle.annotate_snippets.proofs.Common.{known-each, place_in_file-each, span_text-each, colon_of, is_set, drawn_elements, file_of_group, first_two_share}
+use Rattle.annotate_snippets.proofs.Common.{path_bytes, is_drawn, HasOneLineTexts, text_lines, element_paragraphs, elements_paragraphs, group_paragraphs}
+use Rattle.annotate_snippets.proofs.Common.{report_paragraphs, title_paragraphs, PreviousSuggestion, before_next, element_form, elements_form, group_form}
+use Rattle.annotate_snippets.proofs.Common.{suggestion_place, suggestion_settings, text_form, Renderer}
+use Rattle.std.proofs.Common.{chars, filter}
 use Rattle.snippet_model.specs.declared.snippet.Element.TheVariants as element
 use Rattle.snippet_parts.specs.Numbered.{numbered_source}
 use Rattle.snippet_text_form.specs.declared.heading.HeadingKind.TheVariants as kind
 use Rattle.snippet_text_form.proofs.PlaceParts.{place-each}
-use Rattle.snippet_titles.specs.HeadingRows.{shown_text}
 use Rattle.annotate_snippets.proofs.FormSteps.{title_form}
 use Rattle.annotate_snippets.proofs.HeadingFeedLaws.{IsOneLineHeading, parts_plain}
 use Rattle.annotate_snippets.proofs.OneLineTexts.{IsNoFeed, IsOneLineElement, IsOneLineGroup, IsOneLineId, IsOneLineLabel, IsOneLineText, IsOneLineTitle}
@@ -68,7 +66,7 @@ abbrev AreLines : List (List (List ℕ)) → Type 0
 AreLines paragraphs = All (All IsLine) paragraphs
 
 printable-plain : (c : ℕ) → is_odd c ≡ false → IsNoFeed c
-printable-plain c is = grind (arith, nat_tests, is)
+printable-plain c is = grind (arith, nat_tests)
 
 path-plain : (path : Option (List ℕ)) → IsOneLineText path → PathIs IsNoFeed printable-plain path
 path-plain None plain = tt
@@ -79,9 +77,7 @@ one_line line plain = All-cons (All IsLine) (line_paragraph line) [] (All-cons I
 
 each_line : (lines : List (List ℕ)) → All IsLine lines → AreLines (map line_paragraph lines)
 each_line [] all = All-nil (All IsLine)
-each_line (line ∷ lines) all =
-    All-append (All IsLine) (line_paragraph line ∷ []) (map line_paragraph lines) (one_line line (All-head IsLine line lines all))
-    (each_line lines (All-tail IsLine line lines all))
+each_line (line ∷ lines) all = grind (arith, each_line lines (All-tail IsLine line lines all), All-append, map, one_line, All-head, All-tail)
 
 -- that of a title or message
 name_label-plain : (kind : HeadingKind) (heading : Heading) → IsOneLineHeading heading
@@ -134,9 +130,7 @@ lines_after-plain label (line ∷ lines) own all =
     (All-append IsNoFeed label line own (All-head IsLine line lines all)) (further-plain (width_of label) lines (All-tail IsLine line lines all))
 
 heading-lines : (kind : HeadingKind) (heading : Heading) → IsOneLineHeading heading → AreLines (heading_paragraph kind heading ∷ [])
-heading-lines kind heading plain =
-    All-cons (All IsLine) (heading_paragraph kind heading) [] (lines_after-plain (heading_label kind heading) (heading_lines heading)
-    (label-plain kind heading plain) (parts_plain (shown_text heading))) (All-nil (All IsLine))
+heading-lines kind heading plain = grind (arith, All-cons, lines_after-plain, label-plain, parts_plain, All-nil)
 
 -- those of an annotated snippet
 label_characters-plain : (label : Option (List ℕ)) → IsOneLineText label → IsLine (normalized_chars label)

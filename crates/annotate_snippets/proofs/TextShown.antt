@@ -1,13 +1,15 @@
 -- The texts that are woven of a report's text form show it.
+use Rattle.std.proofs.lemmas.Grind.{common_steps}
+use Rattle.std.proofs.Common.{arith}
 use Rattle.annotate_snippets.proofs.Common.{◌≡◌, ◌∙◌, ℕ, ◌==◌, Bool, true, false, not, Option, None, Some, List, [], ◌∷◌, ◌++◌}
 use Rattle.annotate_snippets.proofs.Common.{cond, if◌then◌else◌, refl, sym, ap, subst, AllZip, filter, flat_map, list_any, option_to_list, append-nil}
 use Rattle.annotate_snippets.proofs.Common.{All-nil, All-head, All-tail, All-append, All-filter, flat_map-append, IsWoven, Stylesheet, plain_woven, Heading}
 use Rattle.annotate_snippets.proofs.Common.{heading_of_message, heading_of_title, trusted_of_element, trusted_of_title, trusted_texts, Element, Message, Cause}
 use Rattle.annotate_snippets.proofs.Common.{Suggestion, Origin, Padding, Group, Title, id_links, cause_form, FormPiece, begun_after, form_bytes, form_text}
-use Rattle.annotate_snippets.proofs.Common.{plain_from, form_links, piece_links, heading_form, StandInOrder, origin_form, suggestion_form, HeadingKind}
-use Rattle.annotate_snippets.proofs.Common.{cause-free, heading-free, origin-free, suggestion-free, cause-links, heading-links, origin-links, suggestion-links}
-use Rattle.annotate_snippets.proofs.Common.{cause-holds, heading_stays, plain-append, stand-append, drawn_elements, file_of_group, first_two_share, LawsIn}
-use Rattle.annotate_snippets.proofs.Common.{TextLaws, IsTextUnder, is_drawn, TextShown, IsFreeBut, report_links, PreviousSuggestion, before_next, element_form}
+use Rattle.annotate_snippets.proofs.Common.{plain_from, form_links, piece_links, heading_form, StandInOrder, origin_form, HeadingKind, cause-free, heading-free}
+use Rattle.annotate_snippets.proofs.Common.{origin-free, suggestion-free, cause-links, heading-links, origin-links, suggestion-links, cause-holds}
+use Rattle.annotate_snippets.proofs.Common.{heading_stays, plain-append, stand-append, drawn_elements, file_of_group, first_two_share, LawsIn, TextLaws}
+use Rattle.annotate_snippets.proofs.Common.{IsTextUnder, is_drawn, TextShown, IsFreeBut, report_links, PreviousSuggestion, before_next, element_form}
 use Rattle.annotate_snippets.proofs.Common.{element_texts, elements_form, group_form, group_texts, report_texts, suggestion_place, suggestion_settings}
 use Rattle.annotate_snippets.proofs.Common.{text_form, whole_text, Renderer, Text, AllZip-weaker}
 use Rattle.std.specs.List.{All}
@@ -63,18 +65,12 @@ element_links r file before followed (Padding p) = refl
 elements_links : (r : Renderer) (file : Option (List ℕ)) (before : Option PreviousSuggestion) (es : List Element)
     → form_links (elements_form r file before es) ≡ []
 elements_links r file before [] = refl
-elements_links r file before (e ∷ es) =
-    let own : List FormPiece = element_form r file before (first_two_share (e ∷ es)) e in
-    let rest : List FormPiece = elements_form r file (before_next before e) es in
-    flat_map-append piece_links own rest ∙ ap (λ (urls : List (List ℕ)). urls ++ form_links rest) (element_links r file before (first_two_share (e ∷ es)) e)
-    ∙ elements_links r file (before_next before e) es
+elements_links r file before (e ∷ es) = grind (arith, elements_links r file (before_next before e) es, flat_map-append, element_links)
 
 title_form-links : (r : Renderer) (title : Option Title)
     → form_links (title_form r title) ≡ flat_map (λ (t : Title). id_links r.hyperlink t.id) (option_to_list title)
 title_form-links r None = refl
-title_form-links r (Some t) =
-    let own : List FormPiece = heading_form r.hyperlink kind.Title (heading_of_title t) in
-    flat_map-append piece_links own [] ∙ ap (λ (urls : List (List ℕ)). urls ++ []) (heading-links r.hyperlink kind.Title (heading_of_title t))
+title_form-links r (Some t) = grind (arith, flat_map-append, heading-links, r.hyperlink)
 
 form_links-group_form : (r : Renderer) (groups : List Group) (g : Group) → form_links (group_form r groups g) ≡ title_links r.hyperlink g
 form_links-group_form r groups g =
@@ -85,10 +81,7 @@ form_links-group_form r groups g =
 
 groups_links : (r : Renderer) (groups gs : List Group) → form_links (flat_map (group_form r groups) gs) ≡ flat_map (title_links r.hyperlink) gs
 groups_links r groups [] = refl
-groups_links r groups (g ∷ gs) =
-    let rest : List FormPiece = flat_map (group_form r groups) gs in
-    flat_map-append piece_links (group_form r groups g) rest ∙ ap (λ (urls : List (List ℕ)). urls ++ form_links rest) (form_links-group_form r groups g)
-    ∙ ap (λ (urls : List (List ℕ)). title_links r.hyperlink g ++ urls) (groups_links r groups gs)
+groups_links r groups (g ∷ gs) = grind (arith, groups_links r groups gs, flat_map-append, form_links-group_form, r.hyperlink)
 
 -- which texts stand in a heading, in an element, in elements and in a group
 heading_holds : (begun hyperlink : Bool) (of : HeadingKind) (heading : Heading)
@@ -141,14 +134,10 @@ groups_hold r groups (g ∷ gs) begun =
 -- each listed character of an element, of elements and of a group is one of a trusted text
 element_free : (trusted : List (List ℕ)) (r : Renderer) (file : Option (List ℕ)) (before : Option PreviousSuggestion) (followed : Bool) (e : Element)
     → AreTextsAmong trusted (trusted_of_element e) → (begun : Bool) → IsFreeBut trusted (plain_from begun (element_form r file before followed e))
-element_free trusted r file before followed (Message m) among begun =
-    own_text trusted (heading_of_message m) (λ styled. message_among trusted m among)
-    (plain_from begun (heading_form r.hyperlink kind.Message (heading_of_message m))) (heading-free begun r.hyperlink kind.Message (heading_of_message m))
+element_free trusted r file before followed (Message m) among begun = grind (arith, common_steps, message_among, heading-free, r.hyperlink)
 element_free trusted r file before followed (Cause s) among begun =
     unlisted_text trusted (plain_from begun (cause_form r.anonymized_origin_line_numbers s)) (cause-free begun r.anonymized_origin_line_numbers s)
-element_free trusted r file before followed (Suggestion s) among begun =
-    unlisted_text trusted (plain_from begun (suggestion_form (suggestion_settings r) (suggestion_place file before followed s) s))
-    (suggestion-free begun (suggestion_settings r) (suggestion_place file before followed s) s)
+element_free trusted r file before followed (Suggestion s) among begun = grind (arith, unlisted_text, suggestion-free)
 element_free trusted r file before followed (Origin o) among begun =
     unlisted_text trusted (plain_from begun (origin_form r.anonymized_origin_line_numbers o)) (origin-free begun r.anonymized_origin_line_numbers o)
 element_free trusted r file before followed (Padding p) among begun = All-nil (IsTrusted trusted)

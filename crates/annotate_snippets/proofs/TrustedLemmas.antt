@@ -1,4 +1,6 @@
 -- Each listed character of a group's rows is one of a trusted text.
+use Rattle.std.proofs.lemmas.Grind.{common_steps}
+use Rattle.std.proofs.Common.{arith, chars}
 use Rattle.annotate_snippets.proofs.Common.{◌≡◌, ℕ, Bool, true, false, Option, None, Some, List, [], ◌∷◌, ◌++◌, if◌then◌else◌, refl}
 use Rattle.annotate_snippets.proofs.Common.{sym, subst, Contains, flat_map, option_to_list, cow_str_bytes, All-nil, All-cons, All-head, All-tail, All-append}
 use Rattle.annotate_snippets.proofs.Common.{All-map, All-weaker, Contains-append_left, Contains-append_right, flat_map-append, is_listed, IsFree, IsFreeCell}
@@ -6,7 +8,6 @@ use Rattle.annotate_snippets.proofs.Common.{Cell, row_text, further_text, plain_
 use Rattle.annotate_snippets.proofs.Common.{heading_of_message, heading_of_title, trusted_of_element, trusted_of_title, IsFreeButText, title_rows}
 use Rattle.annotate_snippets.proofs.Common.{heading_rows-free, closing_row-free, separator_row-free, is_before_message, NamedRow, cells_of, rows_after_title}
 use Rattle.annotate_snippets.proofs.Common.{title_part, IsFreeBut, IsFreeElement, Renderer, Layout, GroupPosition, Next, closing_row, separator_row}
-use Rattle.std.proofs.Common.{chars}
 use Rattle.std.specs.List.{All}
 use Rattle.snippet_model.specs.declared.snippet.Message.{Message as MessageGiven}
 use Rattle.snippet_titles.specs.declared.style.TitleStyle.TheVariants as style
@@ -60,9 +61,7 @@ AreTextsAmong trusted texts = (c : ℕ) → Contains (flat_map chars texts) c �
 pub own_text : (trusted : List (List ℕ)) (heading : Heading)
     → (heading.allows_styling ≡ true → (c : ℕ) → Contains (chars heading.text) c → Contains (flat_map chars trusted) c) → (text : List ℕ)
     → All (λ c. is_listed c ≡ true → (heading.allows_styling ≡ true) × Contains (chars heading.text) c) text → IsFreeBut trusted text
-own_text trusted heading among text own =
-    All-weaker (λ c. is_listed c ≡ true → (heading.allows_styling ≡ true) × Contains (chars heading.text) c) (IsTrusted trusted) (λ c is listed.
-    among (is listed).0 c (is listed).1) text own
+own_text trusted heading among text own = grind (arith, All-weaker, heading.allows_styling, heading.text)
 
 -- a row that holds no other
 pub own_row : (trusted : List (List ℕ)) (heading : Heading)
@@ -73,10 +72,7 @@ own_row trusted heading among row own = own_text trusted heading among (row_text
 -- the text of a title is among the trusted ones if it is trusted, and that of a message is
 pub title_among : (title : Title) (more : List (List ℕ)) → title.allows_styling ≡ true → (c : ℕ) → Contains (chars (cow_str_bytes title.text)) c
     → Contains (flat_map chars (flat_map trusted_of_title (title ∷ []) ++ more)) c
-title_among title more styled c is =
-    let text : List ℕ = cow_str_bytes title.text in
-    let same : flat_map trusted_of_title (title ∷ []) ++ more ≡ text ∷ more = rw styled refl in
-    subst (λ (ts : List (List ℕ)). Contains (flat_map chars ts) c) (sym same) (Contains-append_left (chars text) (flat_map chars more) c is)
+title_among title more styled c is = grind (arith, common_steps, Contains-append_left, title.text)
 
 -- each character of a trusted message is one of the trusted texts
 pub message_among : (trusted : List (List ℕ)) (message : MessageGiven) → AreTextsAmong trusted (trusted_of_element (Message message)) → (c : ℕ)

@@ -1,7 +1,8 @@
 -- What a walk over some elements or groups knows of those that it hasn't met yet.
+use Rattle.std.proofs.Common.{arith}
 use Rattle.annotate_snippets.proofs.Common.{◌≡◌, ◌≢◌, ℕ, ◌+◌, ◌<◌, ◌≤◌, ◌∙◌, List, Option, Some, None, length, drop, get_or}
-use Rattle.annotate_snippets.proofs.Common.{sym, ap, refl, cons_option, filter_map, slice_get, option_flatten, drop_more, drop_all, Element, Message, Cause}
-use Rattle.annotate_snippets.proofs.Common.{Suggestion, Origin, Padding, Annotation, Snippet, Group, file_of_element, primary_path}
+use Rattle.annotate_snippets.proofs.Common.{sym, ap, refl, cons_option, filter_map, slice_get, drop_more, drop_all, Element, Message, Cause, Suggestion, Origin}
+use Rattle.annotate_snippets.proofs.Common.{Padding, Annotation, Snippet, Group, file_of_element, primary_path}
 use Rattle.snippet_model.specs.declared.snippet.Origin.{Origin as PlaceGiven}
 
 -- what the rest of a list gives, one item on
@@ -31,16 +32,12 @@ filter_map-none h xs i none past = ap (λ ys. slice_get ys 0) (none ∙ ap (filt
 pub primary_path-first : (g : Group) (es : List Element) (i : ℕ) (e : Element) (path : Option (List ℕ)) → es ≡ g.elements.items
     → filter_map file_of_element es ≡ filter_map file_of_element (drop i es) → i < length es → e ≡ get_or es i e → file_of_element e ≡ Some path
     → path ≡ primary_path g
-primary_path-first g es i e path same none within is some =
-    sym (ap (λ (xs : List Element). option_flatten (slice_get (filter_map file_of_element xs) 0)) (sym same)
-    ∙ ap option_flatten (filter_map-first file_of_element es i e path none within is some))
+primary_path-first g es i e path same none within is some = grind (arith, filter_map-first)
 
 -- a group has no primary path where none of its elements has one
 pub primary_path-none : (g : Group) (es : List Element) (i : ℕ) → es ≡ g.elements.items → filter_map file_of_element es ≡ filter_map file_of_element (drop i es)
     → length es ≤ i → None ≡ primary_path g
-primary_path-none g es i same none past =
-    sym (ap (λ (xs : List Element). option_flatten (slice_get (filter_map file_of_element xs) 0)) (sym same)
-    ∙ ap option_flatten (filter_map-none file_of_element es i none past))
+primary_path-none g es i same none past = grind (arith, filter_map-none)
 
 -- an element that is neither source with annotations nor an origin is of no file
 pub no_file : (e : Element) → ((s : Snippet Annotation) → e ≢ Cause s) → ((o : PlaceGiven) → e ≢ Origin o) → file_of_element e ≡ None

@@ -1,8 +1,9 @@
 -- The greatest of what some elements want: as wide a gutter as any of them, as many bars as stand beside any of them.
+use Rattle.std.proofs.lemmas.Grind.{common_steps}
 use Rattle.annotate_snippets.proofs.Common.{◌≡◌, ℕ, ◌+◌, ◌<◌, ◌&&◌, max, fold, map, take, Bool, true, false, cond, List, [], ◌∷◌}
-use Rattle.annotate_snippets.proofs.Common.{◌++◌, length, get_or, refl, sym, ap, ◌∙◌, arith, filter, flat_map, decimal, flat_map-append, append-nil}
-use Rattle.annotate_snippets.proofs.Common.{take_more, fold-map, fold-append, fold_more, Element, Message, Cause, Suggestion, Origin, Padding, counted_line}
-use Rattle.annotate_snippets.proofs.Common.{is_drawn, depth_of_element, width_wanted, IsGroupPrepared, element_of, PreparedElement, PreparedGroup}
+use Rattle.annotate_snippets.proofs.Common.{length, get_or, refl, ap, ◌∙◌, arith, filter, flat_map, decimal, flat_map-append, append-nil, take_more}
+use Rattle.annotate_snippets.proofs.Common.{fold-map, fold-append, fold_more, Element, Message, Cause, Suggestion, Origin, Padding, counted_line, is_drawn}
+use Rattle.annotate_snippets.proofs.Common.{depth_of_element, width_wanted, IsGroupPrepared, element_of, PreparedElement, PreparedGroup}
 
 -- the greater of a number and of what an element wants
 abbrev pub greater : (Element → ℕ) → ℕ → Element → ℕ
@@ -11,11 +12,7 @@ greater wants most e = max (wants e) most
 -- one more of some elements, as they were prepared
 pub widest-more : (wants : Element → ℕ) (most : ℕ) (ps : List PreparedElement) (i : ℕ) (p : PreparedElement) → i < length ps → p ≡ get_or ps i p
     → fold (greater wants) most (map element_of (take (i + 1) ps)) ≡ max (wants (element_of p)) (fold (greater wants) most (map element_of (take i ps)))
-widest-more wants most ps i p within is =
-    let f : ℕ → Element → ℕ = greater wants in
-    fold-map f element_of most (take (i + 1) ps) ∙ fold_more (λ m q. f m (element_of q)) most ps i p within
-    ∙ ap (λ q. f (fold (λ m t. f m (element_of t)) most (take i ps)) (element_of q)) (sym is)
-    ∙ ap (λ m. f m (element_of p)) (sym (fold-map f element_of most (take i ps)))
+widest-more wants most ps i p within is = grind (arith, fold-map, fold_more)
 
 -- elements that aren't drawn want nothing
 unnumbered : (b : Bool) (n : ℕ) → cond (b && false) n 0 ≡ 0
@@ -57,9 +54,7 @@ widest-drawn wants none most (e ∷ es) = by (is_drawn e) refl (λ m. widest-dra
 pub widest-prepared : (wants : Element → ℕ) → ((e : Element) → is_drawn e ≡ false → wants e ≡ 0)
     → (most : ℕ) (p : PreparedGroup) (ps : List PreparedElement) → ps ≡ p.elements.items → IsGroupPrepared p
     → fold (greater wants) most (map element_of ps) ≡ fold (greater wants) most p.group.now.elements.items
-widest-prepared wants none most p ps is prepared =
-    ap (λ (qs : List PreparedElement). fold (greater wants) most (map element_of qs)) is ∙ ap (fold (greater wants) most) prepared.elements_are
-    ∙ widest-drawn wants none most p.group.now.elements.items
+widest-prepared wants none most p ps is prepared = grind (arith, widest-drawn, prepared.elements_are, p.group.now.elements.items)
 
 -- the elements of a group that was prepared
 abbrev pub elements_in : PreparedGroup → List Element
@@ -69,10 +64,4 @@ elements_in p = p.group.now.elements.items
 pub widest-more_groups : (wants : Element → ℕ) (ps : List PreparedGroup) (i : ℕ) (p : PreparedGroup) → i < length ps → p ≡ get_or ps i p
     → fold (greater wants) 0 (flat_map elements_in (take (i + 1) ps)) ≡ fold (greater wants)
     (fold (greater wants) 0 (flat_map elements_in (take i ps))) p.group.now.elements.items
-widest-more_groups wants ps i p within is =
-    let f : ℕ → Element → ℕ = greater wants in
-    let before : List Element = flat_map elements_in (take i ps) in
-    let more : flat_map elements_in (take (i + 1) ps) ≡ before ++ elements_in p =
-    ap (flat_map elements_in) (take_more ps i p within ∙ ap (λ (q : PreparedGroup). take i ps ++ q ∷ []) (sym is))
-    ∙ flat_map-append elements_in (take i ps) (p ∷ []) ∙ ap (λ es. before ++ es) (append-nil (elements_in p)) in
-    ap (fold f 0) more ∙ fold-append f 0 before (elements_in p)
+widest-more_groups wants ps i p within is = grind (arith, common_steps, take_more, flat_map-append, append-nil, fold-append)

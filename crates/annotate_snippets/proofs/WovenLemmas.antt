@@ -1,8 +1,9 @@
 -- Woven texts that are joined by line feeds are woven.
-use Rattle.annotate_snippets.proofs.Common.{◌≡◌, ℕ, false, List, [], ◌∷◌, ◌++◌, lit<, refl, sym, ap, ◌∙◌, subst, AllZip, flat_map}
-use Rattle.annotate_snippets.proofs.Common.{join_with_byte, append-nil, All-nil, All-append, All-cons, flat_map-append, encode_ascii, plain_text, Piece, Char}
-use Rattle.annotate_snippets.proofs.Common.{piece_text, plain_piece, piece_link, IsOfSheet, IsWoven, links_of, Stylesheet, IsWoven-from_prints, PrintsPage}
-use Rattle.annotate_snippets.proofs.Common.{group_rows, page_text, ended-append}
+use Rattle.std.proofs.lemmas.Grind.{common_steps}
+use Rattle.std.proofs.Common.{arith}
+use Rattle.annotate_snippets.proofs.Common.{◌≡◌, ℕ, false, List, [], ◌∷◌, ◌++◌, lit<, refl, sym, subst, AllZip, flat_map, join_with_byte}
+use Rattle.annotate_snippets.proofs.Common.{append-nil, All-nil, All-append, All-cons, flat_map-append, encode_ascii, plain_text, Piece, Char, piece_text}
+use Rattle.annotate_snippets.proofs.Common.{IsOfSheet, IsWoven, links_of, Stylesheet, IsWoven-from_prints, PrintsPage, group_rows, page_text, ended-append}
 use Rattle.annotate_snippets.proofs.PageWords.{Page, PrintsPart}
 
 -- no text is woven
@@ -18,13 +19,9 @@ IsWoven-joined sheet a pa la b pb lb first second =
     let fed : piece_text (Char 10) ≡ 10 ∷ [] = encode_ascii 10 (lit< tt) in
     record {
       pieces = pieces;
-      text_is = ap (λ x. x ++ 10 ∷ b) first.text_is ∙ ap (λ y. flat_map piece_text first.pieces ++ 10 ∷ y) second.text_is
-          ∙ ap (λ y. flat_map piece_text first.pieces ++ (y ++ flat_map piece_text second.pieces)) (sym fed)
-          ∙ sym (flat_map-append piece_text first.pieces (Char 10 ∷ second.pieces));
-      plain_is = ap (λ x. x ++ 10 ∷ pb) first.plain_is ∙ ap (λ y. flat_map plain_piece first.pieces ++ 10 ∷ y) second.plain_is
-          ∙ sym (flat_map-append plain_piece first.pieces (Char 10 ∷ second.pieces));
-      links_are = ap (λ x. x ++ lb) first.links_are ∙ ap (λ y. flat_map piece_link first.pieces ++ y) second.links_are
-          ∙ sym (flat_map-append piece_link first.pieces (Char 10 ∷ second.pieces));
+      text_is = grind (arith, common_steps, fed, flat_map-append, first.text_is, first.pieces, second.text_is, second.pieces);
+      plain_is = grind (arith, common_steps, flat_map-append, first.plain_is, first.pieces, second.plain_is, second.pieces);
+      links_are = grind (arith, common_steps, flat_map-append, first.links_are, first.pieces, second.links_are, second.pieces);
       of_sheet = All-append (λ p. IsOfSheet sheet p) first.pieces (Char 10 ∷ second.pieces) first.of_sheet
           (All-cons (λ p. IsOfSheet sheet p) (Char 10) second.pieces tt second.of_sheet);
       ended = ended-append false first.pieces (Char 10 ∷ second.pieces) first.ended second.ended;

@@ -1,19 +1,19 @@
 -- A report whose titles and messages are wrapped: what it has in common with the one in whose place it is shown, and what follows of its texts.
 use Rattle.annotate_snippets.proofs.Common.{◌≡◌, ◌∙◌, ℕ, ◌+◌, ◌-◌, ◌≤◌, Bool, true, false, List, [], ◌∷◌, Option, None, Some}
-use Rattle.annotate_snippets.proofs.Common.{All, fold, if◌then◌else◌, max, ◌⊎◌, refl, sym, ap, ap₂, subst, arith, false≢true, All-weaker}
-use Rattle.annotate_snippets.proofs.Common.{cow_str_bytes, AllZip, Contains, flat_map, Global, CowStr, AllZip-weaker, ElementFits, GroupFits, ReportFits}
-use Rattle.annotate_snippets.proofs.Common.{TitleFits, heading_of_message, heading_of_title, SameOption, trusted_of_element, trusted_of_title, Level, Element}
-use Rattle.annotate_snippets.proofs.Common.{Message, Cause, Suggestion, Origin, Padding, Group, Id, Title, message-within, title-within, wrapped-chars}
-use Rattle.annotate_snippets.proofs.Common.{wrapped-laws, IsGroupMasked, IsElementAsSet, IsGroupAsSet, IsTitleAsSet, IsElementWrapped, IsGroupWrapped}
-use Rattle.annotate_snippets.proofs.Common.{IsTextWrapped, IsTitleWrapped, room_of_message, room_of_title, IsElementWrappable, letters_of, IsGroupTaken, Stays}
-use Rattle.annotate_snippets.proofs.Common.{IsElementWithContext, IsGroupWithContext, AreRowsWithin, AreWithin, IsRewrapped, lines_in, width_of}
-use Rattle.annotate_snippets.proofs.Common.{heading_label_text, label_width, heading_texts, id_links, MessageContext, IsRemade, IsStep, adds_context, wraps}
-use Rattle.annotate_snippets.proofs.Common.{is_drawn, element_faults, gutter_of_report, width_wanted, HasOneLineTexts, AreRewrapped, IsElementRewrapped}
-use Rattle.annotate_snippets.proofs.Common.{IsGroupRewrapped, IsTextRewrapped, IsTitleRewrapped, Renderer, Form}
+use Rattle.annotate_snippets.proofs.Common.{All, fold, if◌then◌else◌, max, refl, sym, ap, ap₂, subst, arith, false≢true, All-weaker, cow_str_bytes}
+use Rattle.annotate_snippets.proofs.Common.{AllZip, flat_map, Global, CowStr, AllZip-weaker, ReportFits, TitleFits, heading_of_message, heading_of_title}
+use Rattle.annotate_snippets.proofs.Common.{SameOption, trusted_of_element, trusted_of_title, Level, Element, Message, Cause, Suggestion, Origin, Padding}
+use Rattle.annotate_snippets.proofs.Common.{Group, Id, Title, message-within, title-within, wrapped-chars, wrapped-laws, IsGroupMasked, IsElementAsSet}
+use Rattle.annotate_snippets.proofs.Common.{IsGroupAsSet, IsTitleAsSet, IsElementWrapped, IsGroupWrapped, IsTextWrapped, IsTitleWrapped, room_of_message}
+use Rattle.annotate_snippets.proofs.Common.{room_of_title, IsElementWrappable, letters_of, IsGroupTaken, Stays, IsElementWithContext, IsGroupWithContext}
+use Rattle.annotate_snippets.proofs.Common.{AreRowsWithin, AreWithin, IsRewrapped, lines_in, width_of, heading_label_text, label_width, heading_texts}
+use Rattle.annotate_snippets.proofs.Common.{MessageContext, IsRemade, IsStep, adds_context, wraps, is_drawn, element_faults, gutter_of_report, width_wanted}
+use Rattle.annotate_snippets.proofs.Common.{HasOneLineTexts, AreRewrapped, IsElementRewrapped, IsGroupRewrapped, IsTextRewrapped, IsTitleRewrapped, Renderer}
+use Rattle.annotate_snippets.proofs.Common.{Form}
 use Rattle.std.proofs.Common.{chars}
 use Rattle.snippet_model.specs.declared.snippet.Message as message
 use Rattle.snippet_titles.specs.declared.style.TitleStyle.TheVariants as style
-use Rattle.annotate_snippets.proofs.OneLineTexts.{IsOneLineElement, IsOneLineId, IsOneLineName}
+use Rattle.annotate_snippets.proofs.OneLineTexts.{IsOneLineElement, IsOneLineName}
 use Rattle.annotate_snippets.proofs.PairedLemmas.{compose, flat-zip}
 use Rattle.annotate_snippets.proofs.RemadeLemmas.{IsFaithful, IsTextOf, line-made, text-own}
 
@@ -34,9 +34,7 @@ rewrapped room trusted a b is =
     (wrapped-laws room trusted (chars (cow_str_bytes a)))
 
 IsTextOf-wrapped : (room : ℕ) (trusted : Bool) (a b : CowStr Global) → IsTextWrapped room trusted a b → IsTextOf (cow_str_bytes a) (cow_str_bytes b)
-IsTextOf-wrapped room trusted a b is =
-    text-own (cow_str_bytes a) (cow_str_bytes b) (subst (All (λ c. (c ≡ 10) ⊎ Contains (chars (cow_str_bytes a)) c)) (sym is)
-    (wrapped-chars room trusted (chars (cow_str_bytes a))))
+IsTextOf-wrapped room trusted a b is = grind (arith, text-own, wrapped-chars)
 
 -- what stands before a text, by its level and its id
 abbrev label_of : Level → Option Id → List ℕ
@@ -89,13 +87,7 @@ module _ (term_width gutter : ℕ) where
   wrapped-drawn a b is = absurd is
 
   pub wrap-faithful : IsFaithful (IsTitleWrapped term_width) Wraps
-  wrap-faithful = record {
-    faults = wrapped-faults;
-    links = λ a b is. ap (id_links true) is.1;
-    trusted_title = trusted-title;
-    trusted = wrapped-trusted;
-    drawn = wrapped-drawn;
-  }
+  wrap-faithful = grind (arith, wrapped-faults, trusted-title, wrapped-trusted, wrapped-drawn)
 
   -- ---- the gutter
 
@@ -127,9 +119,7 @@ module _ (term_width gutter : ℕ) where
 
   -- labels, paths, ids and names of levels hold no line feed where they held none
   pub wrapped-line : (groups shown : List Group) → AllZip GroupWraps groups shown → HasOneLineTexts groups → HasOneLineTexts shown
-  wrapped-line groups shown pairs plain =
-      line-made (IsTitleWrapped term_width) Wraps
-      (λ a b is line. (subst IsOneLineName (sym is.0) line.0, subst IsOneLineId (sym is.1) line.1)) element-line groups shown pairs plain
+  wrapped-line groups shown pairs plain = grind (arith, line-made, element-line)
 
   -- ---- what follows of the texts
 
@@ -191,9 +181,7 @@ module _ (term_width gutter : ℕ) where
 
 -- a report all texts of which fit can be wrapped, beside a gutter that is no wider than one can be
 pub groups-wrappable : (gutter : ℕ) (groups : List Group) → ReportFits groups → gutter ≤ 20 → All (IsGroupTaken TitleFits (IsElementWrappable gutter)) groups
-groups-wrappable gutter groups fits small =
-    All-weaker GroupFits (IsGroupTaken TitleFits (IsElementWrappable gutter))
-    (λ (g : Group) fit. (fit.0, All-weaker ElementFits (IsElementWrappable gutter) (λ e own. (own, small)) g.elements.items fit.1)) groups fits
+groups-wrappable gutter groups fits small = grind (arith, All-weaker)
 
 -- ---- the steps before
 
@@ -246,13 +234,7 @@ module _ (term_width gutter : ℕ) where
 
   around-same : (adds : Bool) (before after : ℕ) (fed around shown : List Group) → IsStep adds (IsGroupWithContext before after) fed around
       → AllZip (IsGroupRewrapped term_width gutter) around shown → AllZip (IsGroupRewrapped term_width gutter) fed shown
-  around-same true before after fed around shown first second =
-      compose (IsGroupWithContext before after) (IsGroupRewrapped term_width gutter) (IsGroupRewrapped term_width gutter)
-      (λ a b c one two. (
-        title-around a.title b.title c.title one.1 two.0,
-        compose (IsElementWithContext before after) (IsElementRewrapped term_width gutter) (IsElementRewrapped term_width gutter)
-            (element-around before after) a.elements.items b.elements.items c.elements.items one.2 two.1,
-      )) fed around shown first second
+  around-same true before after fed around shown first second = grind (arith, compose, element-around)
   around-same false before after fed around shown first second =
       subst (λ (gs : List Group). AllZip (IsGroupRewrapped term_width gutter) gs shown) first second
 

@@ -1,4 +1,5 @@
 -- What a writer holds once a report was to be written to it, a group at a time.
+use Rattle.std.proofs.lemmas.Grind.{common_steps}
 use Rattle.annotate_snippets.proofs.Common.{◌≡◌, ◌⊎◌, ℕ, suc, ◌+◌, ◌<◌, ◌≤◌, ◌==◌, Bool, true, false, List, [], ◌∷◌}
 use Rattle.annotate_snippets.proofs.Common.{◌++◌, Option, refl, alloc_error, sym, ap, ◌∙◌, subst, inl, inr, arith, length, take, cond, Appends}
 use Rattle.annotate_snippets.proofs.Common.{AllZip, flat_map, join_with_byte, IfErr, OnOk, Appends-nil, Appends-trans, take-append-add, take-append_seam}
@@ -36,9 +37,7 @@ joined (x ∷ z ∷ xs) (y ∷ ys) =
 after_some : {X Y : Type 0} (xs : List X) (ys : List Y) (text : List ℕ) → 0 < length xs → 0 < length ys → 0 < length (after xs ys text)
 after_some [] ys text some more = absurd (omega (arith, some))
 after_some (x ∷ xs) [] text some more = absurd (omega (arith, more))
-after_some (x ∷ xs) (y ∷ ys) text some more =
-    let longer : 0 < length (10 ∷ text) = omega arith in
-    longer
+after_some (x ∷ xs) (y ∷ ys) text some more = grind arith
 
 -- where a group stands before, none is the first
 not_first : (n : ℕ) → (suc n == 0) ≡ false
@@ -59,11 +58,7 @@ module _ (sheet : Stylesheet) where
       let below = texts_of_page sheet further in
       record {
         whole = join_with_byte 10 (before.parts ++ below.0);
-        prints = record {
-          parts = before.parts ++ below.0;
-          printed = zip_append (PrintsPart sheet) page further before.parts below.0 before.printed below.1;
-          joined = refl;
-        };
+        prints = grind (arith, common_steps, below, zip_append, joined, before.parts, below.0, before.printed, below.1);
         rest = after before.parts below.0 (join_with_byte 10 below.0);
         is = joined before.parts below.0 ∙ ap (λ t. t ++ after before.parts below.0 (join_with_byte 10 below.0)) (sym before.joined);
         more = λ some follow. after_some before.parts below.0 (join_with_byte 10 below.0)
@@ -294,8 +289,7 @@ module _ {A W : Type 0} (contents : W → Option (List ℕ)) (r : Renderer) (gro
         whole = tt;
         part = elim (stopped_at contents r.stylesheet old at.before at.after at.group at.mid new under at.taken stops.part) [
           | inl same ↦ inl same
-          | inr part ↦ inr (part_shown r groups (held contents old) (held contents new)
-              (subst (λ (gs : Page). WritesPart (PrintsPage r.stylesheet gs) (held contents old) (held contents new)) (sym at.page_is) part))
+          | inr part ↦ grind (arith, common_steps, held, part, at.page_is)
         ];
       }
 

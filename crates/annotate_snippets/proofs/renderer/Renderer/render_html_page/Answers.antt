@@ -1,6 +1,5 @@
-use Rattle.annotate_snippets.proofs.Common.{◌∙◌, ap, ap₂, sym, subst, List, ℕ, string_bytes, cow_slice_items, Group}
-use Rattle.annotate_snippets.proofs.Common.{article, IsAsSet, ShowsReport, HasHtmlLaws, IsReportHtml, HasLaws, title_above, unwrapped}
-use Rattle.annotate_snippets.proofs.Common.{Renderer, Graphic}
+use Rattle.annotate_snippets.proofs.Common.{◌∙◌, ap, ap₂, sym, subst, List, ℕ, string_bytes, cow_slice_items, Group, article, IsAsSet, ShowsReport}
+use Rattle.annotate_snippets.proofs.Common.{HasHtmlLaws, IsReportHtml, HasLaws, title_above, unwrapped, Renderer, Graphic}
 use Rattle.annotate_snippets.proofs.ArticleLemmas.{escaped-says, escaped-untagged, heading-tags}
 use Rattle.annotate_snippets.proofs.renderer.Renderer.render_html_page.Goals as goal
 

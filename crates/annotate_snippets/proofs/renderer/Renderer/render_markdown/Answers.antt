@@ -1,3 +1,5 @@
+use Rattle.std.proofs.Common.{arith}
+use Rattle.std.proofs.lemmas.Grind.{common_steps}
 use Rattle.annotate_snippets.proofs.Common.{◌≡◌, ◌∙◌, List, ap, ap₂, string_bytes, subst, sym, cow_slice_items, Group, is_plain_sheet, IsAsSet}
 use Rattle.annotate_snippets.proofs.Common.{form_of, IsTextUnder, markdown, title_above, unlinked, unwrapped, Renderer, Form}
 use Rattle.annotate_snippets.proofs.MarkdownLemmas.{markdown-laws, plain-under}
@@ -16,8 +18,7 @@ returns-clause-markdown c =
     record {
       shown = shown;
       whole = whole;
-      set = subst (λ (gs : List Group). IsAsSet (form_of r) r c.args.groups.now gs) (sym c.deref.ensures.value)
-          (subst (λ (f : Form). IsAsSet f r c.args.groups.now (cow_slice_items c.in_ok-shown.shown)) form c.in_ok-shown.ensures.shown.set);
+      set = grind (arith, common_steps, r, form, c.args.groups.now, c.deref.ensures.value, c.in_ok-shown.shown, c.in_ok-shown.ensures.shown.set);
       unbroken = subst (λ (gs : List Group). IsAsSet (form_of r) (unwrapped r) c.args.groups.now gs) (sym c.deref-2.ensures.value)
           (subst (λ (f : Form). IsAsSet f (unwrapped r) c.args.groups.now (cow_slice_items c.in_ok-whole.whole)) form
           (subst (λ (one : Renderer). IsAsSet c.form_of-form.result one c.args.groups.now (cow_slice_items c.in_ok-whole.whole))
@@ -35,8 +36,7 @@ returns-clause-laws c =
     let form : c.form_of-form.result ≡ form_of r = c.form_of-form.ensures.value in
     record {
       shown = shown;
-      set = subst (λ (gs : List Group). IsAsSet (form_of r) r c.args.groups.now gs) (sym c.deref.ensures.value)
-          (subst (λ (f : Form). IsAsSet f r c.args.groups.now (cow_slice_items c.in_ok-shown.shown)) form c.in_ok-shown.ensures.shown.set);
+      set = grind (arith, common_steps, r, form, c.args.groups.now, c.deref.ensures.value, c.in_ok-shown.shown, c.in_ok-shown.ensures.shown.set);
       laws = markdown-laws r shown c.plain.result (string_bytes c.in_ok-page.page) (string_bytes c.in_ok-text.text)
           (subst (λ (f : Form). IsTextUnder f (unlinked r) shown c.plain.result (string_bytes c.in_ok-page.page)) form
           (subst (λ (one : Renderer). IsTextUnder c.form_of-form.result one shown c.plain.result (string_bytes c.in_ok-page.page))

@@ -1,12 +1,11 @@
-use Rattle.annotate_snippets.proofs.Common.{◌≡◌, All, List, None, map, rules, string_bytes, subst, sym, Group, IsAsSet, missing_title, IsGroupDrawable}
+use Rattle.std.proofs.Common.{arith}
+use Rattle.annotate_snippets.proofs.Common.{List, map, rules, string_bytes, subst, sym, Group, IsAsSet}
 use Rattle.annotate_snippets.proofs.AsSetLemmas.{ShowsAll, shows-all}
 use Rattle.annotate_snippets.proofs.renderer.Renderer.render_sheets.Goals as goal
 
 pub texts_in_form-requires : goal.texts_in_form-requires
-texts_in_form-requires c = record {
-  drawable = subst (All IsGroupDrawable) (sym c.deref.ensures.value) c.in_ok-shown.ensures.shown.drawable;
-  titled = subst (λ (gs : List Group). missing_title c.form_of-form.result gs ≡ None) (sym c.deref.ensures.value) c.in_ok-shown.ensures.shown.titled;
-}
+texts_in_form-requires c =
+    grind (arith, c.deref.ensures.value, c.in_ok-shown.ensures.shown.drawable, c.form_of-form.result, c.in_ok-shown.ensures.shown.titled)
 
 pub returns : goal.returns
 returns c =

@@ -1,7 +1,7 @@
-use Rattle.annotate_snippets.proofs.Common.{◌≡◌, ◌∙◌, None, sym, first_fault, missing_title, refusal_in}
+use Rattle.std.proofs.Common.{arith}
+use Rattle.annotate_snippets.proofs.Common.{◌≡◌, ◌∙◌, None, sym, refusal_in}
 use Rattle.annotate_snippets.proofs.AsSetLemmas.{drawable-set}
 use Rattle.annotate_snippets.proofs.AsSetSteps.{set-remade, unset}
-use Rattle.annotate_snippets.proofs.FaultLemmas.{unrefused}
 use Rattle.annotate_snippets.proofs.renderer.Renderer.shown.Goals as goal
 
 pub returns-then-shows_as_given-clause-shown : goal.returns-then-shows_as_given-clause-shown
@@ -11,9 +11,7 @@ returns-then-shows_as_given-clause-shown c =
     (unset c.args.form c.args.self.now c.args.groups.now (sym c.shows_as_given.ensures.value ∙ c.if-shows_as_given.true)) c.requires.fits none
 
 pub remade-requires : goal.remade-requires
-remade-requires c =
-    let none : refusal_in c.args.form c.args.groups.now ≡ None = sym c.first_refusal.ensures.value ∙ c.in_default.is in
-    record { fits = c.requires.fits; faultless = unrefused (missing_title c.args.form c.args.groups.now) (first_fault c.args.groups.now) none }
+remade-requires c = grind (arith, c.args.form, c.args.groups.now, c.first_refusal.ensures.value, c.in_default.is, c.requires.fits)
 
 pub returns-clause-shown : goal.returns-clause-shown
 returns-clause-shown c =

@@ -1,13 +1,12 @@
-use Rattle.annotate_snippets.proofs.Common.{◌≡◌, ◌∙◌, ℕ, All, Bool, List, ap, subst, sym, IfOk-weaker, AllZip, Group, IsGroupWrapped, IsStep}
-use Rattle.annotate_snippets.proofs.Common.{wraps, gutter_of_report, IsGroupDrawable}
+use Rattle.std.proofs.Common.{arith}
+use Rattle.annotate_snippets.proofs.Common.{◌≡◌, ◌∙◌, ℕ, Bool, List, ap, subst, sym, IfOk-weaker, AllZip, Group, IsGroupWrapped, IsStep, wraps}
+use Rattle.annotate_snippets.proofs.Common.{gutter_of_report}
 use Rattle.annotate_snippets.proofs.FaultLemmas.{groups-drawable}
 use Rattle.annotate_snippets.proofs.WrapShown.{groups-wrappable}
 use Rattle.annotate_snippets.proofs.renderer.Renderer.with_wrapped.Goals as goal
 
 pub gutter_for-requires : goal.gutter_for-requires
-gutter_for-requires c = record {
-  drawable = subst (All IsGroupDrawable) (sym c.deref.ensures.value) (groups-drawable c.args.groups.items c.requires.fits c.requires.faultless);
-}
+gutter_for-requires c = grind (arith, groups-drawable, c.deref.ensures.value, c.args.groups.items, c.requires.fits, c.requires.faultless)
 
 pub groups_remade-requires : goal.groups_remade-requires
 groups_remade-requires c =

@@ -1,14 +1,11 @@
-use Rattle.annotate_snippets.proofs.Common.{◌≡◌, All, List, None, rules, subst, sym, on_err_weaker, on_ok_weaker, Group, IsAsSet, missing_title, held}
-use Rattle.annotate_snippets.proofs.Common.{IsGroupDrawable}
+use Rattle.std.proofs.Common.{arith}
+use Rattle.annotate_snippets.proofs.Common.{List, rules, subst, sym, on_err_weaker, on_ok_weaker, Group, IsAsSet, held}
 use Rattle.annotate_snippets.proofs.AsSetLemmas.{written-laws, written-part, written-shows}
 use Rattle.annotate_snippets.proofs.renderer.Renderer.write_report.Goals as goal
 
 pub write_form-requires : goal.write_form-requires
-write_form-requires g c = record {
-  drawable = subst (All IsGroupDrawable) (sym c.deref.ensures.value) c.in_ok-shown.ensures.shown.drawable;
-  titled = subst (λ (gs : List Group). missing_title c.form_of-form.result gs ≡ None) (sym c.deref.ensures.value) c.in_ok-shown.ensures.shown.titled;
-  sheet = c.requires.sheet;
-}
+write_form-requires g c =
+    grind (arith, c.deref.ensures.value, c.in_ok-shown.ensures.shown.drawable, c.form_of-form.result, c.in_ok-shown.ensures.shown.titled, c.requires.sheet)
 
 pub returns : goal.returns
 returns g c =

@@ -1,6 +1,5 @@
-use Rattle.annotate_snippets.proofs.Common.{◌∙◌, ℕ, List, map, subst, sym, ap, ap₂, string_bytes, on_ok_weaker, cow_str_bytes}
-use Rattle.annotate_snippets.proofs.Common.{option_copied, option_map, AddsHtml, HtmlPiece, norm, closing_bracket_of, opening_bracket_of, address_of}
-use Rattle.annotate_snippets.proofs.Common.{linked_html}
+use Rattle.annotate_snippets.proofs.Common.{◌∙◌, ℕ, List, map, subst, sym, ap, ap₂, string_bytes, on_ok_weaker, cow_str_bytes, option_copied}
+use Rattle.annotate_snippets.proofs.Common.{option_map, AddsHtml, HtmlPiece, norm, closing_bracket_of, opening_bracket_of, address_of, linked_html}
 use Rattle.std.proofs.Common.{chars}
 use Rattle.snippet_grid.specs.Html.{Text}
 use Rattle.annotate_snippets.proofs.ArticleLemmas.{id-some, three-added}

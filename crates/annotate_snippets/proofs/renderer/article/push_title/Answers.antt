@@ -1,5 +1,5 @@
-use Rattle.annotate_snippets.proofs.Common.{◌≡◌, ◌∙◌, ℕ, List, map, subst, ap, ap₂, string_bytes, on_ok_weaker, cow_str_bytes}
-use Rattle.annotate_snippets.proofs.Common.{option_copied, AddsHtml, HtmlPiece, is_hidden, name_of, norm, colon_of, id_html}
+use Rattle.annotate_snippets.proofs.Common.{◌≡◌, ◌∙◌, ℕ, List, map, subst, ap, ap₂, string_bytes, on_ok_weaker, cow_str_bytes, option_copied}
+use Rattle.annotate_snippets.proofs.Common.{AddsHtml, HtmlPiece, is_hidden, name_of, norm, colon_of, id_html}
 use Rattle.std.proofs.Common.{chars}
 use Rattle.snippet_grid.specs.Html.{Text}
 use Rattle.annotate_snippets.proofs.ArticleLemmas.{four-added}

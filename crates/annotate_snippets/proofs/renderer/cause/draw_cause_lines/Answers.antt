@@ -1,7 +1,8 @@
+use Rattle.std.proofs.Common.{arith}
 use Rattle.annotate_snippets.proofs.Common.{◌≡◌, ◌∙◌, ◌+◌, ◌-◌, ◌<◌, ◌≤◌, ◌^◌, ◌++◌, IfSome, [], All, Bool, List, ap}
 use Rattle.annotate_snippets.proofs.Common.{length, map, refl, subst, sym, on_ok_weaker, cow_str_bytes, Annotation, Source, shown_number, IsSpan, LineNumbers}
-use Rattle.annotate_snippets.proofs.Common.{AnnotatedLineInfo, infos_of, kept_of, infos_all, annotated_lines, kept_line, seen_kept, kept_lines, shown_lines}
-use Rattle.annotate_snippets.proofs.Common.{margin_of, LineAnnotation, Layout, IsDrawableLine, LineView, margin_in, rows_of_lines, cells_of, infos_rows, Cell}
+use Rattle.annotate_snippets.proofs.Common.{AnnotatedLineInfo, infos_of, kept_of, infos_all, annotated_lines, kept_line, seen_kept, shown_lines, margin_of}
+use Rattle.annotate_snippets.proofs.Common.{LineAnnotation, Layout, IsDrawableLine, LineView, margin_in, rows_of_lines, cells_of, infos_rows, Cell}
 use Rattle.annotate_snippets.proofs.Common.{numbered_source, IsCausePrepared, PreparedCause}
 use Rattle.annotate_snippets.proofs.GutterLemmas.{numbers_fit}
 use Rattle.annotate_snippets.proofs.LineValue.{lines_value}
@@ -48,10 +49,7 @@ LabelsFit info = All (λ (e : LineAnnotation). IfSome e.label (λ t. length t < 
 
 pub with_lines_between-requires-clause-texts : goal.with_lines_between-requires-clause-texts
 with_lines_between-requires-clause-texts c =
-    let s = c.args.cause.snippet.now in
-    let drawable = c.requires.prepared.drawable in
-    lines_texts (numbered_source s) s.markers.items drawable.spans (kept_lines s.fold
-    (cow_str_bytes s.source.text) s.markers.items) c.args.cause.kept.items c.requires.prepared.kept_are drawable.source
+    grind (arith, lines_texts, c.args.cause.snippet.now, c.requires.prepared.drawable, c.args.cause.kept.items, c.requires.prepared.kept_are)
 
 pub margin_for-margin-requires : goal.margin_for-margin-requires
 margin_for-margin-requires c =

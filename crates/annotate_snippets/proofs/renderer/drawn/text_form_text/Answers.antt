@@ -1,5 +1,6 @@
-use Rattle.annotate_snippets.proofs.Common.{List, string_bytes, ◌≡◌, IfOk-weaker, IsWoven, Group, Stylesheet, form_bytes, form_text, form_links}
-use Rattle.annotate_snippets.proofs.Common.{IsTextUnder, Text}
+use Rattle.std.proofs.Common.{arith}
+use Rattle.std.proofs.lemmas.Grind.{common_steps}
+use Rattle.annotate_snippets.proofs.Common.{List, string_bytes, ◌≡◌, IsWoven, Group, Stylesheet, form_bytes, form_text, form_links}
 use Rattle.annotate_snippets.proofs.ReportLemmas.{IfOk-both}
 use Rattle.annotate_snippets.proofs.TextShown.{form-text, text-under}
 use Rattle.annotate_snippets.proofs.renderer.drawn.text_form_text.Goals as goal
@@ -13,9 +14,5 @@ returns c =
     let both = IfOk-both (λ text. string_bytes text ≡ form_bytes sheet form) (λ text. IsWoven sheet (string_bytes text) (form_text form) (form_links form))
     c.render.result c.render.ensures.text c.render.ensures.woven in
     record {
-      text = IfOk-weaker c.render.result
-          (λ text. (string_bytes text ≡ form_bytes sheet form) × IsWoven sheet (string_bytes text) (form_text form) (form_links form))
-          (λ text. IsTextUnder Text r groups sheet (string_bytes text))
-          (λ text is. text-under r groups sheet (string_bytes text) (form-text r groups form sheet (string_bytes text) c.in_ok-form.ensures.form is.0 is.1))
-          both;
+      text = grind (arith, common_steps, sheet, form, r, groups, text-under, form-text, both, c.render.result, c.in_ok-form.ensures.form);
     }

@@ -1,3 +1,5 @@
+use Rattle.std.proofs.Common.{arith}
+use Rattle.std.proofs.lemmas.Grind.{common_steps}
 use Rattle.annotate_snippets.proofs.Common.{◌≡◌, ◌∙◌, List, ap, map, sym, option_copied, Element, next_of, element_of, title_part}
 use Rattle.annotate_snippets.proofs.ElementRows.{group_drawn, title_drawn}
 use Rattle.annotate_snippets.proofs.renderer.graphic.draw_group.Goals.{in-Some+in_ok-draw_title, in_default}
@@ -11,8 +13,7 @@ returns c =
     let es : List Element = map element_of c.args.group.elements.items in
     let titled : c.match-group.buffer ≡ title_part r around.layout around.place (next_of es) g.title = elim c.match-group.branch [
       | in-Some+in_ok-draw_title w ↦
-          w.buffer-is ∙ title_drawn r around.layout around.place _ (next_of es) w.in-Some.title g.title c.args.empty _ c.requires.empty
-          (w.next_of-next.ensures.value ∙ ap (λ ps. next_of (map element_of ps)) w.deref.ensures.value) w.in-Some.is w.in_ok-draw_title.ensures.rows
+          grind (arith, common_steps, title_drawn, r, around, next_of, es, g, map, around.layout, around.place, g.title, c.args.empty, c.requires.empty)
       | in_default w ↦ w.buffer-is ∙ c.requires.empty ∙ ap (title_part r around.layout around.place (next_of es)) (sym w.in_default.is)
     ] in
     record {

@@ -1,6 +1,6 @@
 use Rattle.annotate_snippets.proofs.Common.{◌≡◌, ◌∙◌, ◌<◌, [], ◌∷◌, alloc_error, ap, arith, drop, inr, length, map, refl, subst, sym}
-use Rattle.annotate_snippets.proofs.Common.{take, true, take_all, get_or, enumerate_from, option_copied, graphic_form, gutter_of_report, Stops, Takes}
-use Rattle.annotate_snippets.proofs.Common.{All, suc, zero, IsGroupPrepared, PreparedGroup}
+use Rattle.annotate_snippets.proofs.Common.{take, true, take_all, get_or, enumerate_from, option_copied, graphic_form, gutter_of_report, Stops, Takes, All, suc}
+use Rattle.annotate_snippets.proofs.Common.{zero, IsGroupPrepared, PreparedGroup}
 use Rattle.annotate_snippets.proofs.AreTexts.{AreTexts, prepared_texts}
 use Rattle.annotate_snippets.proofs.GridRows.{page_count, room_at, stands_at, taken_here, turn_group}
 use Rattle.annotate_snippets.proofs.PageWords.{page_at}

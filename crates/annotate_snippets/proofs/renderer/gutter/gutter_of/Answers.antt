@@ -1,3 +1,5 @@
+use Rattle.std.proofs.Common.{arith}
+use Rattle.std.proofs.lemmas.Grind.{common_steps}
 use Rattle.annotate_snippets.proofs.Common.{◌≡◌, ◌∙◌, List, ap, cond, fold, map, subst, sym, flat_map, take_all, All-same, flat_map-map, Group}
 use Rattle.annotate_snippets.proofs.Common.{width_wanted, IsElementPrepared, IsGroupPrepared, PreparedGroup}
 use Rattle.annotate_snippets.proofs.WidestLemmas.{elements_in, greater, widest-more_groups, widest-prepared, width-undrawn}
@@ -29,8 +31,7 @@ pub returns-clause-value : goal.returns-clause-value
 returns-clause-value c =
     let ps = c.args.groups.now in
     let gs : List Group = map (λ (p : PreparedGroup). p.group.now) ps in
-    let all : c.loop-group.gutter ≡ fold (greater width_wanted) 0 (flat_map elements_in ps) = c.loop-group.invariant.value
-    ∙ ap (λ (qs : List PreparedGroup). fold (greater width_wanted) 0 (flat_map elements_in qs))
-    (take_all c.loop-group.group-index ps c.loop-group-test.false) in
+    let all : c.loop-group.gutter ≡ fold (greater width_wanted) 0 (flat_map elements_in ps) =
+    grind (arith, common_steps, fold, greater, take_all, ps, c.loop-group.invariant.value, c.loop-group.group-index, c.loop-group-test.false) in
     all ∙ sym (ap (λ b. cond b 2 (fold (greater width_wanted) 0 (flat_map (λ (g : Group). g.elements.items) gs))) c.if-renderer.false
     ∙ ap (fold (greater width_wanted) 0) (flat_map-map (λ (g : Group). g.elements.items) (λ (p : PreparedGroup). p.group.now) ps))

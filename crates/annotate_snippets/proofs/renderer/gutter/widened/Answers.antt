@@ -1,13 +1,9 @@
-use Rattle.annotate_snippets.proofs.Common.{◌∙◌, List, ap, arith, fold, map, subst, sym, take_all, width_wanted, IsElementPrepared, element_of}
-use Rattle.annotate_snippets.proofs.Common.{PreparedElement}
+use Rattle.annotate_snippets.proofs.Common.{◌∙◌, List, ap, arith, fold, map, take_all, width_wanted, element_of, PreparedElement}
 use Rattle.annotate_snippets.proofs.WidestLemmas.{greater, widest-more}
 use Rattle.annotate_snippets.proofs.renderer.gutter.widened.Goals as goal
 
 pub wanted-requires : goal.wanted-requires
-wanted-requires c = record {
-  prepared = subst IsElementPrepared (sym c.element-item.is)
-      (c.requires.prepared c.loop-element.element-index c.element-item.result c.loop-element-test.true);
-}
+wanted-requires c = grind (arith, c.element-item.is, c.requires.prepared, c.loop-element.element-index, c.element-item.result, c.loop-element-test.true)
 
 pub loop-element-preserved : goal.loop-element-preserved
 loop-element-preserved c =

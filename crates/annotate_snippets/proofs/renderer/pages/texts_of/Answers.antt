@@ -1,11 +1,9 @@
-use Rattle.annotate_snippets.proofs.Common.{◌∙◌, [], ◌∷◌, ◌++◌, ap, map, sym, YieldsList-from_vec, YieldsList-end, map-append, map-id}
-use Rattle.annotate_snippets.proofs.Common.{SheetPage}
+use Rattle.std.proofs.Common.{arith}
+use Rattle.annotate_snippets.proofs.Common.{◌∙◌, ap, map, sym, YieldsList-from_vec, YieldsList-end, map-append, map-id, SheetPage}
 use Rattle.annotate_snippets.proofs.renderer.pages.texts_of.Goals as goal
 
 pub loop-page-preserved : goal.loop-page-preserved
-loop-page-preserved c =
-    c.in_ok-push.ensures.items ∙ ap (λ texts. texts ++ c.in-Some.page.text ∷ []) c.loop-page.invariant
-    ∙ sym (map-append (λ (page : SheetPage). page.text) c.loop-page.yielded (c.in-Some.page ∷ []))
+loop-page-preserved c = grind (arith, map-append, c.in_ok-push.ensures.items, c.in-Some.page.text, c.loop-page.invariant, c.loop-page.yielded, c.in-Some.page)
 
 pub returns : goal.returns
 returns c =

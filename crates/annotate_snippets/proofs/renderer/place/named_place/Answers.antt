@@ -1,5 +1,7 @@
-use Rattle.annotate_snippets.proofs.Common.{◌≡◌, ◌∙◌, ◌+◌, Some, ap, sym, option_map, Loc, start_location, locations_of-start, OriginLocation}
-use Rattle.annotate_snippets.proofs.Common.{place_at, place_found}
+use Rattle.std.proofs.Common.{arith}
+use Rattle.std.proofs.lemmas.Grind.{common_steps}
+use Rattle.annotate_snippets.proofs.Common.{◌≡◌, ◌∙◌, ◌+◌, Some, ap, Loc, start_location, locations_of-start, OriginLocation, place_at}
+use Rattle.annotate_snippets.proofs.Common.{place_found}
 use Rattle.annotate_snippets.proofs.renderer.place.named_place.Goals as goal
 
 -- a place as an origin names it
@@ -13,6 +15,5 @@ returns-in-Some c =
     let at : c.span_to_locations.result.0 ≡ start_location s c.in-Some.start = ap (λ l. l.0) c.span_to_locations.ensures.value
     ∙ locations_of-start s c.in-Some.start c.in-Some.start in
     record {
-      value = λ fold. ap named at ∙ sym (ap place_found (c.naming_start.ensures.named fold s c.requires.utf8 c.requires.spans
-          ∙ ap (option_map (place_at s)) c.in-Some.is));
+      value = grind (arith, common_steps, named, at, place_found, s, place_at, c.naming_start.ensures.named, c.requires.utf8, c.requires.spans, c.in-Some.is);
     }

@@ -1,19 +1,13 @@
-use Rattle.annotate_snippets.proofs.Common.{◌∙◌, [], ap, map, subst, sym, filter, take_all, All-nil, All-same, is_drawn, IsElementDrawable}
-use Rattle.annotate_snippets.proofs.Common.{IsElementPrepared, element_of}
+use Rattle.std.proofs.Common.{arith}
+use Rattle.annotate_snippets.proofs.Common.{◌∙◌, ap, filter, take_all, All-nil, All-same, is_drawn}
 use Rattle.annotate_snippets.proofs.PreparedLemmas.{AreDrawnPrepared-more}
 use Rattle.annotate_snippets.proofs.renderer.preprocess.prepare_elements.Goals as goal
 
 pub loop-element-init : goal.loop-element-init
-loop-element-init c =
-    let none = c.in_ok-prepared.ensures.items in
-    record { elements = ap (map element_of) none; prepared = All-same IsElementPrepared c.in_ok-prepared.prepared.items [] none (All-nil IsElementPrepared) }
+loop-element-init c = grind (arith, All-same, All-nil, c.in_ok-prepared.ensures.items, c.in_ok-prepared.prepared.items)
 
 pub add_prepared-requires : goal.add_prepared-requires
-add_prepared-requires c =
-    record {
-      drawable = subst IsElementDrawable (sym c.element-item.is)
-          (c.requires.drawable c.loop-element.element-index c.element-item.result c.loop-element-test.true);
-    }
+add_prepared-requires c = grind (arith, c.element-item.is, c.requires.drawable, c.loop-element.element-index, c.element-item.result, c.loop-element-test.true)
 
 pub loop-element-preserved : goal.loop-element-preserved
 loop-element-preserved c =

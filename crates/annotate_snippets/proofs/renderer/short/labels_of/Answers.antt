@@ -1,5 +1,5 @@
+use Rattle.std.proofs.Common.{arith, chars}
 use Rattle.annotate_snippets.proofs.Common.{◌∙◌, ap, take, take_all, chars-nil, joined_labels, primary_labels}
-use Rattle.std.proofs.Common.{chars}
 use Rattle.annotate_snippets.proofs.ShortLemmas.{primary_labels-more}
 use Rattle.annotate_snippets.proofs.renderer.short.labels_of.Goals as goal
 
@@ -14,8 +14,4 @@ loop-annotation-preserved c =
     ∙ ap joined_labels (primary_labels-more marks i c.annotation-item.result c.loop-annotation-test.true c.annotation-item.is)
 
 pub returns : goal.returns
-returns c =
-    record {
-      value = c.loop-annotation.invariant ∙ ap (λ marks. joined_labels (primary_labels marks))
-          (take_all c.loop-annotation.annotation-index c.args.annotations.now c.loop-annotation-test.false);
-    }
+returns c = grind (arith, take_all, c.loop-annotation.invariant, c.loop-annotation.annotation-index, c.args.annotations.now, c.loop-annotation-test.false)

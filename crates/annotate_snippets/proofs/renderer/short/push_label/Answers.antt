@@ -1,6 +1,7 @@
-use Rattle.annotate_snippets.proofs.Common.{◌≡◌, ◌∙◌, Bor, true, false, List, ℕ, [], ◌∷◌, ◌++◌, ◌==◌, ap, string_bytes, sym}
+use Rattle.std.proofs.Common.{arith, chars}
+use Rattle.std.proofs.lemmas.Grind.{common_steps}
+use Rattle.annotate_snippets.proofs.Common.{◌≡◌, ◌∙◌, true, false, List, ℕ, [], ◌∷◌, ◌++◌, ◌==◌, ap, string_bytes, sym}
 use Rattle.annotate_snippets.proofs.Common.{is_whitespace, cow_str_bytes, list_all, append-nil, IsUtf8-string_bytes, norm, joined_labels, primary_labels}
-use Rattle.std.proofs.Common.{chars}
 use Rattle.annotate_snippets.proofs.ShortLemmas.{joined_labels-added, lead, on_added, primary_labels-one}
 use Rattle.annotate_snippets.proofs.renderer.short.push_label.Goals as goal
 use Rattle.annotate_snippets.proofs.renderer.short.push_label.Goals.{then-is_empty, else-is_empty}
@@ -23,10 +24,7 @@ returns c =
     ∙ c.if-is_blank.false in
     let one : primary_labels (c.args.annotation.now ∷ []) ≡ label ∷ [] = primary_labels-one c.args.annotation.now c.in-Primary-Some.label label false
     c.in-Primary-Some.is-0 c.in-Primary-Some.is-1 is shown in
-    let led : c.if-is_empty.push_str.now ≡ lead c.is_empty.result = elim c.if-is_empty.branch [
-      | then-is_empty w ↦ ap (λ (b : Bor (List ℕ)). b.now) w.push_str-is ∙ ap lead (sym w.if-is_empty.true)
-      | else-is_empty w ↦ ap (λ (b : Bor (List ℕ)). b.now) w.push_str-is ∙ ap lead (sym w.if-is_empty.false)
-    ] in
+    let led : c.if-is_empty.push_str.now ≡ lead c.is_empty.result = grind (arith, common_steps, then-is_empty, lead, else-is_empty, c.if-is_empty.branch) in
     record {
       added = λ labels are. on_added c.push_str-2.result (string_bytes c.push_str-2.new.self)
           _ _ c.push_str-2.ensures.bytes

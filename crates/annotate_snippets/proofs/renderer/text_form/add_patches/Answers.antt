@@ -1,6 +1,5 @@
-use Rattle.annotate_snippets.proofs.Common.{◌≡◌, ◌++◌, IfSome, Option, refl, subst, sym, OnOk, Patch, Snippet, IsPrepared, PreparedSuggestion}
-use Rattle.annotate_snippets.proofs.Common.{suggestion_form}
-use Rattle.std.specs.Prelude.{IsNone}
+use Rattle.std.proofs.Common.{arith}
+use Rattle.annotate_snippets.proofs.Common.{◌≡◌, ◌++◌, IfSome, Option, subst, OnOk, Patch, Snippet, IsPrepared, PreparedSuggestion, suggestion_form}
 use Rattle.annotate_snippets.proofs.renderer.text_form.add_patches.Goals as goal
 
 pub add_suggestion-requires : goal.add_suggestion-requires
@@ -16,6 +15,4 @@ returns-in-Some c =
     }
 
 pub returns-in-None : goal.returns-in-None
-returns-in-None c =
-    let none = subst (λ (t : Option PreparedSuggestion). IsNone t) (sym c.in-None.is) refl in
-    record { added = absurd (c.requires.some (c.in_ok-suggestion.ensures.none.0 none)) }
+returns-in-None c = grind (arith, c.in-None.is, c.requires.some, c.in_ok-suggestion.ensures.none.0)

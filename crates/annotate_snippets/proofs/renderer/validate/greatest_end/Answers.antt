@@ -18,6 +18,4 @@ loop-patch-preserved c =
     (omega (arith, more, c.loop-patch.invariant.0, most.1, ap length c.as_str.ensures.value), omega (arith, most.0, most.1))
 
 pub returns : goal.returns
-returns c =
-    let all = ap added_lines (take_all c.loop-patch.patch-index c.args.patches.now (omega arith)) in
-    record { most = (omega (arith, all, c.loop-patch.invariant.0), c.loop-patch.invariant.1) }
+returns c = grind (arith, take_all, c.loop-patch.patch-index, c.args.patches.now, c.loop-patch.invariant.0, c.loop-patch.invariant.1)
