@@ -3,6 +3,7 @@
 #![tactic(auto)]
 
 pub mod drawn_label;
+mod labelled;
 pub mod positions;
 
 pub use drawn_label::DrawnLabel;

@@ -1,24 +1,22 @@
 //! Where the labels of a line stand: how far below the row of its marks each hangs.
-ghost use Rattle.std.specs.Prelude.{◌≡◌, ◌+◌, ◌-◌, ◌^◌, ◌<◌, ◌≤◌, ◌&&◌, ◌||◌, true, All, IfOk, IfSome, chars, drop};
+ghost use Rattle.std.specs.Prelude.{◌≡◌, ◌+◌, ◌-◌, ◌^◌, ◌<◌, ◌≤◌, ◌&&◌, ◌||◌, true, All, IfOk, IfSome, drop};
 ghost use Rattle.std.specs.Prelude.{length, slice_index_or};
 ghost use Rattle.std.specs.Prelude.{map, not, reverse, IsPermutation, OnOk};
 ghost use Rattle.snippet_lines.specs.OrderedBy.{ordered_by};
-ghost use Rattle.std.specs.List.{list_any, position, range_with_len};
+ghost use Rattle.std.specs.List.{list_any, position};
 ghost use Rattle.snippet_labels.specs.Positions as spec;
 ghost use Rattle.snippet_labels.specs.declared.positions.PlacedEntry.{PlacedEntry};
 ghost use Rattle.snippet_labels.specs.Placing as placing;
-ghost use Rattle.snippet_labels.specs.Placing.{ArePlaced, AsksBefore, BeginLeftOf, FitsLeftOf, HasItsBytes};
-ghost use Rattle.snippet_labels.specs.Placing.{HasItsLabel, IsFromRight, StandInRow};
+ghost use Rattle.snippet_labels.specs.Placing.{ArePlaced, AsksBefore, BeginLeftOf, FitsLeftOf};
+ghost use Rattle.snippet_labels.specs.Placing.{IsFromRight, StandInRow};
 ghost use Rattle.snippet_labels.specs.PlacedEntries.{shifted};
-ghost use Rattle.snippet_text.specs.Normalized.{normalized_chars};
 ghost use Rattle.snippet_parts.specs.Least.{greatest};
 ghost use Rattle.snippet_style.specs.Bounds.{HasNext, IsColumn, IsUsize};
 
 use crate::drawn_label::DrawnLabel;
+use crate::labelled::labelled_entries;
 use snippet_parts::{LineAnnotation, LineAnnotationType};
-use snippet_text::normalized;
 use std::alloc::{AllocError, Global};
-use std::borrow::CowStr;
 use std::cmp::Reverse;
 
 /// How many columns stand free after a label, before the next one in its row.
@@ -103,41 +101,6 @@ pub fn placed_entries<'a>(
     Ok(placed)
 }
 
-/// The entries from the last that is given to the first, each with its label normalised. They are placed as those are
-/// that need one row: each at position 0, with all that were given before it looked at.
-///
-/// # Errors
-///
-/// There is no memory for the list or a label.
-fn labelled_entries<'a>(
-    alloc: Global,
-    dropped: usize,
-    entries: &[LineAnnotation<'a>],
-) -> Result<Vec<PlacedEntry<'a>>, AllocError>
-    ensures entries { IfOk result (λ labelled. map (λ e. e.entry) labelled.items
-        ≡ reverse (map (shifted dropped) entries.now)) }
-    ensures labels { IfOk result (λ labelled. All HasItsLabel labelled.items) }
-    ensures bytes { IfOk result (λ labelled. All HasItsBytes labelled.items) }
-    ensures positions { IfOk result (λ labelled. All (λ e. e.position ≡ 0) labelled.items) }
-    ensures looked { IfOk result (λ labelled. map (λ e. e.looked) labelled.items
-        ≡ reverse (range_with_len 0 (length entries.now))) }
-{
-    let mut labelled = Vec::with_capacity(alloc, entries.len())?;
-    for i in (0..entries.len()).rev() {
-        let entry = &entries[i];
-        let label = shown_label(alloc, entry)?;
-        // it is a text, so its bytes are those of its characters
-        let _text = label.as_str();
-        labelled.push(PlacedEntry {
-            entry: shifted(entry, dropped),
-            label,
-            position: 0,
-            looked: i,
-        })?;
-    }
-    Ok(labelled)
-}
-
 /// Puts entries, which are listed from the last that was given to the first, in order from right to left. Those that
 /// begin at one character stand as they were given.
 ///
@@ -211,30 +174,6 @@ fn label_reach(placed: &PlacedEntry) -> usize
         end + (placed.label.as_str().len() + GAP)
     } else {
         end
-    }
-}
-
-/// An entry, where this many columns of its line are dropped on the left.
-fn shifted<'a>(entry: &LineAnnotation<'a>, dropped: usize) -> LineAnnotation<'a>
-    ensures value { result ≡ shifted dropped entry.now }
-{
-    let mut shifted = entry.copied();
-    shifted.start.display = entry.start.display.saturating_sub(dropped);
-    shifted.end.display = entry.end.display.saturating_sub(dropped);
-    shifted
-}
-
-/// What an entry's label shows: its text, normalised, or nothing.
-///
-/// # Errors
-///
-/// There is no memory for the text.
-fn shown_label<'a>(alloc: Global, entry: &LineAnnotation<'a>) -> Result<DrawnLabel<'a>, AllocError>
-    ensures shows { IfOk result (λ label. chars label ≡ normalized_chars entry.now.label) }
-{
-    match entry.label.text() {
-        Some(text) => Ok(DrawnLabel::new(normalized(alloc, text)?)),
-        None => Ok(DrawnLabel::new(CowStr::Borrowed(""))),
     }
 }
 

@@ -2,8 +2,7 @@
 ghost use Rattle.std.specs.Prelude.{◌≡◌, ◌↔◌, ℕ, List, [], ◌+◌, ◌-◌, ◌<◌, ◌≤◌, true, All, Contains, map, length};
 ghost use Rattle.std.specs.Prelude.{IfOk, IfSome, IsNone, nat_lt};
 ghost use Rattle.std.specs.Option.{option_copied};
-ghost use Rattle.std.specs.List.{HoldsAt, list_any};
-ghost use Rattle.std.specs.List.Sorted.{IsNonDecreasingBy};
+ghost use Rattle.std.specs.List.{list_any};
 ghost use Rattle.snippet_lines.specs.Lines.{Line, line_at, source_lines, text_at, start_of, newline_count};
 ghost use Rattle.snippet_lines.specs.CutLines.{AreLinesOf};
 ghost use Rattle.snippet_lines.specs.Lines.{StandsAt};
@@ -29,7 +28,7 @@ ghost use Rattle.snippet_style.specs.Bounds.{HasNext, IsSourceColumn, IsSourceEn
 use crate::annotated_lines::annotated_lines;
 use crate::entries::AnnotatedLineInfo;
 use crate::line_place::locations_near;
-use crate::starts::Starts;
+use crate::starts::{Starts, last_starting_by, nth_line_start};
 use snippet_lines::line_bounds::{line_bounds, line_index};
 use snippet_lines::lines::{newline_count, without_line_end};
 use snippet_lines::place::Loc;
@@ -489,28 +488,4 @@ impl<'a> SourceMap<'a> {
     {
         self.line_info(self.line_index_of(byte))
     }
-}
-
-/// The last of some lines that starts at a byte or before it, where these are the bytes at which they start.
-fn last_starting_by(starts: &[usize], byte: usize) -> usize
-    requires some { 0 < length starts.now }
-    requires ordered { IsNonDecreasingBy (λ start. start) starts.now }
-    requires first { HoldsAt (λ start. start ≤ byte) starts.now 0 }
-    ensures within { result < length starts.now }
-    ensures from { HoldsAt (λ start. start ≤ byte) starts.now result }
-    ensures to { result + 1 < length starts.now → HoldsAt (λ start. byte < start) starts.now (result + 1) }
-{
-    starts.partition_point(|start| *start <= byte) - 1
-}
-
-/// The byte at which line `index` of a source starts, from 0; of the number of lines, the byte after the source.
-fn nth_line_start(source: &str, index: usize) -> usize
-    requires within { index ≤ length (source_lines source.now) }
-    ensures value { result ≡ start_of (source_lines source.now) index }
-{
-    let mut start = 0;
-    for line in 0..index {
-        start = line_bounds(source, start).end;
-    }
-    start
 }

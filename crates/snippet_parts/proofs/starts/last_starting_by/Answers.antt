@@ -1,6 +1,6 @@
 use Rattle.snippet_parts.proofs.Common.{ℕ, ◌≤◌, leb, rules, IsPartitionedBy-leb, IsPartitionPoint-from_clause}
 use Rattle.snippet_parts.proofs.TableLemmas.{IsParted, parted-some, parted-from, parted-to}
-use Rattle.snippet_parts.proofs.source_map.last_starting_by.Goals as goal
+use Rattle.snippet_parts.proofs.starts.last_starting_by.Goals as goal
 
 parted : (c : goal.After-partition_point) → IsParted c.args.starts.now c.args.byte c.partition_point.result
 parted c =

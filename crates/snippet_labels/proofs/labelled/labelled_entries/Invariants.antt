@@ -1,5 +1,5 @@
 use Rattle.snippet_labels.proofs.Common.{◌≡◌, ◌-◌, All, drop, length, map, reverse, range_with_len, shifted, HasItsBytes, HasItsLabel}
-use Rattle.snippet_labels.proofs.positions.labelled_entries.Given as goal
+use Rattle.snippet_labels.proofs.labelled.labelled_entries.Given as goal
 
 -- the entries from this one on have their labels, the last one first
 abbrev pub invariant-loop-i : goal.invariant-loop-i

@@ -1,6 +1,6 @@
 use Rattle.snippet_labels.proofs.Common.{◌∙◌, chars, sym, ap, chars-nil, option_copied}
 use Rattle.snippet_labels.proofs.PlacedLemmas.{label_chars}
-use Rattle.snippet_labels.proofs.positions.shown_label.Goals as goal
+use Rattle.snippet_labels.proofs.labelled.shown_label.Goals as goal
 
 pub returns-in-None : goal.returns-in-None
 returns-in-None c = record {

@@ -1,6 +1,6 @@
 use Rattle.snippet_parts.proofs.Common.{◌≡◌, ◌+◌, ◌∙◌, List, ap, sym, arith, Line, source_lines, start_of, line_of, start_of-zero}
 use Rattle.snippet_parts.proofs.Common.{line_of-start}
-use Rattle.snippet_parts.proofs.source_map.nth_line_start.Goals as goal
+use Rattle.snippet_parts.proofs.starts.nth_line_start.Goals as goal
 
 pub loop-line-init : goal.loop-line-init
 loop-line-init c = sym (start_of-zero (source_lines c.args.source.now))

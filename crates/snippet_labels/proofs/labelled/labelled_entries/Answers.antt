@@ -3,7 +3,7 @@ use Rattle.snippet_labels.proofs.Common.{All-append, All-cons, All-nil, LineAnno
 use Rattle.snippet_labels.proofs.PlacedLemmas.{label_text}
 use Rattle.snippet_labels.proofs.CharLemmas.{bytes_of_chars}
 use Rattle.snippet_labels.proofs.RowLemmas.{counts_more, labelled_more}
-use Rattle.snippet_labels.proofs.positions.labelled_entries.Goals as goal
+use Rattle.snippet_labels.proofs.labelled.labelled_entries.Goals as goal
 
 pub loop-i-preserved : goal.loop-i-preserved
 loop-i-preserved c =
