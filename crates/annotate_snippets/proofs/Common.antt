@@ -98,10 +98,11 @@ pub use Rattle.snippet_grid.specs.Weaving.{WeavesRows, PrintsFurther, PrintsRows
 pub use Rattle.snippet_grid.specs.Woven.{IsWoven, links_of, Prints, Char, Piece, piece_text, Reset, next_style, IsOfSheet, LinkEnd, LinkTo, PrintsCells}
 pub use Rattle.snippet_grid.specs.Woven.{next_link, links_after}
 pub use Rattle.snippet_labels.proofs.CharLemmas.{is_empty-chars}
-pub use Rattle.snippet_labels.proofs.PlacedLemmas.{label_text, placed_at, label_chars, entries_all, placed_of-at}
+pub use Rattle.snippet_labels.proofs.PlacedLemmas.{label_text, placed_at, label_chars, line_positions_low, entries_all, placed_of-at}
 pub use Rattle.snippet_labels.specs.PlacedEntries.{shifted, label_role, is_end_part}
 pub use Rattle.snippet_labels.specs.Placing.{HasPlace}
-pub use Rattle.snippet_labels.specs.Positions.{has_label, line_positions, look_counts, placed_of, positions, is_start_part}
+pub use Rattle.snippet_labels.specs.Pieces.{label_pieces}
+pub use Rattle.snippet_labels.specs.Positions.{are_starts, has_label, line_positions, look_counts, placed_of, positions, is_start_part}
 pub use Rattle.snippet_labels.specs.declared.positions.PlacedEntry.{PlacedEntry}
 pub use Rattle.snippet_lines.proofs.BoundsLemmas.{IsLine-at}
 pub use Rattle.snippet_lines.proofs.CountLemmas.{newline_count-take}
@@ -221,20 +222,21 @@ pub use Rattle.snippet_strokes.proofs.BarFacts.{BarBegins, end_corner}
 pub use Rattle.snippet_strokes.proofs.BarRows.{bar_past}
 pub use Rattle.snippet_strokes.proofs.BarWrites.{All-connector_of, All-stretch_of, All-stem_of, All-stems_of}
 pub use Rattle.snippet_strokes.proofs.BegunLemmas.{same_front, from_map}
-pub use Rattle.snippet_strokes.proofs.CellLemmas.{above_zero, drawn_mark, drawn_strokes, marks_of, cut_row, bar_writes, begun_rows, corner_by, label_write}
+pub use Rattle.snippet_strokes.proofs.CellLemmas.{above_zero, drawn_mark, drawn_strokes, marks_of, cut_row, bar_writes, begun_rows, corner_by}
 pub use Rattle.snippet_strokes.proofs.CellLemmas.{stem_write}
 pub use Rattle.snippet_strokes.proofs.CrossedLaws.{line_clear, highlighted_left, highlighted_text}
 pub use Rattle.snippet_strokes.proofs.CutWords.{Stretch, cuts_of}
 pub use Rattle.snippet_strokes.proofs.DrawnCells.{StandsFrom}
 pub use Rattle.snippet_strokes.proofs.SourceCellLaws.{gap_drawn, line_seen, infos_free, begins, gap_space, line_source}
 pub use Rattle.snippet_strokes.proofs.EndBarLaws.{bar_ends, elision_stands}
-pub use Rattle.snippet_strokes.proofs.WriteLaws.{All-label_of, IsSourceRow, CanBeShown, ShowsLine, AreLineRows, AreOwnRows, StrokesPainted, IsHighlighted}
+pub use Rattle.snippet_strokes.proofs.WriteLaws.{IsSourceRow, CanBeShown, ShowsLine, AreLineRows, AreOwnRows, StrokesPainted, IsHighlighted}
 pub use Rattle.snippet_strokes.proofs.WriteLaws.{All-flat_map, painted-cell}
 pub use Rattle.snippet_strokes.proofs.LineFromValue.{info_rows_show}
 pub use Rattle.snippet_strokes.proofs.MarkStrokeLemmas.{of_first}
 pub use Rattle.snippet_strokes.proofs.OpenLemmas.{room_below}
 pub use Rattle.snippet_strokes.proofs.SeenRows.{IsEntryMark, are_plain, has_column, is_single, wide_entries, EntryCovers, AreSeen, IsStrokeRow, ShowsMarks}
-pub use Rattle.snippet_strokes.proofs.PositionLemmas.{line_positions_low, positions_sole, row_count_one}
+pub use Rattle.snippet_strokes.proofs.PieceWrites.{All-label_of, label_write}
+pub use Rattle.snippet_strokes.proofs.PositionLemmas.{positions_sole}
 pub use Rattle.snippet_strokes.proofs.RowLemmas.{bare_row_left}
 pub use Rattle.snippet_strokes.proofs.SeenLabels.{IsLabelledAtEnd, IsLedTo, LabelsStand, PlacedLabel, StandsIn, is_cell_of}
 pub use Rattle.snippet_strokes.proofs.StrokeGlyphs.{of_foot}
@@ -356,7 +358,7 @@ pub use Rattle.snippet_titles.proofs.PaddingWords.{padding_row}
 pub use Rattle.snippet_titles.proofs.PlaceLemmas.{heading_rows-places}
 pub use Rattle.snippet_titles.proofs.PrintedLemmas.{one_row}
 pub use Rattle.snippet_titles.proofs.ShortLaws.{short-free, links_of-short_rows, row_text-short_rows}
-pub use Rattle.snippet_titles.proofs.SplitLemmas.{lines_at, lines_at-chars}
+pub use Rattle.snippet_text.proofs.SplitLemmas.{lines_at, lines_at-chars}
 pub use Rattle.snippet_titles.proofs.TextLemmas.{heading_rows-texts, row_text-label}
 pub use Rattle.snippet_titles.specs.HeadingRows.{colon_of, heading_lines, label_width, closing_bracket_of, opening_bracket_of, heading_label_text, indent_cells}
 pub use Rattle.snippet_titles.specs.HeadingRows.{is_set, roles_of, sign_cells, bracketed_cells, id_cells, linked_to, lines_below, note_bar_of, id_text}

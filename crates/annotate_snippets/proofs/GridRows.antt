@@ -35,15 +35,11 @@ pub copied_or : (a b : Option (Bor (List ℕ))) → option_copied (option_or a b
 copied_or None b = refl
 copied_or (Some x) b = refl
 
--- a layout, by its parts
-abbrev laid_out : ℕ → ℕ → DecorStyle → Layout
-laid_out gutter code decor = record { gutter = gutter; code = code; decor = decor }
-
 -- the layout is the one that the report gives the group
 pub layout_is : (r : Renderer) (groups : List Group) (g : Group) (layout : Layout) (gutter depth : ℕ) → gutter ≡ gutter_of_report r groups
     → depth ≡ depth_of_group g → layout.gutter ≡ gutter → layout.code ≡ code_after gutter depth → layout.decor ≡ r.decor_style
-    → layout ≡ layout_of_group r groups g
-layout_is r groups g layout gutter depth wide deep left code decor = grind (arith, layout.code, layout.decor)
+    → layout.label_lines ≡ r.label_lines → layout ≡ layout_of_group r groups g
+layout_is r groups g layout gutter depth wide deep left code decor lines = grind (arith, layout.code, layout.decor, layout.label_lines)
 
 -- it has room for the group's elements
 pub room_at : (r : Renderer) (groups : List Group) (n : ℕ) (p : PreparedGroup) (layout : Layout) → All IsGroupDrawable groups → IsGroupPrepared p

@@ -2,11 +2,10 @@
 use Rattle.annotate_snippets.proofs.Common.{◌≡◌, ℕ, ◌+◌, ◌<◌, ◌≤◌, ◌&&◌, not, All, get_or, List, [], ◌∷◌, map, length, refl}
 use Rattle.annotate_snippets.proofs.Common.{sym, ap, ◌∙◌, arith, cow_str_bytes, list_any, Layout, Source, source_lines, text_at, shown_number, IsSpan}
 use Rattle.annotate_snippets.proofs.Common.{Annotation, Cause, Snippet, annotated_lines, kept_line, AllEntries, HasColumnRoom, seen_kept, kept_lines}
-use Rattle.annotate_snippets.proofs.Common.{shown_lines, is_marking, touches, AnnotatedLineInfo, LineAnnotation, label-texts, places-fit, parts_on-few}
+use Rattle.annotate_snippets.proofs.Common.{shown_lines, is_marking, touches, AnnotatedLineInfo, LineAnnotation, places-fit, parts_on-few}
 use Rattle.annotate_snippets.proofs.Common.{All-unmapped, AreDrawable, CanBeShown, StandsClear, margin_of, Margin, margin_of_lines, margin_seen, lines_clear}
 use Rattle.annotate_snippets.proofs.Common.{lines_sound, HasRoomFor, margin_in, line_numbers, numbered_source, IsDrawable, Renderer}
 use Rattle.snippet_parts.specs.Located as labels
-use Rattle.snippet_strokes.proofs.PlacedOf.{HasTextLabel}
 use Rattle.annotate_snippets.proofs.MarginWords.{room_of}
 use Rattle.annotate_snippets.proofs.LineWords.{entries_on}
 use Rattle.annotate_snippets.proofs.GutterLemmas.{numbers_fit}
@@ -54,10 +53,6 @@ module _ (s : Snippet Annotation) (spans : All (λ a. IsSpan (cow_str_bytes s.so
       (k < length (source_lines (cow_str_bytes s.source.text)))
       × CanBeShown layout (margin_in r layout s) (line_numbers r s.line_numbering) (info_at k)
 
-  -- the labels of entries are texts, where those of annotations are
-  entry_texts : (k : ℕ) → All labels.HasTextLabel s.markers.items → All HasTextLabel (info_at k).annotations.items
-  entry_texts k texts = label-texts (numbered_source s) s.markers.items k texts
-
 module _ (r : Renderer) (layout : Layout) (s : Snippet Annotation) (drawable : IsDrawable s) where
   abbrev source : Source
   source = numbered_source s
@@ -85,9 +80,9 @@ module _ (r : Renderer) (layout : Layout) (s : Snippet Annotation) (drawable : I
   bounds_ordered = grind (arith, margin_is, lines_sound, places)
 
   -- each line that is shown can be drawn
-  pub lines_ready : HasRoomFor r layout (Cause s) → All labels.HasTextLabel s.markers.items
+  pub lines_ready : HasRoomFor r layout (Cause s)
       → All (IsReadyLine s drawable.spans r layout) (shown_lines s.fold (cow_str_bytes s.source.text) s.markers.items)
-  lines_ready fits texts =
+  lines_ready fits =
       let ks : List ℕ = shown_lines s.fold (cow_str_bytes s.source.text) s.markers.items in
       let at : ℕ → AnnotatedLineInfo = info_at s drawable.spans in
       let infos : List AnnotatedLineInfo = map at ks in
@@ -107,6 +102,5 @@ module _ (r : Renderer) (layout : Layout) (s : Snippet Annotation) (drawable : I
           number = number i d inside;
           entries = entries i d inside;
           clear = clear i d inside;
-          labels = entry_texts s drawable.spans (get_or ks i d) texts;
         },
       )

@@ -15,7 +15,8 @@ use Rattle.annotate_snippets.proofs.Common.{painting_order, stroke_role, row_cou
 use Rattle.annotate_snippets.proofs.Common.{corner_by, label_of, column_of, first_glyph, mark_end, connectors_of, corners_of, labels_of, is_whole_line}
 use Rattle.annotate_snippets.proofs.Common.{drawn_mark, drawn_strokes, marks_of, stems_of, label_write, stem_write, Write, glyph_at, painted, stretch_of}
 use Rattle.annotate_snippets.proofs.Common.{Layout, All-connector_of, All-stretch_of, All-label_of, entries_all, All-stem_of, All-stems_of, All-flat_map}
-use Rattle.annotate_snippets.proofs.Common.{painted-cell, Renderer, HasNoFeed, numbered_source, Elision, NamedRow, OfferedLine, Other, RemovedLine, RowName}
+use Rattle.annotate_snippets.proofs.Common.{painted-cell, label_pieces, PlacedEntry, Renderer, HasNoFeed, numbered_source, Elision, NamedRow, OfferedLine}
+use Rattle.annotate_snippets.proofs.Common.{Other, RemovedLine, RowName}
 use Rattle.annotate_snippets.proofs.Common.{SourceRow, cells_of, rows_below, AreRowsOf, IsRowOf, normalized_chars}
 use Rattle.std.proofs.Common.{chars}
 use Rattle.snippet_grid.specs.Layout.{bar_cell as bar_column}
@@ -48,7 +49,7 @@ line_plain source k utf8 =
       | inr past ↦ grind (arith, common_steps, chars, get_or_past, chars-plain, IsUtf8-nil, All-nil)
     ]
 
--- ---- glyphs. The type of an entry with its place has no name outside its crate, so `_` stands for it
+-- ---- glyphs
 
 -- no glyph of the table is a line feed
 bars_plain : (decor : DecorStyle) (primary : Bool) → EachBar IsNoFeed (strokes_of decor primary)
@@ -68,6 +69,11 @@ either_plain : (b : Bool) (x y : ℕ) → IsNoFeed x → IsNoFeed y → IsNoFeed
 either_plain true x y one other = one
 either_plain false x y one other = other
 
+-- nor does a piece of a label without line feeds hold one
+pieces_plain : (cut : Bool) (text : List ℕ) → All IsNoFeed text → All (All IsNoFeed) (label_pieces cut text)
+pieces_plain true text plain = parts_plain text
+pieces_plain false text plain = All-cons (All IsNoFeed) text [] plain (All-nil (All IsNoFeed))
+
 -- ---- what is written
 
 -- a write of characters none of which is a line feed
@@ -83,24 +89,24 @@ column_plain start end cell glyph role plain =
     All-map IsPlainWrite (λ row. glyph_at row cell glyph role) (range_with_len start (end - start)) (λ k d within. alone glyph plain)
 
 module _ (layout : Layout) where
-  connectors_plain : (row : ℕ) (es : _) → All IsPlainWrite (connectors_of layout row es)
+  connectors_plain : (row : ℕ) (es : List PlacedEntry) → All IsPlainWrite (connectors_of layout row es)
   connectors_plain row es =
       All-flat_map IsPlainWrite (connector_of layout row) es (λ k d within. of_entry (get_or es k d))
     where
-      of_entry : (e : _) → All IsPlainWrite (connector_of layout row e)
+      of_entry : (e : PlacedEntry) → All IsPlainWrite (connector_of layout row e)
       of_entry e =
           All-connector_of IsPlainWrite layout row e (λ depth. stretch_plain (row + e.position) (layout.gutter + 3 + depth)
           (layout.code + e.entry.start.display) _ (stroke_role e) (code_plain layout.decor (is_primary e.entry.kind)).connector)
 
-  corners_plain : (row count : ℕ) (es : _) → All IsPlainWrite (corners_of layout row count es)
+  corners_plain : (row count : ℕ) (es : List PlacedEntry) → All IsPlainWrite (corners_of layout row count es)
   corners_plain row count es =
       All-flat_map IsPlainWrite (corner_of layout row count) es (λ k d within. by_part (get_or es k d) (get_or es k d).entry.annotation_type)
     where
-      bar : (e : _) (depth start end : ℕ) → All IsPlainWrite (bar_writes layout e depth start end)
+      bar : (e : PlacedEntry) (depth start end : ℕ) → All IsPlainWrite (bar_writes layout e depth start end)
       bar e depth start end =
           column_plain start end (bar_column layout depth) _ (stroke_role e) (bars_plain layout.decor (is_primary e.entry.kind)).bar
 
-      by_part : (e : _) (part : LineAnnotationType) → All IsPlainWrite (corner_by layout row count e part)
+      by_part : (e : PlacedEntry) (part : LineAnnotationType) → All IsPlainWrite (corner_by layout row count e part)
       by_part e Singleline = All-nil IsPlainWrite
       by_part e (MultilineStart depth) =
           let at : ℕ = row + 1 + e.position in
@@ -117,26 +123,28 @@ module _ (layout : Layout) where
           All-append IsPlainWrite (bar_writes layout e depth row at) (last ∷ []) (bar e depth row at) one
       by_part e (MultilineLine depth) = All-nil IsPlainWrite
 
-  stems_plain : (row : ℕ) (es : _) → All IsPlainWrite (stems_of layout row es)
+  stems_plain : (row : ℕ) (es : List PlacedEntry) → All IsPlainWrite (stems_of layout row es)
   stems_plain row es =
       All-stems_of IsPlainWrite layout row es (λ k d within. All-stem_of IsPlainWrite layout row (get_or es k d) (λ below low. of_entry (get_or es k d) below))
     where
-      of_entry : (e : _) (below : ℕ) → IsPlainWrite (stem_write layout row e below)
+      of_entry : (e : PlacedEntry) (below : ℕ) → IsPlainWrite (stem_write layout row e below)
       of_entry e below =
           let primary : Bool = is_primary e.entry.kind in
           alone _ (either_plain (below == e.position) _ _ (of_foot IsNoFeed e.entry.annotation_type layout.decor primary (has_label e)
           (code_plain layout.decor primary).stems) (code_plain layout.decor primary).stems.stem)
 
-  labels_plain : (row : ℕ) (es : _) → ((k : ℕ) (d : _) → k < length es → IsPlainWrite (label_write layout row (get_or es k d)))
+  labels_plain : (row : ℕ) (es : List PlacedEntry)
+      → ((k : ℕ) (d : PlacedEntry) (n : ℕ) → k < length es → n < length (get_or es k d).label → IsPlainWrite (label_write layout row (get_or es k d) n))
       → All IsPlainWrite (labels_of layout row es)
   labels_plain row es plain =
-      All-flat_map IsPlainWrite (label_of layout row) es (λ k d within. All-label_of IsPlainWrite layout row (get_or es k d) (λ has. plain k d within))
+      All-flat_map IsPlainWrite (label_of layout row) es (λ k d within.
+      All-label_of IsPlainWrite layout row (get_or es k d) (λ n inside some. plain k d n within inside))
 
-  marks_plain : (row : ℕ) (es : _) → All IsPlainWrite (marks_of layout row es)
+  marks_plain : (row : ℕ) (es : List PlacedEntry) → All IsPlainWrite (marks_of layout row es)
   marks_plain row es =
       All-flat_map IsPlainWrite (drawn_mark layout row) es (λ k d within. of_entry (get_or es k d))
     where
-      of_entry : (e : _) → All IsPlainWrite (drawn_mark layout row e)
+      of_entry : (e : PlacedEntry) → All IsPlainWrite (drawn_mark layout row e)
       of_entry e =
           let from : ℕ = layout.code + e.entry.start.display in
           let to : ℕ = layout.code + mark_end e in
@@ -150,8 +158,9 @@ module _ (layout : Layout) where
           ]
 
   -- no stroke of a line is a line feed, where no label holds one
-  strokes_plain : (row count : ℕ) (placed order : _)
-      → ((k : ℕ) (d : _) → k < length placed → IsPlainWrite (label_write layout (row + 1) (get_or placed k d)))
+  strokes_plain : (row count : ℕ) (placed order : List PlacedEntry)
+      → ((k : ℕ) (d : PlacedEntry) (n : ℕ) → k < length placed → n < length (get_or placed k d).label
+      → IsPlainWrite (label_write layout (row + 1) (get_or placed k d) n))
       → All IsPlainWrite (drawn_strokes layout row count placed order)
   strokes_plain row count placed order plain =
       let connectors : List Write = connectors_of layout (row + 1) placed in
@@ -238,7 +247,10 @@ module _ (layout : Layout) (room : ℕ) (closes : Bool) where
       let placed = strokes.placed in
       let ws : List Write = drawn_strokes layout 0 (row_count placed + 1) placed (painting_order placed) in
       let begun : List (List Cell) = begun_rows layout closes (row_count placed) source in
-      let own = entries_all (λ e. All IsNoFeed (label_text e)) es placed strokes.are.same plain in
+      let own : (k : ℕ) (d : PlacedEntry) (n : ℕ) → k < length placed → n < length (get_or placed k d).label
+      → IsPlainWrite (label_write layout 1 (get_or placed k d) n) = λ k d n within inside.
+      subst (All (All IsNoFeed)) (sym (strokes.are.labels k d within)) (pieces_plain layout.label_lines (label_text (get_or placed k d).entry)
+      (entries_all (λ e. All IsNoFeed (label_text e)) es placed strokes.are.same plain k d within)) n [] inside in
       let written : All IsPlainWrite ws = strokes_plain layout 0 (row_count placed + 1) placed (painting_order placed) own in
       from_cells (strokes.marks ∷ strokes.lower) (λ r c.
       subst (λ (all : List (List Cell)). HoldsNoFeed (cell_at all (suc r) c)) (sym strokes.painted_are)

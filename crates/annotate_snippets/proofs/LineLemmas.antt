@@ -1,5 +1,5 @@
 -- The rows of a line show it: its source row, the row of its marks, and the others below.
-use Rattle.annotate_snippets.proofs.Common.{◌≡◌, ℕ, ◌+◌, ◌-◌, ◌<◌, ◌≤◌, ◌==◌, ◌&&◌, nat_le, not, Bool, true, false, cond}
+use Rattle.annotate_snippets.proofs.Common.{◌≡◌, ℕ, ◌+◌, ◌-◌, ◌<◌, ◌≤◌, ◌==◌, ◌&&◌, nat_le, not, Bool, true, false, cond, label_pieces}
 use Rattle.annotate_snippets.proofs.Common.{List, [], ◌∷◌, map, length, drop, count_by, get_or, refl, sym, ap, subst, ◌∙◌, arith, inl, inr, filter}
 use Rattle.annotate_snippets.proofs.Common.{list_all, list_any, cow_str_bytes, and_parts, and_from, cases_lt, eq-eqb, lt-ltb, nat_tests, drop-map, get_or-take}
 use Rattle.annotate_snippets.proofs.Common.{length-map, All-contains, All-head, All-map, All-tail, Contains-get_or, AllPass-from_list_all}
@@ -25,7 +25,7 @@ use Rattle.annotate_snippets.proofs.WindowLemmas.{dropped-none}
 
 -- a row that is as a bare one left of the bars is a row below a line
 pub row_below : (decor : DecorStyle) (layout : Layout) (closes plain : Bool) (es : List LineAnnotation) (rows : List (List Cell)) (i : ℕ)
-    → IsStrokeRow (record { gutter = layout.gutter; code = layout.code; decor = decor }) plain es (closes && i + 1 == length rows) (row_at rows i)
+    → IsStrokeRow (record layout { decor = decor }) plain es (closes && i + 1 == length rows) (row_at rows i)
     → IsRowBelow decor layout (closes && i + 1 == length rows) (row_at rows i)
 row_below decor layout closes plain es rows i is =
     record { left = is.left; bars = is.bar_cells }
@@ -236,11 +236,11 @@ module _ (r : Renderer) (layout : Layout) (s : Snippet Annotation)
     pub labels_of_line : is_uncut_line r layout s k shows.dropped ≡ true → ShowsLabels layout.decor layout s k shows.dropped rows_show.below
     labels_of_line uncut =
         let parts : es ≡ parts_on (numbered_source s) s.markers.items k = ap (λ (l : KeptLine). l.parts) seen in
-        let same_entries : is_uncut margin.term_width layout.decor (map (shifted shows.dropped) es) ≡ is_uncut_line r layout s k shows.dropped =
-        ap (λ n. is_uncut n layout.decor (map (shifted shows.dropped) es)) room
-        ∙ ap (λ ps. is_uncut (room_of r layout) layout.decor (map (shifted shows.dropped) ps)) parts in
+        let same_entries : is_uncut margin.term_width layout (map (shifted shows.dropped) es) ≡ is_uncut_line r layout s k shows.dropped =
+        ap (λ n. is_uncut n layout (map (shifted shows.dropped) es)) room
+        ∙ ap (λ ps. is_uncut (room_of r layout) layout (map (shifted shows.dropped) ps)) parts in
         let stand = rows_show.strokes.labels (same_entries ∙ uncut) (labelled_at_end (numbered_source s) s.markers.items k shows.dropped es parts) in
-        labels_shown s k shows.dropped layout layout es rows_show.below refl parts shows.clear stand
+        labels_shown s k shows.dropped layout layout es rows_show.below refl refl parts shows.clear stand
 
     -- where the line qualifies, its strokes are those of whole spans
     module _ (qualifies : qualifies_for_marks (room_of r layout) placeholder_width (cow_str_bytes s.source.text) s.markers.items k ≡ true) where
@@ -298,7 +298,7 @@ module _ (r : Renderer) (layout : Layout) (s : Snippet Annotation)
       marks_of_line =
           let row : List Cell = row_at rows_show.below 0 in
           let d : ℕ = shows.dropped in
-          let marks_are : ShowsMarks layout.decor layout.code moved row = rows_show.strokes.marks plain in
+          let marks_are : ShowsMarks layout.label_lines layout.decor layout.code moved row = rows_show.strokes.marks plain in
           let strokes_row = rows_show.strokes.are 0 marks_there in
           record {
             marks = λ p kind mark.
@@ -323,13 +323,16 @@ module _ (r : Renderer) (layout : Layout) (s : Snippet Annotation)
                 let right : d ≤ e.start.display = All-head (λ (x : LineAnnotation). d ≤ x.start.display) e []
                 (subst (All (λ (x : LineAnnotation). d ≤ x.start.display)) own.1 clear) in
                 let after = marks_are.lone (shifted d e) (ap (map (shifted d)) own.1) (omega (arith, is.start, is.end, right))
-                (omega (arith, label, ap length is.label)) in
-                subst (λ c. row_text (drop c row) ≡ 32 ∷ shown_label a)
+                (omega (arith, label, ap (λ (text : List ℕ). length (piece_of text)) is.label)) in
+                subst (λ c. row_text (drop c row) ≡ 32 ∷ piece_of (shown_label a))
                 (let at : layout.code + (e.end.display - d) ≡ layout.code + end_column (cow_str_bytes s.source.text) a - d = omega (
                   arith,
                   is.end,
                   is.start,
                   right,
                 ) in at) (ap row_text after
-                ∙ ap (λ cs. 32 ∷ cs) (row_text-text_cells (label_role e.kind) (label_text e) ∙ is.label));
+                ∙ ap (λ cs. 32 ∷ cs) (row_text-text_cells (label_role e.kind) (piece_of (label_text e)) ∙ ap piece_of is.label));
           }
+        where
+          piece_of : List ℕ → List ℕ
+          piece_of text = get_or (label_pieces layout.label_lines text) 0 []

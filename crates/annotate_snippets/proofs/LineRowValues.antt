@@ -3,22 +3,28 @@ use Rattle.annotate_snippets.proofs.Common.{◌≡◌, ℕ, ◌+◌, ◌<◌, �
 use Rattle.annotate_snippets.proofs.Common.{refl, sym, ap, subst, ◌∙◌, arith, zip, get_or-map, length-map, All-cons, All-nil, cell_at, row_at, Layout}
 use Rattle.annotate_snippets.proofs.Common.{Cell, SPACE, slice_index_or-written_inside, LineAnnotation, shifted, line_positions, look_counts, placed_of}
 use Rattle.annotate_snippets.proofs.Common.{positions, PlacedEntry, Bar, ends_of_bars, is_whole_line, bar_beside, Other, row_count, line_rows, own_rows}
-use Rattle.annotate_snippets.proofs.Common.{stroke_rows, line_positions_low, positions_sole, row_count_one, placed_at, placed_of-at, stroke_rows-count}
+use Rattle.annotate_snippets.proofs.Common.{stroke_rows, line_positions_low, positions_sole, placed_at, are_starts, max, placed_of-at, stroke_rows-count}
 
--- one entry asks for one
-lone_count : (e : LineAnnotation) → row_count (placed_of (e ∷ [])) ≡ 1
+-- one entry whose label is not cut asks for one
+lone_count : (e : LineAnnotation) → row_count (placed_of false (e ∷ [])) ≡ 1
 lone_count e =
-    let bare : PlacedEntry = placed_at (e, (0, 0)) in
+    let bare : PlacedEntry = placed_at false (e, (0, 0)) in
     let Low : ℕ → Type 0 = λ q. q ≤ 0 in
     let first : All Low (positions 0 (bare ∷ [])) = subst (All Low) (sym (positions_sole bare)) (All-cons Low 0 [] (omega arith) (All-nil Low)) in
-    row_count_one (placed_of (e ∷ [])) (subst (All (λ (p : PlacedEntry). p.position ≤ 0)) (sym (placed_of-at (e ∷ [])))
-    (placed_low (line_positions (bare ∷ [])) (look_counts 0 (bare ∷ [])) (line_positions_low 0 (bare ∷ []) first)))
+    ap row_count (placed_of-at false (e ∷ []))
+    ∙ counted (line_positions (bare ∷ [])) (look_counts 0 (bare ∷ [])) (line_positions_low 0 (bare ∷ []) first)
   where
-    placed_low : (ps ls : List ℕ) → All (λ q. q ≤ 0) ps → All (λ (p : PlacedEntry). p.position ≤ 0) (map placed_at (zip (e ∷ []) (zip ps ls)))
-    placed_low [] ls low = All-nil (λ (p : PlacedEntry). p.position ≤ 0)
-    placed_low (p ∷ ps) [] low = All-nil (λ (p : PlacedEntry). p.position ≤ 0)
-    placed_low (p ∷ ps) (l ∷ ls) low =
-        All-cons (λ (p : PlacedEntry). p.position ≤ 0) (placed_at (e, (p, l))) [] (low 0 0 (omega arith)) (All-nil (λ (p : PlacedEntry). p.position ≤ 0))
+    beside : (starts : Bool) → ◌≡◌ {A = ℕ} (cond starts 0 0) 0
+    beside true = refl
+    beside false = refl
+
+    counted : (ps ls : List ℕ) → All (λ q. q ≤ 0) ps → row_count (map (placed_at false) (zip (e ∷ []) (zip ps ls))) ≡ 1
+    counted [] ls low = refl
+    counted (p ∷ ps) [] low = refl
+    counted (p ∷ ps) (l ∷ ls) low =
+        let none : p ≡ 0 = omega (arith, low 0 0 (omega arith)) in
+        ap (λ q. row_count (placed_at false (e, (q, l)) ∷ [])) none
+        ∙ ap (λ n. max 0 n + 1) (beside (are_starts (placed_at false (e, (0, l)) ∷ [])))
 
 -- rows that are changed one by one are as many
 mapped_count : (f : List Cell → List Cell) (rows : List (List Cell)) (n : ℕ) → length rows ≡ n → length (map f rows) ≡ n
@@ -54,14 +60,16 @@ module _ (layout : Layout) (room : ℕ) (closes : Bool) (text : List ℕ) (dropp
   pub line_rows-some : (open_bars : List Bar) (es : List LineAnnotation) → 0 < length (line_rows layout room closes text dropped open_bars es source)
   line_rows-some open_bars es = grind (arith, mapped_count, own_some)
 
-  -- a line with one entry has one row below its source row at most
-  pub lone_line_rows : (open_bars : List Bar) (es : List LineAnnotation) → length es ≡ 1
+  -- a line with one entry, whose label is not cut, has one row below its source row at most
+  pub lone_line_rows : layout.label_lines ≡ false → (open_bars : List Bar) (es : List LineAnnotation) → length es ≡ 1
       → length (line_rows layout room closes text dropped open_bars es source) ≤ 2
-  lone_line_rows open_bars [] one = absurd (omega (arith, one))
-  lone_line_rows open_bars (e ∷ f ∷ es) one = absurd (omega (arith, one))
-  lone_line_rows open_bars (e ∷ []) one =
+  lone_line_rows uncut open_bars [] one = absurd (omega (arith, one))
+  lone_line_rows uncut open_bars (e ∷ f ∷ es) one = absurd (omega (arith, one))
+  lone_line_rows uncut open_bars (e ∷ []) one =
       let strokes : List (List Cell) = stroke_rows layout room closes (shifted dropped e ∷ []) source in
-      let two : length strokes ≡ 2 = omega (arith, stroke_rows-count layout room closes (shifted dropped e ∷ []) source, lone_count (shifted dropped e)) in
+      let count : row_count (placed_of layout.label_lines (shifted dropped e ∷ [])) ≡ 1 =
+      ap (λ cut. row_count (placed_of cut (shifted dropped e ∷ []))) uncut ∙ lone_count (shifted dropped e) in
+      let two : length strokes ≡ 2 = omega (arith, stroke_rows-count layout room closes (shifted dropped e ∷ []) source, count) in
       let few : length (own_rows layout room closes text dropped (e ∷ []) source) ≤ 2 = few_either (is_whole_line text (e ∷ [])) _ strokes two in
       let same : length (line_rows layout room closes text dropped open_bars (e ∷ []) source)
       ≡ length (own_rows layout room closes text dropped (e ∷ []) source) = mapped_count _ (own_rows layout room closes text dropped (e ∷ []) source) _ refl in

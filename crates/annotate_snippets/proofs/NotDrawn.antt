@@ -13,25 +13,25 @@ use Rattle.annotate_snippets.proofs.LineRowValues.{bar_beside_line, lone_line_ro
 use Rattle.annotate_snippets.proofs.NotShown.{layout, span_of}
 use Rattle.annotate_snippets.proofs.NotWhole.{IsLineA, unnamed}
 
--- two rows below a line on which one entry stands:
+-- two rows below a line on which one entry stands whose label is not cut:
 --
 --     1 | ab cd
 --       | ^^
 --       |
-pub row_doubled : (r : Renderer) (layout : Layout) (around : ElementContext) (s : Snippet Annotation) (rows : List NamedRow)
+pub row_doubled : (r : Renderer) (layout : Layout) → layout.label_lines ≡ false → (around : ElementContext) (s : Snippet Annotation) (rows : List NamedRow)
     → (shown : ShowsSnippet r layout around s rows) (above : List NamedRow) (row : NamedRow) (below : List NamedRow) → shown.after ≡ above ++ row ∷ below
     → (k : ℕ) → row.name ≡ SourceRow k → length (entries_on s k) ≡ 1 → 1 < length (rows_below below) → ⊥
-row_doubled r layout around s rows shown above row below is k named lone many =
+row_doubled r layout uncut around s rows shown above row below is k named lone many =
     let line : IsWholeLine r layout s k row.cells below = line_of_rows r layout s (closes_with around) []
     (shown_lines s.fold (cow_str_bytes s.source.text) s.markers.items) above row below (sym is ∙ shown.are) (SourceRow k) named in
-    omega (arith, many, ap length line.are, line_alone r layout line.closes s line.open_bars k lone)
+    omega (arith, many, ap length line.are, line_alone r layout uncut line.closes s line.open_bars k lone)
   where
-    line_alone : (r : Renderer) (layout : Layout) (closes : Bool) (s : Snippet Annotation) (open_bars : List Bar) (k : ℕ) → length (entries_on s k) ≡ 1
-        → length (rows_of_line r layout closes s open_bars k) ≤ 2
-    line_alone r layout closes s open_bars k lone =
+    line_alone : (r : Renderer) (layout : Layout) → layout.label_lines ≡ false → (closes : Bool) (s : Snippet Annotation) (open_bars : List Bar) (k : ℕ)
+        → length (entries_on s k) ≡ 1 → length (rows_of_line r layout closes s open_bars k) ≤ 2
+    line_alone r layout is_uncut closes s open_bars k lone =
         let margin : Margin = margin_in r layout s in
         let text : List ℕ = norm (chars_at (cow_str_bytes s.source.text) k) in
-        lone_line_rows layout margin.term_width closes text (width_of (dropped_part margin.computed_left text)) _ open_bars (entries_on s k) lone
+        lone_line_rows layout margin.term_width closes text (width_of (dropped_part margin.computed_left text)) _ is_uncut open_bars (entries_on s k) lone
 
 -- beside a line on which no bar begins or ends, and above which one is open, a cell at its depth in another role than that of the
 -- bar's kind, be it of the other kind or a space:

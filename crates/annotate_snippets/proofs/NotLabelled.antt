@@ -1,11 +1,12 @@
 -- Rows in which a label is lost, or a word stands that is none: each contradicts what is shown of labels.
-use Rattle.annotate_snippets.proofs.Common.{◌≡◌, ℕ, ◌+◌, ◌<◌, ◌≤◌, ◌==◌, ◌&&◌, cond, Bool, true, false, List, [], ◌∷◌, map}
+use Rattle.annotate_snippets.proofs.Common.{◌≡◌, ℕ, zero, suc, ◌+◌, ◌<◌, ◌≤◌, ◌==◌, ◌&&◌, cond, Bool, true, false, List, [], ◌∷◌, map}
 use Rattle.annotate_snippets.proofs.Common.{length, count_by, refl, sym, ap, subst, ◌∙◌, arith, inl, inr, Contains, false≢true, nat_tests, All-contains}
 use Rattle.annotate_snippets.proofs.Common.{All-head, All-tail, sum_by-cons, cell_at, Cell, SPACE, DecorStyle, ElementStyle, LabelPrimary, LabelSecondary}
 use Rattle.annotate_snippets.proofs.Common.{UnderlinePrimary, UnderlineSecondary, Annotation, AnnotationKind, Primary, Context, Visible, Snippet, from_map}
 use Rattle.annotate_snippets.proofs.Common.{is_mark_role, label_role, Layout, ShowsLabel, ShowsLabels, ShownLabel, SpanLabel, is_in_label, labels_ending_on}
 use Rattle.std.specs.List.{All}
-use Rattle.std.specs.Prelude.{nat_le, nat_lt}
+use Rattle.std.specs.Prelude.{nat_le, nat_lt, slice_index_or, ◌-◌}
+use Rattle.snippet_labels.specs.Pieces.{shows_any}
 
 -- whether a role is that of labels
 abbrev pub is_label_role : ElementStyle → Bool
@@ -18,28 +19,42 @@ label_role_is Primary = refl
 label_role_is Context = refl
 label_role_is Visible = refl
 
+-- the first piece of a label
+abbrev pub piece_of : SpanLabel → List ℕ
+piece_of l = slice_index_or l.pieces 0 []
+
+-- a label whose first piece shows anything has one that does
+shows_first : (l : SpanLabel) → 0 < length (piece_of l) → shows_any l.pieces ≡ true
+shows_first l some = first l.pieces some
+  where
+    first : (ps : List (List ℕ)) → 0 < length (slice_index_or ps 0 []) → shows_any ps ≡ true
+    first [] some = absurd (omega (arith, some))
+    first (p ∷ ps) some = grind (arith, nat_tests, some)
+
 -- a label that stands begins with a cell in such a role
-begins : (layout : Layout) (dropped : ℕ) (rows : List (List Cell)) (l : ShownLabel) → 0 < length l.label.text → ShowsLabel layout dropped rows l
+begins : (layout : Layout) (dropped : ℕ) (rows : List (List Cell)) (l : ShownLabel) → 0 < length (piece_of l.label) → ShowsLabel layout dropped rows l
     → is_label_role (cell_at rows l.row l.cell).role ≡ true
-begins layout dropped rows l some shows = grind (arith, label_role_is, l.cell, l.row, shows.whole, l.label.kind)
+begins layout dropped rows l some shows =
+    ap (λ (c : Cell). is_label_role c.role) (ap (λ r. cell_at rows r l.cell) (omega arith) ∙ ap (cell_at rows (l.row + 0)) (omega arith) ∙ shows.whole 0 0 some)
+    ∙ label_role_is l.label.kind
 
 -- rows without any cell in the role of labels, below a line on which a span ends that has a label:
 --
 --     1 | ab cd
 --       | ^^ --
 pub label_left_out : (decor : DecorStyle) (layout : Layout) (s : Snippet Annotation) (k dropped : ℕ) (rows : List (List Cell))
-    → ShowsLabels decor layout s k dropped rows → (a : SpanLabel) → Contains (labels_ending_on s k) a → 0 < length a.text
+    → ShowsLabels decor layout s k dropped rows → (a : SpanLabel) → Contains (labels_ending_on layout.label_lines s k) a → 0 < length (piece_of a)
     → ((r c : ℕ) → is_label_role (cell_at rows r c).role ≡ false) → ⊥
 label_left_out decor layout s k dropped rows shows a among some none =
-    let P : ShownLabel → Type 0 = λ l. 0 < length l.label.text → ShowsLabel layout dropped rows l in
+    let P : ShownLabel → Type 0 = λ l. shows_any l.label.pieces ≡ true → ShowsLabel layout dropped rows l in
     let found = from_map (λ (l : ShownLabel). l.label) shows.labels a (subst (λ spans. Contains spans a) (sym shows.spans) among) in
     let l : ShownLabel = found.0 in
-    let own : 0 < length l.label.text = omega (arith, some, ap (λ (x : SpanLabel). length x.text) found.2) in
-    false≢true (sym (none l.row l.cell) ∙ begins layout dropped rows l own (All-contains P shows.labels l shows.stand found.1 own))
+    let own : 0 < length (piece_of l.label) = omega (arith, some, ap (λ (x : SpanLabel). length (piece_of x)) found.2) in
+    false≢true (sym (none l.row l.cell) ∙ begins layout dropped rows l own (All-contains P shows.labels l shows.stand found.1 (shows_first l.label own)))
 
 -- the label stands, if it has anything to show
 abbrev Stands : Layout → ℕ → List (List Cell) → ShownLabel → Type 0
-Stands layout dropped rows l = 0 < length l.label.text → ShowsLabel layout dropped rows l
+Stands layout dropped rows l = shows_any l.label.pieces ≡ true → ShowsLabel layout dropped rows l
 
 -- rows with one such cell alone, below a line on which two spans end that have a label, be it the same one: the labels stand over one
 -- another:
@@ -47,18 +62,21 @@ Stands layout dropped rows l = 0 < length l.label.text → ShowsLabel layout dro
 --     1 | ab cd
 --       | ^^ -- x
 pub label_over_another : (decor : DecorStyle) (layout : Layout) (s : Snippet Annotation) (k dropped : ℕ) (rows : List (List Cell))
-    → ShowsLabels decor layout s k dropped rows → (a b : SpanLabel) → labels_ending_on s k ≡ a ∷ b ∷ [] → 0 < length a.text → 0 < length b.text
+    → ShowsLabels decor layout s k dropped rows → (a b : SpanLabel) → labels_ending_on layout.label_lines s k ≡ a ∷ b ∷ []
+    → 0 < length (piece_of a) → 0 < length (piece_of b)
     → (row cell : ℕ) → ((r c : ℕ) → is_label_role (cell_at rows r c).role ≡ true → (r ≡ row) × (c ≡ cell)) → ⊥
 label_over_another decor layout s k dropped rows shows a b spans some_a some_b row cell alone =
     over shows.labels (shows.spans ∙ spans) shows.stand (shows.apart row cell)
   where
     -- each of the two holds that cell
-    holds : (l : ShownLabel) → 0 < length l.label.text → Stands layout dropped rows l → is_in_label row cell l ≡ true
+    holds : (l : ShownLabel) → 0 < length (piece_of l.label) → Stands layout dropped rows l → is_in_label row cell l ≡ true
     holds l some stands =
-        let at = alone l.row l.cell (begins layout dropped rows l some (stands some)) in
-        inside l.row l.cell row cell (length l.label.text) at.0 at.1 some
+        let at = alone l.row l.cell (begins layout dropped rows l some (stands (shows_first l.label some))) in
+        let first : row - l.row ≡ 0 = omega (arith, at.0) in
+        inside l.row l.cell row cell (length (slice_index_or l.label.pieces (row - l.row) [])) at.0 at.1
+        (omega (arith, some, ap (λ (i : ℕ). length (slice_index_or l.label.pieces i [])) first))
       where
-        inside : (r c row cell n : ℕ) → r ≡ row → c ≡ cell → 0 < n → (r == row && (nat_le c cell && nat_lt cell (c + n))) ≡ true
+        inside : (r c row cell n : ℕ) → r ≡ row → c ≡ cell → 0 < n → (nat_le r row && (nat_le c cell && nat_lt cell (c + n))) ≡ true
         inside r c row cell n one two some = grind (arith, nat_tests, one, two, some)
 
     two : (p q : Bool) → p ≡ true → q ≡ true → cond p 1 0 + (cond q 1 0 + 0) ≤ 1 → ⊥
@@ -74,8 +92,8 @@ label_over_another decor layout s k dropped rows shows a b spans some_a some_b r
     over (l ∷ m ∷ []) are stand few =
         let first : l.label ≡ a = cc are in
         let second : m.label ≡ b = cc are in
-        let own : 0 < length l.label.text = omega (arith, some_a, ap (λ (x : SpanLabel). length x.text) first) in
-        let its : 0 < length m.label.text = omega (arith, some_b, ap (λ (x : SpanLabel). length x.text) second) in
+        let own : 0 < length (piece_of l.label) = omega (arith, some_a, ap (λ (x : SpanLabel). length (piece_of x)) first) in
+        let its : 0 < length (piece_of m.label) = omega (arith, some_b, ap (λ (x : SpanLabel). length (piece_of x)) second) in
         let f : ShownLabel → ℕ = λ x. cond (is_in_label row cell x) 1 0 in
         let P : ShownLabel → Type 0 = Stands layout dropped rows in
         two (is_in_label row cell l) (is_in_label row cell m) (holds l own (All-head P l (m ∷ []) stand))
@@ -89,22 +107,23 @@ label_over_another decor layout s k dropped rows shows a b spans some_a some_b r
 --       |
 --       | x
 pub stem_left_out : (decor : DecorStyle) (layout : Layout) (s : Snippet Annotation) (k dropped : ℕ) (rows : List (List Cell))
-    → (shows : ShowsLabels decor layout s k dropped rows) → (l : ShownLabel) → Contains shows.labels l → 0 < length l.label.text → (r : ℕ) → 0 < r
+    → (shows : ShowsLabels decor layout s k dropped rows) → (l : ShownLabel) → Contains shows.labels l → shows_any l.label.pieces ≡ true → (r : ℕ) → 0 < r
     → r < l.row → count_by (is_in_label r l.cell) shows.labels ≡ 0 → cell_at rows r l.cell ≡ SPACE → ⊥
 stem_left_out decor layout s k dropped rows shows l among some r below above none blank = grind (arith, false≢true, shows.labels, l.cell, shows.led)
 
 -- no span that ends on line k has a label that shows anything
-abbrev pub HasNoLabel : Snippet Annotation → ℕ → Type 0
-HasNoLabel s k = All (λ (l : SpanLabel). l.text ≡ []) (labels_ending_on s k)
+abbrev pub HasNoLabel : Bool → Snippet Annotation → ℕ → Type 0
+HasNoLabel cut s k = All (λ (l : SpanLabel). shows_any l.pieces ≡ false) (labels_ending_on cut s k)
 
 -- a word below a line of whose spans none has a label that shows anything, here in the role of labels:
 --
 --     1 | ab
 --       | ^^ x
 pub stray_word_below_a_line : (decor : DecorStyle) (layout : Layout) (s : Snippet Annotation) (k dropped : ℕ) (rows : List (List Cell))
-    → ShowsLabels decor layout s k dropped rows → HasNoLabel s k → (r c : ℕ) → layout.code ≤ c → is_label_role (cell_at rows r c).role ≡ true → ⊥
+    → ShowsLabels decor layout s k dropped rows → HasNoLabel layout.label_lines s k → (r c : ℕ) → layout.code ≤ c
+    → is_label_role (cell_at rows r c).role ≡ true → ⊥
 stray_word_below_a_line decor layout s k dropped rows shows none r c right label =
-    elim (shows.others r c right (no_cells shows.labels (subst (All (λ (l : SpanLabel). l.text ≡ [])) (sym shows.spans) none))) [
+    elim (shows.others r c right (no_cells shows.labels (subst (All (λ (l : SpanLabel). shows_any l.pieces ≡ false)) (sym shows.spans) none))) [
       | inl space ↦ false≢true (sym (ap (λ (cell : Cell). is_label_role cell.role) space) ∙ label)
       | inr stroke ↦ other_role (cell_at rows r c).role label stroke.1
     ]
@@ -116,15 +135,21 @@ stray_word_below_a_line decor layout s k dropped rows shows none r c right label
     other_role LabelSecondary is_label is_mark = cc is_mark
     other_role other is_label is_mark = cc
 
-    no_cell : (row cell n : ℕ) → n ≡ 0 → (row == r && (nat_le cell c && nat_lt c (cell + n))) ≡ false
+    no_piece : (ps : List (List ℕ)) (i : ℕ) → shows_any ps ≡ false → length (slice_index_or ps i []) ≡ 0
+    no_piece [] i none = refl
+    no_piece (p ∷ ps) zero none = grind (arith, nat_tests, none)
+    no_piece (p ∷ ps) (suc i) none = no_piece ps i (grind (arith, none))
+
+    no_cell : (row cell n : ℕ) → n ≡ 0 → (nat_le row r && (nat_le cell c && nat_lt c (cell + n))) ≡ false
     no_cell row cell n is = grind (arith, nat_tests, is)
 
-    no_cells : (labels : List ShownLabel) → All (λ (l : SpanLabel). l.text ≡ []) (map (λ (l : ShownLabel). l.label) labels)
+    no_cells : (labels : List ShownLabel) → All (λ (l : SpanLabel). shows_any l.pieces ≡ false) (map (λ (l : ShownLabel). l.label) labels)
         → count_by (is_in_label r c) labels ≡ 0
     no_cells [] empty = refl
     no_cells (l ∷ labels) empty =
-        let E : SpanLabel → Type 0 = λ x. x.text ≡ [] in
+        let E : SpanLabel → Type 0 = λ x. shows_any x.pieces ≡ false in
         let f : ShownLabel → ℕ = λ x. cond (is_in_label r c x) 1 0 in
         let rest : List SpanLabel = map (λ (x : ShownLabel). x.label) labels in
-        let here : f l ≡ 0 = ap (λ b. cond b 1 0) (no_cell l.row l.cell (length l.label.text) (ap length (All-head E l.label rest empty))) in
+        let here : f l ≡ 0 = ap (λ b. cond b 1 0) (no_cell l.row l.cell (length (slice_index_or l.label.pieces (r - l.row) []))
+        (no_piece l.label.pieces (r - l.row) (All-head E l.label rest empty))) in
         omega (arith, sum_by-cons f l labels, here, no_cells labels (All-tail E l.label rest empty))

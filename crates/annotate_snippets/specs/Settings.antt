@@ -21,6 +21,7 @@ plain_settings =
       context_after = 0;
       wrap = false;
       mask_controls = false;
+      label_lines = false;
     }
 
 -- the plain settings with the default sheet's codes in place of none, and with links

@@ -84,6 +84,8 @@ pub struct Renderer {
     pub wrap: bool,
     /// Whether controls are masked that could change how a terminal shows the text around them.
     pub mask_controls: bool,
+    /// Whether labels are cut at their line feeds, so that each line of a label stands in a row of its own.
+    pub label_lines: bool,
 }
 
 impl Renderer {

@@ -1,13 +1,14 @@
 -- Where the parts of a group's rows stand.
-use Rattle.std.specs.Prelude.{ℕ, ◌+◌}
+use Rattle.std.specs.Prelude.{ℕ, ◌+◌, Bool}
 use Rattle.snippet_style.specs.declared.glyphs.DecorStyle.{DecorStyle}
 
 -- where the parts of a group's rows stand, in cells from 0: line numbers are right-aligned in the cells of the gutter, and the source's
--- column 0 stands at the cell `code`; and the glyphs of its strokes
+-- column 0 stands at the cell `code`; the glyphs of its strokes; and whether a mark's label is cut at its line feeds
 pub record Layout : Type 0 where
   pub gutter : ℕ
   pub code : ℕ
   pub decor : DecorStyle
+  pub label_lines : Bool
 
 -- the cell of the separator, one right of the gutter
 abbrev pub separator_cell : Layout → ℕ

@@ -26,6 +26,8 @@ pub struct Layout {
     pub code: usize,
     /// The glyphs of the strokes.
     pub decor: DecorStyle,
+    /// Whether a mark's label is cut at its line feeds, so that each piece stands in a row of its own.
+    pub label_lines: bool,
 }
 
 impl Model for Layout {
@@ -39,7 +41,7 @@ impl Model for Layout {
 
     ghost invariant = { IsNarrow };
 
-    ghost inverse = { λ l. record { gutter = l.gutter; code = l.code; decor = l.decor } };
+    ghost inverse = { λ l. record { gutter = l.gutter; code = l.code; decor = l.decor; label_lines = l.label_lines } };
 }
 
 impl Layout {

@@ -3,11 +3,11 @@ use Rattle.snippet_labels.proofs.Common.{◌+◌, ◌-◌, ◌&&◌, ◌||◌, B
 use Rattle.snippet_labels.proofs.Common.{LineAnnotation, greatest, PlacedEntry, blocks, has_label, is_start_part, reaches, ◌≡◌, suc, ◌<◌, ◌≤◌}
 use Rattle.snippet_labels.proofs.Common.{◌^◌, ◌==◌, cond, nat_lt, None, Some, true, false, [], ◌∷◌, ◌++◌, length, drop, take, set, get_or}
 use Rattle.snippet_labels.proofs.Common.{refl, sym, ap, ◌∙◌, subst, arith, All, zero, list_all, list_any, position, position_or_len, zip, lt-ltb}
-use Rattle.snippet_labels.proofs.Common.{nat_tests, map-map, append_assoc, append-nil, drop_more, drop_all, take_more, take_more_set, take_all, length-map}
+use Rattle.snippet_labels.proofs.Common.{map-map, append_assoc, append-nil, drop_more, drop_all, take_more, take_more_set, take_all, length-map}
 use Rattle.snippet_labels.proofs.Common.{map_push, get_or-map, list_all-map, IsPermutation, All-permutation, IsPermutation-map, ordered_by, are_starts, crosses}
-use Rattle.snippet_labels.proofs.Common.{position_at, position_after, positions, line_positions, ArePlaced, IsFromRight, HasItsBytes, HasItsLabel, asks}
-use Rattle.snippet_labels.proofs.Common.{unplaced, is_placed_before, look_counts, looked_after, placed_of, list_any-map, All-map, shifted, rules}
-use Rattle.std.proofs.Common.{encode_utf8_all}
+use Rattle.snippet_labels.proofs.Common.{position_at, position_after, positions, line_positions, ArePlaced, IsFromRight, HasItsLabel, asks, label_pieces}
+use Rattle.snippet_labels.proofs.Common.{unplaced, is_placed_before, look_counts, looked_after, placed_of, list_any-map, All-map, All-head, All-tail, fold}
+use Rattle.snippet_labels.proofs.Common.{max, shifted, rules}
 
 -- Words for parts of where labels stand, which proofs cite.
 -- the characters that a label shows: normalised, and none where there is no label
@@ -35,13 +35,13 @@ abbrev pub flipped : List ℕ → List ℕ
 flipped ps = map (λ p. greatest ps - p) ps
 
 -- an entry with its label, at this position, for which so many were looked at
-abbrev pub placed_at : LineAnnotation × (ℕ × ℕ) → PlacedEntry
-placed_at found =
-    record { entry = found.0; label = encode_utf8_all (label_text found.0); position = found.1.0; looked = found.1.1 }
+abbrev pub placed_at : Bool → LineAnnotation × (ℕ × ℕ) → PlacedEntry
+placed_at cut found =
+    record { entry = found.0; label = label_pieces cut (label_text found.0); position = found.1.0; looked = found.1.1 }
 
 -- entries with their labels, none of which is placed yet
-abbrev pub labelled : List LineAnnotation → List PlacedEntry
-labelled es = map (λ e. placed_at (e, (0, 0))) es
+abbrev pub labelled : Bool → List LineAnnotation → List PlacedEntry
+labelled cut es = map (λ e. placed_at cut (e, (0, 0))) es
 
 -- the position of an entry whose label could stand after its mark: where a mark is in the way, and where none is
 pub position_at-crossed : (p : ℕ) (e : PlacedEntry) (others : List PlacedEntry) → p ≤ 0 → has_label e ≡ true → list_any (crosses e) others ≡ true
@@ -63,12 +63,6 @@ pub look_counts_more : (ns : List ℕ) (es : List PlacedEntry) (all : List ℕ) 
     → ns ++ look_counts reached (drop i es) ≡ all → let e = get_or es i d in let others = drop (i + 1) es in
     (ns ++ looked_after reached e others ∷ []) ++ look_counts (position_after (position_at reached e others) e others) others ≡ all
 look_counts_more ns es all i reached d within so_far = grind (arith, append_assoc, drop_more)
-
--- the position reached grows by one at most, from 1 on
-pub reached_low : (reached i : ℕ) (e : PlacedEntry) (others : List PlacedEntry) → reached ≤ i + 1
-    → position_after (position_at reached e others) e others ≤ i + 1 + 1
-reached_low reached i e others low =
-    grind (arith, nat_tests)
 
 -- a position, or a count, is given to one more entry
 pub placed_more : (f : PlacedEntry → ℕ) (es : List PlacedEntry) (ns : List ℕ) (i : ℕ) (e : PlacedEntry) → i < length es → i < length ns
@@ -111,6 +105,7 @@ no_position p xs none = ap (λ b. cond b (Some (position_or_len p xs)) None) (sy
 -- entries changed in what the rule of positions doesn't look at have the same positions
 module _ (f : PlacedEntry → PlacedEntry)
     (has : (e : PlacedEntry) → has_label (f e) ≡ has_label e)
+    (high : (e : PlacedEntry) → length (f e).label ≡ length e.label)
     (crossing : (e : PlacedEntry) → (λ (g : PlacedEntry). crosses (f e) (f g)) ≡ crosses e)
     (crowding : (p : ℕ) (e : PlacedEntry) → (λ (g : PlacedEntry). crowds p (f e) (f g)) ≡ crowds p e)
     (starting : (λ (e : PlacedEntry). is_start (f e)) ≡ is_start) where
@@ -121,7 +116,8 @@ module _ (f : PlacedEntry → PlacedEntry)
 
   position_after-changed : (p : ℕ) (e : PlacedEntry) (others : List PlacedEntry) → position_after p (f e) (map f others) ≡ position_after p e others
   position_after-changed p e others =
-      ap (λ b. cond b (p + 1) p) (list_any-map (crowds p (f e)) f others ∙ ap (λ q. list_any q others) (crowding p e))
+      ap (λ n. cond (list_any (crowds p (f e)) (map f others)) (p + n) p) (high e)
+      ∙ ap (λ b. cond b (p + length e.label) p) (list_any-map (crowds p (f e)) f others ∙ ap (λ q. list_any q others) (crowding p e))
 
   positions-changed : (p : ℕ) (es : List PlacedEntry) → positions p (map f es) ≡ positions p es
   positions-changed p [] = refl
@@ -172,10 +168,10 @@ entries_kept es fs kept =
 
 -- so positions don't depend on positions
 line_positions-unplaced : (es : List PlacedEntry) → line_positions (map unplaced es) ≡ line_positions es
-line_positions-unplaced = line_positions-changed unplaced (λ e. refl) (λ e. refl) (λ p e. refl) refl
+line_positions-unplaced = line_positions-changed unplaced (λ e. refl) (λ e. refl) (λ e. refl) (λ p e. refl) refl
 
 look_counts-unplaced : (es : List PlacedEntry) → look_counts 0 (map unplaced es) ≡ look_counts 0 es
-look_counts-unplaced = look_counts-changed unplaced (λ e. refl) (λ e. refl) (λ p e. refl) refl 0
+look_counts-unplaced = look_counts-changed unplaced (λ e. refl) (λ e. refl) (λ e. refl) (λ p e. refl) refl 0
 
 pub look_counts_kept : (es fs : List PlacedEntry) → map unplaced es ≡ map unplaced fs → look_counts 0 es ≡ look_counts 0 fs
 look_counts_kept es fs kept = sym (look_counts-unplaced es) ∙ ap (look_counts 0) kept ∙ look_counts-unplaced fs
@@ -188,23 +184,39 @@ pub written_back : (xs ys : List PlacedEntry) (len : ℕ) → len ≡ length ys 
 written_back xs ys len is kept = grind (arith, length-map, drop_all, append-nil, take_all)
 
 -- entries that were put in an order and got the positions of it are placed
-pub ArePlaced-from : (es : List LineAnnotation) (labelled sorted placed : List PlacedEntry)
-    → map (λ (e : PlacedEntry). e.entry) labelled ≡ es → All HasItsLabel labelled → All HasItsBytes labelled → IsPermutation labelled sorted
+pub ArePlaced-from : (cut : Bool) (es : List LineAnnotation) (labelled sorted placed : List PlacedEntry)
+    → map (λ (e : PlacedEntry). e.entry) labelled ≡ es → All (HasItsLabel cut) labelled → IsPermutation labelled sorted
     → map (λ (e : PlacedEntry). e.entry) sorted ≡ ordered_by is_placed_before (map (λ (e : PlacedEntry). e.entry) labelled)
     → IsFromRight (map (λ (e : PlacedEntry). e.entry) sorted) → map (λ (e : PlacedEntry). e.position) placed ≡ line_positions sorted
-    → map (λ (e : PlacedEntry). e.looked) placed ≡ look_counts 0 sorted → map unplaced placed ≡ map unplaced sorted → ArePlaced es placed
-ArePlaced-from es labelled sorted placed entries labels bytes same order ordered are counts kept =
+    → map (λ (e : PlacedEntry). e.looked) placed ≡ look_counts 0 sorted → map unplaced placed ≡ map unplaced sorted → ArePlaced cut es placed
+ArePlaced-from cut es labelled sorted placed entries labels same order ordered are counts kept =
     let f : PlacedEntry → LineAnnotation = λ e. e.entry in
     record {
       order = entries_kept placed sorted kept ∙ order ∙ ap (ordered_by is_placed_before) entries;
       same = subst (IsPermutation es) (sym (entries_kept placed sorted kept))
           (subst (λ xs. IsPermutation xs (map f sorted)) entries (IsPermutation-map f labelled sorted same));
       from_right = subst IsFromRight (sym (entries_kept placed sorted kept)) ordered;
-      labels = each_kept HasItsLabel placed sorted (λ e has. has) (λ e has. has) kept (All-permutation HasItsLabel labelled sorted same labels);
-      bytes = each_kept HasItsBytes placed sorted (λ e has. has) (λ e has. has) kept (All-permutation HasItsBytes labelled sorted same bytes);
+      labels = each_kept (HasItsLabel cut) placed sorted (λ e has. has) (λ e has. has) kept
+          (All-permutation (HasItsLabel cut) labelled sorted same labels);
       positions_are = are ∙ sym (line_positions_kept placed sorted kept);
       looked_are = counts ∙ sym (look_counts_kept placed sorted kept);
     }
+
+-- positions that are flipped are no lower than those given
+greatest_from : (ps : List ℕ) (m n : ℕ) → m ≤ n → All (λ q. q ≤ n) ps → fold (λ m n. max m n) m ps ≤ n
+greatest_from [] m n low all = low
+greatest_from (p ∷ ps) m n low all =
+    let here : p ≤ n = All-head (λ q. q ≤ n) p ps all in
+    greatest_from ps (max m p) n (omega arith) (All-tail (λ q. q ≤ n) p ps all)
+
+-- positions on a line are within a bound where those that are given out are
+pub line_positions_low : (n : ℕ) (es : List PlacedEntry) → All (λ q. q ≤ n) (positions 0 es) → All (λ q. q ≤ n) (line_positions es)
+line_positions_low n es all =
+    elim (are_starts es) as (λ b. All (λ q. q ≤ n) (cond b (flipped (positions 0 es)) (positions 0 es))) [
+      | true ↦ All-map (λ q. q ≤ n) (λ p. greatest (positions 0 es) - p) (positions 0 es) (λ k d within.
+          omega (arith, greatest_from (positions 0 es) 0 n (omega arith) all))
+      | false ↦ all
+    ]
 
 -- ---- entries that ask for no row
 
@@ -229,7 +241,7 @@ pub position_after-front : (p : ℕ) (e : PlacedEntry) (others : List PlacedEntr
     → ((k : ℕ) (d : PlacedEntry) → n ≤ k → k < length others → asks (get_or others k d) ≡ false)
     → position_after p e (take n others) ≡ position_after p e others
 position_after-front p e others n none =
-    ap (λ b. cond b (p + 1) p) (any_front (crowds p e) n others (λ k d past within. uncrowding p e (get_or others k d) (none k d past within)))
+    ap (λ b. cond b (p + length e.label) p) (any_front (crowds p e) n others (λ k d past within. uncrowding p e (get_or others k d) (none k d past within)))
 
 -- shifted entries end no farther right
 pub shifted_narrow : (dropped : ℕ) (es : List LineAnnotation) → All (λ e. e.end.display < 2 ^ 60) es
@@ -240,15 +252,15 @@ shifted_narrow dropped es narrow =
 -- ---- placed entries as a value
 
 -- they are made one by one, each from its entry and its place
-pub placed_of-at : (es : List LineAnnotation) → let ordered = ordered_by is_placed_before es in
-    placed_of es ≡ map placed_at (zip ordered (zip (line_positions (labelled ordered)) (look_counts 0 (labelled ordered))))
-placed_of-at es =
+pub placed_of-at : (cut : Bool) (es : List LineAnnotation) → let ordered = ordered_by is_placed_before es in
+    placed_of cut es ≡ map (placed_at cut) (zip ordered (zip (line_positions (labelled cut ordered)) (look_counts 0 (labelled cut ordered))))
+placed_of-at cut es =
     let ordered = ordered_by is_placed_before es in
-    each ordered (zip (line_positions (labelled ordered)) (look_counts 0 (labelled ordered)))
+    each ordered (zip (line_positions (labelled cut ordered)) (look_counts 0 (labelled cut ordered)))
   where
     each : (xs : List LineAnnotation) (at : List (ℕ × ℕ))
-        → map (λ (found : PlacedEntry × (ℕ × ℕ)). record found.0 { position = found.1.0; looked = found.1.1 }) (zip (labelled xs) at)
-        ≡ map placed_at (zip xs at)
+        → map (λ (found : PlacedEntry × (ℕ × ℕ)). record found.0 { position = found.1.0; looked = found.1.1 }) (zip (labelled cut xs) at)
+        ≡ map (placed_at cut) (zip xs at)
     each [] at = refl
     each (x ∷ xs) [] = refl
-    each (x ∷ xs) (p ∷ at) = ap (λ ys. placed_at (x, p) ∷ ys) (each xs at)
+    each (x ∷ xs) (p ∷ at) = ap (λ ys. placed_at cut (x, p) ∷ ys) (each xs at)

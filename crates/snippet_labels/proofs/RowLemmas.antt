@@ -6,7 +6,7 @@ use Rattle.snippet_labels.proofs.Common.{filter_agree, ordered_by, map-ordered_b
 use Rattle.snippet_labels.proofs.Common.{IsFromRight, ◌-◌, cond, ◌++◌, drop, reverse, refl, All, list_any, range_with_len, IsPermutation, and-false}
 use Rattle.snippet_labels.proofs.Common.{cond-true, append_assoc, append-nil, drop_more, length-reverse, map_push, reverse-append, reverse-reverse, All-append}
 use Rattle.snippet_labels.proofs.Common.{All-cons, All-head, All-nil, All-tail, list_any_none, IsPermutation-reverse, put_in, range-pushed, are_starts, crosses}
-use Rattle.snippet_labels.proofs.Common.{has_label, line_positions, ArePlaced, FitsLeftOf, HasItsBytes, HasItsLabel, StandInRow, look_counts, looked_after}
+use Rattle.snippet_labels.proofs.Common.{has_label, line_positions, ArePlaced, FitsLeftOf, HasItsLabel, StandInRow, look_counts, looked_after}
 use Rattle.snippet_labels.proofs.Common.{position_after, position_at, positions, rules, takes_space}
 use Rattle.snippet_labels.proofs.PlacedLemmas.{no_position, crowds}
 
@@ -40,7 +40,7 @@ here_0 e left stand =
     ap (λ b. cond ((0 == 0) && (has_label e && b)) 1 0) (row_uncrossed e left stand) ∙ ap (λ b. cond b 1 0) (and-false (has_label e))
 
 after_0 : (column : ℕ) (e : PlacedEntry) (left : List PlacedEntry) → StandInRow column (e ∷ left) → position_after 0 e left ≡ 0
-after_0 column e left stand = ap (λ b. cond b 1 0) (row_uncrowded column e left stand)
+after_0 column e left stand = ap (λ b. cond b (0 + length e.label) 0) (row_uncrowded column e left stand)
 
 -- so all stand at position 0
 positions_0 : (column : ℕ) (ps : List PlacedEntry) → StandInRow column ps → All (λ e. e.position ≡ 0) ps
@@ -169,11 +169,11 @@ counts_more n i some within =
     ∙ ap (λ m. reverse (range_with_len (i - 1) m)) (sym more)
 
 -- entries that are listed from the last to the first, and need one row, are placed
-pub ArePlaced-row : (es : List LineAnnotation) (column : ℕ) (ps : List PlacedEntry) → map (λ (e : PlacedEntry). e.entry) ps ≡ reverse es
-    → All HasItsLabel ps → All HasItsBytes ps → All (λ e. e.position ≡ 0) ps
-    → map (λ (e : PlacedEntry). e.looked) ps ≡ reverse (range_with_len 0 (length es)) → StandInRow column ps → ArePlaced es ps
+pub ArePlaced-row : (cut : Bool) (es : List LineAnnotation) (column : ℕ) (ps : List PlacedEntry) → map (λ (e : PlacedEntry). e.entry) ps ≡ reverse es
+    → All (HasItsLabel cut) ps → All (λ e. e.position ≡ 0) ps
+    → map (λ (e : PlacedEntry). e.looked) ps ≡ reverse (range_with_len 0 (length es)) → StandInRow column ps → ArePlaced cut es ps
 unfolding entry_of
-ArePlaced-row es column ps are labels bytes none looked stand =
+ArePlaced-row cut es column ps are labels none looked stand =
     let f : PlacedEntry → LineAnnotation = entry_of in
     let given : reverse (map f ps) ≡ es = ap reverse are ∙ reverse-reverse es in
     let count : length es ≡ length ps = sym (length-reverse es) ∙ ap length (sym are) ∙ length-map ps f in
@@ -182,7 +182,6 @@ ArePlaced-row es column ps are labels bytes none looked stand =
       same = subst (IsPermutation es) (sym are) (IsPermutation-reverse es);
       from_right = listed_from_right column ps (row_apart_begins column ps stand);
       labels = labels;
-      bytes = bytes;
       positions_are = line_positions_0 column ps stand none;
       looked_are = looked ∙ ap (λ n. reverse (range_with_len 0 n)) count ∙ sym (look_counts_down column ps stand);
     }

@@ -1,3 +1,5 @@
+pub mod LabelSize
+pub mod Pieces
 pub mod PlacedEntries
 pub mod Positions
 pub mod Placing

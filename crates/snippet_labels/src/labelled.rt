@@ -1,7 +1,8 @@
 //! The entries of a line, each with its label as it is drawn.
-ghost use Rattle.std.specs.Prelude.{◌≡◌, All, IfOk, chars, length, map, reverse};
+ghost use Rattle.std.specs.Prelude.{◌≡◌, All, IfOk, length, map, reverse};
 ghost use Rattle.std.specs.List.{range_with_len};
-ghost use Rattle.snippet_labels.specs.Placing.{HasItsBytes, HasItsLabel};
+ghost use Rattle.snippet_labels.specs.Pieces.{label_pieces};
+ghost use Rattle.snippet_labels.specs.Placing.{HasItsLabel};
 ghost use Rattle.snippet_labels.specs.PlacedEntries.{shifted};
 ghost use Rattle.snippet_text.specs.Normalized.{normalized_chars};
 
@@ -12,8 +13,9 @@ use snippet_text::normalized;
 use std::alloc::{AllocError, Global};
 use std::borrow::CowStr;
 
-/// The entries from the last that is given to the first, each with its label normalised. They are placed as those are
-/// that need one row: each at position 0, with all that were given before it looked at.
+/// The entries from the last that is given to the first, each with its label normalised, which may be cut at its line
+/// feeds. They are placed as those are that need one row: each at position 0, with all that were given before it looked
+/// at.
 ///
 /// # Errors
 ///
@@ -21,12 +23,12 @@ use std::borrow::CowStr;
 pub(crate) fn labelled_entries<'a>(
     alloc: Global,
     dropped: usize,
+    is_cut: bool,
     entries: &[LineAnnotation<'a>],
 ) -> Result<Vec<PlacedEntry<'a>>, AllocError>
     ensures entries { IfOk result (λ labelled. map (λ e. e.entry) labelled.items
         ≡ reverse (map (shifted dropped) entries.now)) }
-    ensures labels { IfOk result (λ labelled. All HasItsLabel labelled.items) }
-    ensures bytes { IfOk result (λ labelled. All HasItsBytes labelled.items) }
+    ensures labels { IfOk result (λ labelled. All (HasItsLabel is_cut) labelled.items) }
     ensures positions { IfOk result (λ labelled. All (λ e. e.position ≡ 0) labelled.items) }
     ensures looked { IfOk result (λ labelled. map (λ e. e.looked) labelled.items
         ≡ reverse (range_with_len 0 (length entries.now))) }
@@ -34,9 +36,7 @@ pub(crate) fn labelled_entries<'a>(
     let mut labelled = Vec::with_capacity(alloc, entries.len())?;
     for i in (0..entries.len()).rev() {
         let entry = &entries[i];
-        let label = shown_label(alloc, entry)?;
-        // it is a text, so its bytes are those of its characters
-        let _text = label.as_str();
+        let label = shown_label(alloc, is_cut, entry)?;
         labelled.push(PlacedEntry {
             entry: shifted(entry, dropped),
             label,
@@ -57,16 +57,20 @@ fn shifted<'a>(entry: &LineAnnotation<'a>, dropped: usize) -> LineAnnotation<'a>
     shifted
 }
 
-/// What an entry's label shows: its text, normalised, or nothing.
+/// What an entry's label shows: its text, normalised and cut at its line feeds or whole, or nothing.
 ///
 /// # Errors
 ///
 /// There is no memory for the text.
-fn shown_label<'a>(alloc: Global, entry: &LineAnnotation<'a>) -> Result<DrawnLabel<'a>, AllocError>
-    ensures shows { IfOk result (λ label. chars label ≡ normalized_chars entry.now.label) }
+fn shown_label<'a>(
+    alloc: Global,
+    is_cut: bool,
+    entry: &LineAnnotation<'a>,
+) -> Result<DrawnLabel<'a>, AllocError>
+    ensures shows { IfOk result (λ label. label ≡ label_pieces is_cut (normalized_chars entry.now.label)) }
 {
     match entry.label.text() {
-        Some(text) => Ok(DrawnLabel::new(normalized(alloc, text)?)),
-        None => Ok(DrawnLabel::new(CowStr::Borrowed(""))),
+        Some(text) => Ok(DrawnLabel::new(normalized(alloc, text)?, is_cut)),
+        None => Ok(DrawnLabel::new(CowStr::Borrowed(""), is_cut)),
     }
 }

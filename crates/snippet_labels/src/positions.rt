@@ -1,7 +1,7 @@
 //! Where the labels of a line stand: how far below the row of its marks each hangs.
 ghost use Rattle.std.specs.Prelude.{◌≡◌, ◌+◌, ◌-◌, ◌^◌, ◌<◌, ◌≤◌, ◌&&◌, ◌||◌, true, All, IfOk, IfSome, drop};
 ghost use Rattle.std.specs.Prelude.{length, slice_index_or};
-ghost use Rattle.std.specs.Prelude.{map, not, reverse, IsPermutation, OnOk};
+ghost use Rattle.std.specs.Prelude.{map, max, not, reverse, IsPermutation, OnOk};
 ghost use Rattle.snippet_lines.specs.OrderedBy.{ordered_by};
 ghost use Rattle.std.specs.List.{list_any, position};
 ghost use Rattle.snippet_labels.specs.Positions as spec;
@@ -11,7 +11,7 @@ ghost use Rattle.snippet_labels.specs.Placing.{ArePlaced, AsksBefore, BeginLeftO
 ghost use Rattle.snippet_labels.specs.Placing.{IsFromRight, StandInRow};
 ghost use Rattle.snippet_labels.specs.PlacedEntries.{shifted};
 ghost use Rattle.snippet_parts.specs.Least.{greatest};
-ghost use Rattle.snippet_style.specs.Bounds.{HasNext, IsColumn, IsUsize};
+ghost use Rattle.snippet_style.specs.Bounds.{IsColumn, IsRowNumber, IsUsize};
 
 use crate::drawn_label::DrawnLabel;
 use crate::labelled::labelled_entries;
@@ -22,6 +22,9 @@ use std::cmp::Reverse;
 /// How many columns stand free after a label, before the next one in its row.
 const GAP: usize = 2;
 
+/// There is memory for fewer rows, as a grid keeps a number for each.
+const MAX_ROWS: usize = 1 << 60;
+
 /// An entry of a line, with its label as it is drawn and the place where the label stands.
 #[derive(Debug, Drop)]
 pub struct PlacedEntry<'a> {
@@ -29,8 +32,8 @@ pub struct PlacedEntry<'a> {
     pub entry: LineAnnotation<'a>,
     /// Its label, normalised; empty where it has none to show.
     pub label: DrawnLabel<'a>,
-    /// At 0 the label stands after its mark; at n it hangs from it, in the row n + 1 below the row of the marks. The
-    /// line from the mark of a start or an end to its bar stands in the row n below that of the marks.
+    /// At 0 the label stands after its mark; at n it hangs from it, from the row n + 1 below the row of the marks on.
+    /// The line from the mark of a start or an end to its bar stands in the row n below that of the marks.
     pub position: usize,
     /// How many of the entries after it, which stand farther left, were looked at while its position was sought: all,
     /// or, where its label could still stand after its mark, those up to the first one that is in the way.
@@ -49,7 +52,7 @@ impl<'a> PlacedEntry<'a> {
     pub fn has_label(&self) -> bool
         ensures value { result ≡ spec.has_label self.now }
     {
-        !self.label.as_str().is_empty()
+        !self.label.is_empty()
     }
 
     /// Whether it is the start or the end of a span of several lines, so that a line leads from its mark to the span's
@@ -72,32 +75,39 @@ impl<'a> PlacedEntry<'a> {
 }
 
 /// The entries of a line from right to left, each with the place of its label, where this many columns of the line are
-/// dropped on the left.
+/// dropped on the left. Labels may be cut at their line feeds.
 ///
 /// ```text
 ///       | --^^--         the label of the entry farthest right may stand after its mark, at position 0
 ///       | | |
 ///       | | x            position 1
 ///       | f              position 2
+///
+///       | ---^^^ a       a label of two pieces at position 0
+///       | |      b
+///       | |
+///       | f              position 2
 /// ```
 ///
 /// # Errors
 ///
-/// There is no memory for the list or a label.
+/// There is no memory for the list or a label, nor could there be for so many rows.
 pub fn placed_entries<'a>(
     alloc: Global,
     dropped: usize,
+    is_cut: bool,
     entries: &[LineAnnotation<'a>],
 ) -> Result<Vec<PlacedEntry<'a>>, AllocError>
     requires columns { All (λ e. IsColumn e.end.display) entries.now }
-    ensures placed { IfOk result (λ placed. ArePlaced (map (shifted dropped) entries.now) placed.items) }
+    ensures placed { IfOk result (λ placed. ArePlaced is_cut (map (shifted dropped) entries.now) placed.items) }
+    ensures low { IfOk result (λ placed. All (λ e. IsRowNumber e.position) placed.items) }
 {
-    let mut placed = labelled_entries(alloc, dropped, entries)?;
+    let mut placed = labelled_entries(alloc, dropped, is_cut, entries)?;
     if stand_in_row(&placed) {
         return Ok(placed);
     }
     sort_from_right(&mut placed)?;
-    set_positions(&mut placed);
+    set_positions(&mut placed)?;
     Ok(placed)
 }
 
@@ -171,7 +181,7 @@ fn label_reach(placed: &PlacedEntry) -> usize
 {
     let end = placed.entry.end.display;
     if placed.has_label() {
-        end + (placed.label.as_str().len() + GAP)
+        end + (placed.label.width() + GAP)
     } else {
         end
     }
@@ -179,17 +189,23 @@ fn label_reach(placed: &PlacedEntry) -> usize
 
 /// Gives entries, from right to left, their positions. Where all are starts they are flipped, so that the line to the
 /// bar of the one farthest left stands highest.
-fn set_positions(entries: &mut [PlacedEntry])
+///
+/// # Errors
+///
+/// There could be no memory for so many rows.
+fn set_positions(entries: &mut [PlacedEntry]) -> Result<(), AllocError>
     requires columns { All (λ e. IsColumn e.entry.end.display) entries.old }
-    ensures placed { map (λ e. e.position) entries.new ≡ spec.line_positions entries.old }
-    ensures looked { map (λ e. e.looked) entries.new ≡ spec.look_counts 0 entries.old }
-    ensures kept { map placing.unplaced entries.new ≡ map placing.unplaced entries.old }
+    ensures placed { OnOk result (map (λ e. e.position) entries.new ≡ spec.line_positions entries.old) }
+    ensures looked { OnOk result (map (λ e. e.looked) entries.new ≡ spec.look_counts 0 entries.old) }
+    ensures kept { OnOk result (map placing.unplaced entries.new ≡ map placing.unplaced entries.old) }
+    ensures low { OnOk result (All IsRowNumber (spec.line_positions entries.old)) }
 {
     let flips = are_starts(entries);
-    set_label_positions(entries);
+    set_label_positions(entries)?;
     if flips {
         flip(entries);
     }
+    Ok(())
 }
 
 /// Whether each of these entries is the start of a span of several lines, and has no label to show.
@@ -236,39 +252,55 @@ fn greatest(entries: &[PlacedEntry]) -> usize
     greatest
 }
 
-/// Gives entries, from right to left, the positions of their labels. A label goes one row farther down than the last
-/// one where the row would not hold both, and the first one where a mark stands in its way.
-fn set_label_positions(entries: &mut [PlacedEntry])
+/// Gives entries, from right to left, the positions of their labels. A label goes below the last one where its rows
+/// would not hold both, and one row farther down where a mark stands in its way.
+///
+/// # Errors
+///
+/// There could be no memory for so many rows.
+fn set_label_positions(entries: &mut [PlacedEntry]) -> Result<(), AllocError>
     requires columns { All (λ e. IsColumn e.entry.end.display) entries.old }
-    ensures placed { map (λ e. e.position) entries.new ≡ spec.positions 0 entries.old }
-    ensures looked { map (λ e. e.looked) entries.new ≡ spec.look_counts 0 entries.old }
-    ensures kept { map placing.unplaced entries.new ≡ map placing.unplaced entries.old }
+    ensures placed { OnOk result (map (λ e. e.position) entries.new ≡ spec.positions 0 entries.old) }
+    ensures looked { OnOk result (map (λ e. e.looked) entries.new ≡ spec.look_counts 0 entries.old) }
+    ensures kept { OnOk result (map placing.unplaced entries.new ≡ map placing.unplaced entries.old) }
+    ensures low { OnOk result (All IsRowNumber (spec.positions 0 entries.old)) }
 {
     let end = askers_end(entries);
     let mut reached = 0;
     for i in 0..entries.len() {
-        let (here, after) = found_at(reached, entries, i, end);
+        let (here, after) = found_at(reached, entries, i, end)?;
         let placed = &mut entries[i];
         placed.position = here.position;
         placed.looked = here.looked;
         reached = after;
     }
+    Ok(())
 }
 
 /// What is found for the entry at place `i` of some, where this position is reached, and the position that is reached
 /// after it. Only entries before place `end` may ask for a row of their own.
-fn found_at(reached: usize, entries: &[PlacedEntry], i: usize, end: usize) -> (FoundPosition, usize)
+///
+/// # Errors
+///
+/// There could be no memory for so many rows.
+fn found_at(
+    reached: usize,
+    entries: &[PlacedEntry],
+    i: usize,
+    end: usize,
+) -> Result<(FoundPosition, usize), AllocError>
     requires within { i < length entries.now }
     requires columns { All (λ e. IsColumn e.entry.end.display) entries.now }
-    requires low { HasNext (reached + 1) }
+    requires low { IsRowNumber reached }
     requires none { AsksBefore end entries.now }
-    ensures position { (d : PlacedEntry) → result.0.position
-        ≡ spec.position_at reached (slice_index_or entries.now i d) (drop (i + 1) entries.now) }
-    ensures looked { (d : PlacedEntry) → result.0.looked
-        ≡ spec.looked_after reached (slice_index_or entries.now i d) (drop (i + 1) entries.now) }
-    ensures after { (d : PlacedEntry) → let e = slice_index_or entries.now i d in
+    ensures position { IfOk result (λ found. (d : PlacedEntry) → found.0.position
+        ≡ spec.position_at reached (slice_index_or entries.now i d) (drop (i + 1) entries.now)) }
+    ensures looked { IfOk result (λ found. (d : PlacedEntry) → found.0.looked
+        ≡ spec.looked_after reached (slice_index_or entries.now i d) (drop (i + 1) entries.now)) }
+    ensures after { IfOk result (λ found. (d : PlacedEntry) → let e = slice_index_or entries.now i d in
         let others = drop (i + 1) entries.now in
-        result.1 ≡ spec.position_after (spec.position_at reached e others) e others }
+        found.1 ≡ spec.position_after (spec.position_at reached e others) e others) }
+    ensures low { IfOk result (λ found. IsRowNumber found.0.position × IsRowNumber found.1) }
 {
     found_before(
         reached,
@@ -284,19 +316,20 @@ fn found_before(
     entry: &PlacedEntry,
     others: &[PlacedEntry],
     asking: usize,
-) -> (FoundPosition, usize)
+) -> Result<(FoundPosition, usize), AllocError>
     requires columns { All (λ e. IsColumn e.entry.end.display) others.now }
-    requires low { HasNext (reached + 1) }
+    requires low { IsRowNumber reached }
     requires none { AsksBefore asking others.now }
-    ensures position { result.0.position ≡ spec.position_at reached entry.now others.now }
-    ensures looked { result.0.looked ≡ spec.looked_after reached entry.now others.now }
-    ensures after { result.1
-        ≡ spec.position_after (spec.position_at reached entry.now others.now) entry.now others.now }
+    ensures position { IfOk result (λ found. found.0.position ≡ spec.position_at reached entry.now others.now) }
+    ensures looked { IfOk result (λ found. found.0.looked ≡ spec.looked_after reached entry.now others.now) }
+    ensures after { IfOk result (λ found. found.1
+        ≡ spec.position_after (spec.position_at reached entry.now others.now) entry.now others.now) }
+    ensures low { IfOk result (λ found. IsRowNumber found.0.position × IsRowNumber found.1) }
 {
     let here = position_at(reached, entry, others);
     let asking = asking.min(others.len());
-    let after = position_after(here.position, entry, &others[..asking]);
-    (here, after)
+    let after = position_after(here.position, entry, &others[..asking])?;
+    Ok((here, after))
 }
 
 /// Where the last of these entries ends that may ask for a row of its own: none after it does.
@@ -325,6 +358,7 @@ fn position_at(reached: usize, entry: &PlacedEntry, others: &[PlacedEntry]) -> F
     requires columns { All (λ e. IsColumn e.entry.end.display) others.now }
     ensures value { result.position ≡ spec.position_at reached entry.now others.now }
     ensures looked { result.looked ≡ spec.looked_after reached entry.now others.now }
+    ensures low { result.position ≤ max reached 1 }
 {
     if reached > 0 || !entry.has_label() {
         return FoundPosition {
@@ -355,15 +389,39 @@ fn first_in_the_way(entry: &PlacedEntry, others: &[PlacedEntry]) -> Option<usize
 }
 
 /// The position that is reached after an entry that has this one.
-fn position_after(position: usize, entry: &PlacedEntry, others: &[PlacedEntry]) -> usize
+///
+/// # Errors
+///
+/// There could be no memory for so many rows.
+fn position_after(
+    position: usize,
+    entry: &PlacedEntry,
+    others: &[PlacedEntry],
+) -> Result<usize, AllocError>
     requires columns { All (λ e. IsColumn e.entry.end.display) others.now }
-    requires low { HasNext position }
-    ensures value { result ≡ spec.position_after position entry.now others.now }
+    requires low { IsRowNumber position }
+    ensures value { IfOk result (λ after. after ≡ spec.position_after position entry.now others.now) }
+    ensures low { IfOk result IsRowNumber }
 {
     if is_crowded(position, entry, others) {
-        position + 1
+        position_below(position, entry.label.height())
     } else {
-        position
+        Ok(position)
+    }
+}
+
+/// The position that is so many rows below this one.
+///
+/// # Errors
+///
+/// There could be no memory for so many rows.
+fn position_below(position: usize, height: usize) -> Result<usize, AllocError>
+    ensures value { IfOk result (λ below. below ≡ position + height) }
+    ensures low { IfOk result IsRowNumber }
+{
+    match position.checked_add(height) {
+        Some(below) if below < MAX_ROWS => Ok(below),
+        _ => Err(AllocError),
     }
 }
 
@@ -409,7 +467,7 @@ fn reaches(position: usize, entry: &PlacedEntry, other: &PlacedEntry) -> bool
     ensures value { result ≡ spec.reaches position entry.now other.now }
 {
     other.has_label()
-        && overlap(other, other.label.as_str().len() + GAP, entry)
+        && overlap(other, other.label.width() + GAP, entry)
         && (entry.has_label() || (position == 0 && ends_no_later(other, entry)))
 }
 

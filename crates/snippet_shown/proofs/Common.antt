@@ -68,7 +68,7 @@ unfoldable pub use Rattle.snippet_text.specs.Normalized.{norm}
 pub use Rattle.snippet_text.specs.Width.{width_of}
 unfoldable pub use Rattle.snippet_text.specs.Width.{char_width}
 pub use Rattle.snippet_titles.proofs.FreeLemmas.{IsUnlisted, indent-all, label-all}
-pub use Rattle.snippet_titles.proofs.SplitLemmas.{lines_at-after}
+pub use Rattle.snippet_text.proofs.SplitLemmas.{lines_at-after}
 pub use Rattle.snippet_titles.proofs.TextLemmas.{row_text-append, row_text-spaces}
 pub use Rattle.snippet_titles.specs.HeadingRows.{heading_label_text, heading_lines, indent_cells, label_width, note_bar_of, sign_cells}
 pub use Rattle.snippet_titles.specs.ShownHeading.{heading_texts, texts_below}

@@ -9,11 +9,13 @@ use Rattle.snippet_strokes.proofs.Common.{and-false, and-true, drop-append_seam,
 use Rattle.snippet_strokes.proofs.Common.{sum_by-IsPermutation, AllPass-from_list_all, LineAnnotation, is_wide_entry, placeholder_of, DecorStyle, row_at, Cell}
 use Rattle.snippet_strokes.proofs.Common.{SPACE, written, take-written_past, drop-written, Layout, PlacedEntry, IsBarCell, IsFreeCell, IsFree, row_count}
 use Rattle.snippet_strokes.proofs.Common.{HasRows, bare_row, separator_row, painting_order, ArePlaced, get_or-map, length-map, Contains-get_or}
-use Rattle.snippet_strokes.proofs.Common.{IsPermutation-sym, AnnotationKind, IsMarkGlyph, underline_role, cell_at, IsMarkCell, takes_space, mark_end, not}
-use Rattle.snippet_strokes.proofs.Common.{All-nil, All-cons, length_permutation, label_text, has_label, positions, line_positions, entries_all, rules}
+use Rattle.snippet_strokes.proofs.Common.{IsPermutation-sym, AnnotationKind, IsMarkGlyph, underline_role, cell_at, IsMarkCell, takes_space, mark_end}
+use Rattle.snippet_strokes.proofs.Common.{All-nil, All-cons, length_permutation, label_pieces, label_text, shows_any, has_label, positions, line_positions}
+use Rattle.snippet_strokes.proofs.Common.{entries_all, rules}
 use Rattle.snippet_strokes.proofs.Common.{is_primary}
 use Rattle.snippet_strokes.proofs.SeenRows.{are_plain, is_single, wide_entries, IsCut, IsStrokeRow, EntryCovers, IsEntryMark}
-use Rattle.snippet_strokes.proofs.PositionLemmas.{HasRows-row_count, row_count_some, line_positions_low, of_positions, positions_sole}
+use Rattle.snippet_labels.proofs.PlacedLemmas.{line_positions_low}
+use Rattle.snippet_strokes.proofs.PositionLemmas.{HasRows-row_count, row_count_some, of_positions, positions_sole}
 use Rattle.snippet_strokes.proofs.PaintOrder.{IsPermutation-painting_order}
 use Rattle.snippet_strokes.proofs.PaintedMarks.{CoversOver, AreMarked, IsPaintedAt, mark_cell}
 
@@ -130,9 +132,9 @@ wide_entries-permutation room decor es fs same =
     sum_by-IsPermutation (λ e. cond (is_wide_entry room (length (placeholder_of decor)) e) 1 0) es fs same
 
 -- and in the order of painting
-pub wide_entries-order : (room : ℕ) (decor : DecorStyle) (es : List LineAnnotation) (placed : List PlacedEntry) → ArePlaced es placed
+pub wide_entries-order : (cut : Bool) (room : ℕ) (decor : DecorStyle) (es : List LineAnnotation) (placed : List PlacedEntry) → ArePlaced cut es placed
     → wide_entries room decor (map (λ (e : PlacedEntry). e.entry) (painting_order placed)) ≡ wide_entries room decor es
-wide_entries-order room decor es placed are = search (rules, wide_entries-permutation, IsPermutation-trans, IsPermutation-map, IsPermutation-painting_order)
+wide_entries-order cut room decor es placed are = search (rules, wide_entries-permutation, IsPermutation-trans, IsPermutation-map, IsPermutation-painting_order)
 
 -- a row of which stretches gave their place to the placeholder: left of the code it stays
 pub cut_left : (layout : Layout) (wide : ℕ) (whole row : List Cell) → IsCut layout wide whole row → (c : ℕ) → c < layout.code
@@ -170,10 +172,11 @@ pub rows_begun : (old begun : List (List Cell)) (sep end : List Cell) (count : �
 rows_begun old begun sep end count some begins = grind (arith, length_push, length-append, length-replicate)
 
 -- and each entry has the rows that it needs, as long as no row is added or taken
-pub rows_ready : (placed : List PlacedEntry) (old begun : List (List Cell)) (sep end : List Cell) (count row long : ℕ) → count ≡ row_count placed
-    → row ≡ length old → begun ≡ old ++ replicate (count - 1) sep ++ end ∷ [] → long ≡ length begun → All (HasRows row long) placed
-rows_ready placed old begun sep end count row long is last begins same =
-    HasRows-row_count row long placed (omega (arith, same, rows_begun old begun sep end count (omega (arith, is, row_count_some placed)) begins, last, is))
+pub rows_ready : (placed : List PlacedEntry) (old begun : List (List Cell)) (sep end : List Cell) (count row long : ℕ)
+    → All (λ e. 0 < length e.label) placed → count ≡ row_count placed → row ≡ length old
+    → begun ≡ old ++ replicate (count - 1) sep ++ end ∷ [] → long ≡ length begun → All (HasRows row long) placed
+rows_ready placed old begun sep end count row long some is last begins same =
+    HasRows-row_count row long placed some (omega (arith, same, rows_begun old begun sep end count (omega (arith, is, row_count_some placed)) begins, last, is))
 
 -- What entries that were painted in order show below each column.
 -- two kinds that are drawn alike have the same mark cells
@@ -223,7 +226,7 @@ mark_shown layout es placed row old new plain same marked p kind mark =
     (subst (IsMarkCell layout.decor top.entry.kind) (sym shows.holds) (IsMarkCell-mark_cell layout top (layout.code + p) (spaceless top top_plain)))
 
 -- The entries of a line as they are placed: the one entry of a line, and lines that take one row.
-module _ (es : List LineAnnotation) (placed : List PlacedEntry) (is : ArePlaced es placed) where
+module _ (cut : Bool) (es : List LineAnnotation) (placed : List PlacedEntry) (is : ArePlaced cut es placed) where
   abbrev f : PlacedEntry → LineAnnotation
   f e = e.entry
 
@@ -232,7 +235,11 @@ module _ (es : List LineAnnotation) (placed : List PlacedEntry) (is : ArePlaced 
   unlabelled none =
       λ k d within.
       let own : label_text (get_or placed k d).entry ≡ [] = entries_all (λ e. label_text e ≡ []) es placed is.same none k d within in
-      ap (λ (cs : List ℕ). not (length cs == 0)) (is.labels k d within ∙ own)
+      ap shows_any (is.labels k d within ∙ ap (label_pieces cut) own) ∙ empty cut
+    where
+      empty : (cut : Bool) → shows_any (label_pieces cut []) ≡ false
+      empty true = refl
+      empty false = refl
 
   -- where positions are 0 in their order, so are those of the line
   highest : All (λ q. q ≤ 0) (positions 0 placed) → All (λ (x : PlacedEntry). x.position ≤ 0) placed

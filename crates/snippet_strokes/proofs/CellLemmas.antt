@@ -9,7 +9,7 @@ use Rattle.snippet_strokes.proofs.Common.{length-written, is_listed, norm, IsFre
 use Rattle.snippet_strokes.proofs.Common.{chars_some, Layout, with_bars, part_glyph, BarStroke, OpenBar, bar_cell, bar_cell_part, Write, if◌then◌else◌}
 use Rattle.snippet_strokes.proofs.Common.{flat_map, code_cell, PlacedEntry, is_primary, strokes_of, stroke_role, stems_of, connector_of, corner_of, label_of}
 use Rattle.snippet_strokes.proofs.Common.{first_glyph, mark_end, connectors_of, corners_of, labels_of, glyph_at, stretch_of, Bool, ◌&&◌, option_map_or}
-use Rattle.snippet_strokes.proofs.Common.{inner_cell, label_role, label_text, is_start_part, label_place, LineAnnotationType, gives_way, separator_row, bar_at}
+use Rattle.snippet_strokes.proofs.Common.{inner_cell, is_start_part, LineAnnotationType, gives_way, separator_row, bar_at}
 use Rattle.snippet_strokes.proofs.Common.{foot_glyph, bare_row, column_of, list_any, LineAnnotation, UnderlinePrimary, UnderlineSecondary, highlights}
 use Rattle.snippet_strokes.proofs.Common.{replaced_within, rules}
 use Rattle.std.proofs.Common.{chars}
@@ -187,11 +187,6 @@ nothing_shown [] none = ap norm chars-nil
 nothing_shown (c ∷ cs) none = absurd (omega (arith, none))
 
 -- Words for the parts of the strokes of a line, which proofs cite.
--- the label of an entry
-abbrev pub label_write : Layout → ℕ → PlacedEntry → Write
-label_write layout row e =
-    record { row = row + (label_place e).0; cell = code_cell layout (label_place e).1; text = label_text e.entry; role = label_role e.entry.kind }
-
 -- the stem of an entry, so many rows below the row of the marks
 abbrev pub stem_write : Layout → ℕ → PlacedEntry → ℕ → Write
 stem_write layout row e below =

@@ -15,10 +15,12 @@ pub use Rattle.snippet_grid.specs.StyledChars.{cell_of}
 pub use Rattle.snippet_grid.specs.declared.styled_char.StyledChar.{StyledChar}
 pub use Rattle.snippet_labels.proofs.CharLemmas.{norm_short, is_empty-chars}
 pub use Rattle.snippet_labels.proofs.PlacedLemmas.{label_text, crowds, flipped, label_chars, labelled, placed_at, entries_all, placed_of-at, ArePlaced-from}
+pub use Rattle.snippet_labels.proofs.PlacedLemmas.{is_start}
 pub use Rattle.snippet_labels.proofs.PlacedLemmas.{line_positions-changed, look_counts-changed}
 pub use Rattle.snippet_labels.proofs.RowLemmas.{sorted_same, stable_same}
 pub use Rattle.snippet_labels.specs.PlacedEntries.{shifted, label_role, is_end_part, entry_width}
-pub use Rattle.snippet_labels.specs.Placing.{ArePlaced, HasPlace, HasItsLabel, HasItsBytes, unplaced, IsFromRight, StandsLeft}
+pub use Rattle.snippet_labels.specs.Pieces.{label_pieces, label_width, shows_any}
+pub use Rattle.snippet_labels.specs.Placing.{ArePlaced, HasPlace, HasItsLabel, unplaced, IsFromRight, StandsLeft}
 pub use Rattle.snippet_labels.specs.Positions.{has_label, has_stem, label_place, is_start_part, takes_space, placed_of, line_positions, do_overlap, position_at}
 pub use Rattle.snippet_labels.specs.Positions.{position_after, positions, look_counts, is_placed_before, crosses, are_starts}
 pub use Rattle.snippet_labels.specs.declared.positions.PlacedEntry.{PlacedEntry}
@@ -50,7 +52,7 @@ pub use Rattle.snippet_strokes.specs.BegunRow.{begun_cells, ended_cells}
 pub use Rattle.snippet_strokes.specs.CellRows.{cells_of}
 pub use Rattle.snippet_strokes.specs.Cuts.{overlapped, is_cut, cut_middle, sees}
 pub use Rattle.snippet_strokes.specs.Drawable.{HasBarCell, AreDrawable, IsReady, HasBarCellAt}
-pub use Rattle.snippet_strokes.specs.Drawing.{row_count}
+pub use Rattle.snippet_strokes.specs.Drawing.{row_count, rows_below}
 pub use Rattle.snippet_strokes.specs.DrawnBars.{bar_cell_part, is_whole_line, HasBarRoom, barred, has_depth, bar_of, StandsBeside, bar_glyph, open_below}
 pub use Rattle.snippet_strokes.specs.DrawnBars.{HasOwnDepth, changed_from, part_glyph}
 pub use Rattle.snippet_strokes.specs.DrawnStems.{stems_of, is_stem_covered}
@@ -61,13 +63,14 @@ pub use Rattle.snippet_strokes.specs.Labels.{IsStrokeCell, IsStemCell, stroke_gl
 pub use Rattle.snippet_strokes.specs.LineRows.{own_rows, line_rows}
 pub use Rattle.snippet_strokes.specs.LookedCuts.{is_wide_at, look_ends, overlapped_by, is_met, meets}
 pub use Rattle.snippet_strokes.specs.PaintedStrokes.{mark_end, labels_of, connectors_of, corners_of, first_glyph, foot_glyph, tops_of, strokes_under_marks}
-pub use Rattle.snippet_strokes.specs.PaintedStrokes.{top_of, lowest_position}
+pub use Rattle.snippet_strokes.specs.PaintedStrokes.{top_of}
 pub use Rattle.snippet_strokes.specs.Painting.{painting_order, stroke_role, mark_of, is_painted_before}
 pub use Rattle.snippet_strokes.specs.Places.{HasRows, AreEnough, HasPlaceAmong}
 pub use Rattle.snippet_strokes.specs.Snippet.{gap_row}
 pub use Rattle.snippet_strokes.specs.SourceRows.{bare_row, window_cells, source_row, with_cells}
 pub use Rattle.snippet_strokes.specs.StrokeRows.{highlighted_row, highlights, bare_elision_row, IsElisionRow}
-pub use Rattle.snippet_strokes.specs.Strokes.{label_of, column_of, corner_of, connector_of, stem_of, is_uncut, stroke_rows, line_strokes, cut_pairs}
+pub use Rattle.snippet_strokes.specs.Strokes.{label_of, column_of, corner_of, connector_of, stem_of, is_uncut, stroke_rows, line_strokes, cut_pairs, piece_at}
+pub use Rattle.snippet_strokes.specs.Strokes.{pieces_at}
 pub use Rattle.snippet_strokes.specs.Writes.{painted, Write, glyph_at, stretch_of}
 pub use Rattle.snippet_strokes.specs.declared.bars.BarStroke.{BarStroke}
 pub use Rattle.snippet_strokes.specs.declared.bars.BarStroke.TheVariants.{Solid, Top, Dotted}

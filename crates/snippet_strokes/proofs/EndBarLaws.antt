@@ -15,6 +15,7 @@ use Rattle.snippet_strokes.proofs.WriteLaws.{AreLineRows, StrokesPainted}
 use Rattle.snippet_strokes.proofs.LineFromValue.{rows_cut}
 use Rattle.snippet_strokes.proofs.AmongLaws.{all_from_among, among_contains, contains_among, filter_map_cases}
 use Rattle.snippet_strokes.proofs.BarRows.{bar_stands, drawn_beside}
+use Rattle.snippet_strokes.proofs.PieceWrites.{labels_some}
 use Rattle.snippet_strokes.proofs.PositionLemmas.{HasRows-row_count}
 use Rattle.snippet_strokes.proofs.EntryBarLaws.{end_drawn, is_at, last_passing, last_stands, start_drawn}
 
@@ -64,7 +65,8 @@ module _ (layout : Layout) (bar : Bar) (room : layout.gutter + 2 + bar.depth < l
       let kinds : All (λ (f : PlacedEntry). IsItsPart part f.entry) placed = entries_all (IsItsPart part) moved placed drawn.are.same
       (All-map (IsItsPart part) (shifted dropped) es known) in
       let its = All-contains (λ (f : PlacedEntry). IsItsPart part f.entry) placed last.one kinds last.among last.passes in
-      let lower = All-contains (HasRows 1 (1 + row_count placed)) placed last.one (HasRows-row_count 1 (1 + row_count placed) placed refl) last.among in
+      let lower = All-contains (HasRows 1 (1 + row_count placed)) placed last.one (HasRows-row_count 1 (1 + row_count placed) placed
+      (labels_some layout.label_lines moved placed drawn.are) refl) last.among in
       let left = last_stands layout bar room count placed order begun last.before last.one last.after last.split last.none in
       record {
         entry = last.one;

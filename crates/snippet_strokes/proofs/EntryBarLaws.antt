@@ -7,10 +7,11 @@ use Rattle.snippet_strokes.proofs.Common.{All-cons, All-nil, All-weaker, Cell, S
 use Rattle.snippet_strokes.proofs.Common.{is_primary, LineAnnotationType, Singleline, MultilineStart, MultilineEnd, MultilineLine, contains-here}
 use Rattle.snippet_strokes.proofs.Common.{contains-there, Layout, PlacedEntry, stroke_role, Write, glyph_at, painted, stretch_of, Solid, Bar, column_of}
 use Rattle.snippet_strokes.proofs.Common.{corner_of, label_of, bar_cell_part, first_glyph, mark_end, connectors_of, corners_of, labels_of, stems_of, sym}
-use Rattle.snippet_strokes.proofs.Common.{map-range_with_len_more, text_cells, cells_written, label_role, label_text, has_label, label_place, foot_glyph, rules}
+use Rattle.snippet_strokes.proofs.Common.{map-range_with_len_more, text_cells, cells_written, piece_at, foot_glyph, nat_tests}
 use Rattle.std.specs.Prelude.{nat_lt}
 use Rattle.snippet_strokes.proofs.CellLemmas.{written_by, corner_by, bar_writes, drawn_mark, drawn_strokes, marks_of, stem_write, drawn_under_marks}
-use Rattle.snippet_strokes.proofs.WriteLaws.{painted-append, All-label_of, All-flat_map, cell-unwritten, cell-written, painted-last, painted-untouched}
+use Rattle.snippet_strokes.proofs.PieceWrites.{All-label_of}
+use Rattle.snippet_strokes.proofs.WriteLaws.{painted-append, All-flat_map, cell-unwritten, cell-written, painted-last, painted-untouched}
 use Rattle.snippet_strokes.proofs.BarFacts.{end_corner, start_corner}
 use Rattle.snippet_strokes.proofs.Reach.{Reaches}
 use Rattle.snippet_strokes.proofs.BarWrites.{All-column_of, All-stretch_of, All-stems_of, All-stem_of}
@@ -123,7 +124,7 @@ module _ (layout : Layout) (bar : Bar) (room : layout.gutter + 2 + bar.depth < l
   pub labels_right : (r : ℕ) → All (Leaves r) (labels_of layout 1 placed)
   labels_right r =
       All-flat_map (Leaves r) (label_of layout 1) placed (λ k d within.
-      All-label_of (Leaves r) layout 1 (get_or placed k d) (λ has there. omega (arith, there.from, room)))
+      All-label_of (Leaves r) layout 1 (get_or placed k d) (λ n _ _ there. omega (arith, there.from, room)))
 
   -- and marks
   pub marks_right : (r : ℕ) → All (Leaves r) (marks_of layout 1 order)
@@ -261,12 +262,18 @@ module _ (layout : Layout) (bar : Bar) (room : layout.gutter + 2 + bar.depth < l
       )
 
 -- Labels, stems, columns and all strokes of a line, as writes one after another.
--- a label is written where the entry has one
-pub label_painted : (layout : Layout) (row : ℕ) (e : PlacedEntry) (place : ℕ × ℕ) (role : ElementStyle) (text : List ℕ) (old new : List (List Cell))
-    → place ≡ label_place e → role ≡ label_role e.entry.kind → text ≡ label_text e.entry
-    → (has_label e ≡ true → new ≡ cells_written old (row + place.0) (layout.code + place.1) (text_cells role text))
-    → (has_label e ≡ false → new ≡ old) → new ≡ painted (label_of layout row e) old
-label_painted layout row e place role text old new is_place is_role is_text writes stays = search rules
+-- a piece is written, if it isn't empty
+pub piece_painted : (row cell : ℕ) (role : ElementStyle) (text bytes : List ℕ) (old new : List (List Cell)) → (0 < length bytes → 0 < length text)
+    → (bytes ≡ [] → text ≡ []) → (0 < length bytes → new ≡ cells_written old row cell (text_cells role text)) → (bytes ≡ [] → new ≡ old)
+    → new ≡ painted (piece_at row cell role text) old
+piece_painted row cell role text [] old new some none writes stays =
+    stays refl ∙ sym (ap (λ t. painted (piece_at row cell role t) old) (none refl))
+piece_painted row cell role text (b ∷ bs) old new some none writes stays =
+    writes (omega arith)
+    ∙ sym (ap (λ t. painted (cond t [] (record { row = row; cell = cell; text = text; role = role } ∷ [])) old) (not_zero (length text) (some (omega arith))))
+  where
+    not_zero : (n : ℕ) → 0 < n → (n == 0) ≡ false
+    not_zero n some = grind (arith, nat_tests)
 
 -- one cell more of a stem
 pub stem_drawn : (layout : Layout) (row : ℕ) (e : PlacedEntry) (n foot stem glyph : ℕ) (role : ElementStyle) (old mid new : List (List Cell))

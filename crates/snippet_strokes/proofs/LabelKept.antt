@@ -1,12 +1,12 @@
 -- Marks, painted later, leave each label as it stands.
-use Rattle.std.proofs.lemmas.Grind.{common_steps}
 use Rattle.snippet_strokes.proofs.Common.{◌≡◌, ℕ, zero, suc, ◌+◌, ◌<◌, ◌≤◌, ◌&&◌, ◌||◌, nat_le, nat_lt, Bool, true, false, List}
 use Rattle.snippet_strokes.proofs.Common.{[], ◌∷◌, length, map, get_or, refl, sym, ap, ◌∙◌, subst, arith, inl, inr, ◌⊎◌, All, list_any}
-use Rattle.snippet_strokes.proofs.Common.{cases_lt, nat_tests, All-cons, All-nil, All-weaker, length-chars_le, LineAnnotation, Layout, PlacedEntry, has_label}
+use Rattle.snippet_strokes.proofs.Common.{cases_lt, nat_tests, All-cons, All-nil, All-weaker, LineAnnotation, Layout, PlacedEntry, has_label}
 use Rattle.snippet_strokes.proofs.Common.{crosses, position_at, position_after, positions, label_place, get_or-map, length-map, list_all_at, All-permutation}
-use Rattle.snippet_strokes.proofs.Common.{Cell, cell_at, mark_end, HasPlace, HasItsLabel, ArePlaced, crowds, label_text, rules}
+use Rattle.snippet_strokes.proofs.Common.{Cell, SPACE, cell_at, cases_eq, mark_end, HasPlace, ArePlaced, crowds, label_width, rules}
 use Rattle.snippet_strokes.proofs.PositionLemmas.{length-positions}
 use Rattle.snippet_strokes.proofs.PaintedMarks.{AreMarked, IsPaintedAt, StandsWhole}
+use Rattle.snippet_strokes.proofs.PieceWrites.{has_piece, labels_some, piece_chars_le}
 
 -- a position is no lower than the one reached, and so no lower than those before it
 at_least : (p : ℕ) (e : PlacedEntry) (others : List PlacedEntry) → p ≤ position_at p e others
@@ -39,9 +39,10 @@ any_false p (x ∷ xs) none =
     right true b is = cc is
     right false b is = is
 
--- two entries of one position aren't crowded
+-- two entries aren't crowded if the second stands no lower than the label of the first has pieces
 pub uncrowded : (p : ℕ) (es : List PlacedEntry) (i j : ℕ) (d d2 : PlacedEntry) → i < j → j < length es
-    → get_or (positions p es) i 0 ≡ get_or (positions p es) j 0 → crowds (get_or (positions p es) i 0) (get_or es i d) (get_or es j d2) ≡ false
+    → get_or (positions p es) j 0 < get_or (positions p es) i 0 + length (get_or es i d).label
+    → crowds (get_or (positions p es) i 0) (get_or es i d) (get_or es j d2) ≡ false
 uncrowded p [] i j d d2 before within same = absurd (omega (arith, within))
 uncrowded p (e ∷ others) zero zero d d2 before within same = absurd (omega (arith, before))
 uncrowded p (e ∷ others) zero (suc j) d d2 before within same = grind (arith, positions_from, length-positions, any_false)
@@ -88,14 +89,10 @@ label_parts e = search rules
 pub apart : (fs fe es ee more : ℕ) → ((nat_le es fs && nat_lt fs ee) || (nat_le fs es && nat_lt es (fe + more))) ≡ false → fs ≤ es → fe + more ≤ es
 apart fs fe es ee more is left = grind (arith, nat_tests)
 
--- a label has no more characters than bytes
-pub label_chars_le : (e : PlacedEntry) → HasItsLabel e → length (label_text e.entry) ≤ length e.label
-label_chars_le e has = omega (arith, ap length has, length-chars_le e.label)
-
 -- where an entry has a label the positions aren't flipped
-pub labelled_positions : (given : List LineAnnotation) (es : List PlacedEntry) (k : ℕ) (d : PlacedEntry) → ArePlaced given es → k < length es
-    → has_label (get_or es k d) ≡ true → map (λ (e : PlacedEntry). e.position) es ≡ positions 0 es
-labelled_positions given es k d placed within has = grind (arith, list_all_at)
+pub labelled_positions : (cut : Bool) (given : List LineAnnotation) (es : List PlacedEntry) (k : ℕ) (d : PlacedEntry) → ArePlaced cut given es
+    → k < length es → has_label (get_or es k d) ≡ true → map (λ (e : PlacedEntry). e.position) es ≡ positions 0 es
+labelled_positions cut given es k d placed within has = grind (arith, list_all_at)
 
 -- where positions aren't flipped, that of an entry is found by its place
 pub position_of : (es : List PlacedEntry) (k : ℕ) (d : PlacedEntry) → map (λ (e : PlacedEntry). e.position) es ≡ positions 0 es → k < length es
@@ -104,9 +101,9 @@ position_of es k d are within =
     sym (get_or-map (λ (e : PlacedEntry). e.position) es k d 0 within) ∙ ap (λ ps. get_or ps k 0) are
 
 -- a later entry starts no farther right
-pub stands_left : (given : List LineAnnotation) (es : List PlacedEntry) (i j : ℕ) (d d2 : PlacedEntry) → ArePlaced given es → i < j → j < length es
-    → (get_or es j d2).entry.start.display ≤ (get_or es i d).entry.start.display
-stands_left given es i j d d2 placed before within =
+pub stands_left : (cut : Bool) (given : List LineAnnotation) (es : List PlacedEntry) (i j : ℕ) (d d2 : PlacedEntry) → ArePlaced cut given es → i < j
+    → j < length es → (get_or es j d2).entry.start.display ≤ (get_or es i d).entry.start.display
+stands_left cut given es i j d d2 placed before within =
     let f : PlacedEntry → LineAnnotation = λ e. e.entry in
     let first : get_or (map f es) i d.entry ≡ (get_or es i d).entry = get_or-map f es i d d.entry (omega (arith, before, within)) in
     let second : get_or (map f es) j d.entry ≡ (get_or es j d2).entry = get_or-map f es j d2 d.entry within in
@@ -116,7 +113,7 @@ stands_left given es i j d d2 placed before within =
 -- no mark covers a label in the row of the marks: an entry whose mark may stand there ends no farther right, or starts
 -- after the label
 pub record IsClear (e f : PlacedEntry) : Type 0 where
-  pub clear : (f.entry.end.display ≤ e.entry.end.display) ⊎ (e.entry.end.display + (length e.label + 2) ≤ f.entry.start.display)
+  pub clear : (f.entry.end.display ≤ e.entry.end.display) ⊎ (e.entry.end.display + (label_width e.label + 2) ≤ f.entry.start.display)
 
 clear_left : (e f : PlacedEntry) → crosses e f ≡ false → HasPlace e.entry → f.entry.start.display ≤ e.entry.start.display → IsClear e f
 clear_left e f uncrossed place left = search rules
@@ -127,23 +124,29 @@ clear_right e f uncrowded has left = search rules
 mark_end_le : (f : PlacedEntry) → mark_end f ≤ f.entry.end.display + 1
 mark_end_le f = search rules
 
-pub unpainted : (e f : PlacedEntry) (n : ℕ) → StandsAfter e → HasItsLabel e → IsClear e f → n < length (label_text e.entry)
-    → IsPaintedAt f ((label_place e).1 + n) → ⊥
-unpainted e f n at has clear inside there = grind (arith, label_chars_le, mark_end_le)
+pub unpainted : (e f : PlacedEntry) (n : ℕ) → StandsAfter e → IsClear e f → n < length (get_or e.label 0 []) → IsPaintedAt f ((label_place e).1 + n) → ⊥
+unpainted e f n at clear inside there =
+    let few : length (get_or e.label 0 []) ≤ label_width e.label = piece_chars_le e.label 0 in
+    elim clear.clear [
+      | inl ends ↦ omega (arith, ends, at.from, there.1, mark_end_le f)
+      | inr right ↦ omega (arith, right, at.to, there.0, few, inside)
+    ]
 
-pub all_clear : (given : List LineAnnotation) (es : List PlacedEntry) (i : ℕ) (d : PlacedEntry) → ArePlaced given es → All (λ e. HasPlace e.entry) es
-    → i < length es → has_label (get_or es i d) ≡ true → (get_or es i d).position ≡ 0 → All (IsClear (get_or es i d)) es
-all_clear given es i d placed places within has zero_here j d2 fits =
-    let are = labelled_positions given es i d placed within has in
+pub all_clear : (cut : Bool) (given : List LineAnnotation) (es : List PlacedEntry) (i : ℕ) (d : PlacedEntry) → ArePlaced cut given es
+    → All (λ e. HasPlace e.entry) es → i < length es → has_label (get_or es i d) ≡ true → (get_or es i d).position ≡ 0
+    → All (IsClear (get_or es i d)) es
+all_clear cut given es i d placed places within has zero_here j d2 fits =
+    let are = labelled_positions cut given es i d placed within has in
     let zero_there : get_or (positions 0 es) i 0 ≡ 0 = sym (position_of es i d are within) ∙ zero_here in
     elim (cases_lt i j) [
       | inl left ↦ clear_left (get_or es i d) (get_or es j d2) (uncrossed 0 es i j d d2 left fits zero_there has) (places i d within)
-          (stands_left given es i j d d2 placed left fits)
+          (stands_left cut given es i j d d2 placed left fits)
       | inr not_left ↦ elim (cases_lt j i) [
         | inl right ↦
             let low : get_or (positions 0 es) j 0 ≡ 0 = omega (arith, zero_there, ascending 0 es j i right within) in
             clear_right (get_or es i d) (get_or es j d2) (subst (λ p. crowds p (get_or es j d2) (get_or es i d) ≡ false) low
-            (uncrowded 0 es j i d2 d right within (low ∙ sym zero_there))) has (stands_left given es j i d2 d placed right within)
+            (uncrowded 0 es j i d2 d right within (omega (arith, zero_there, low, labels_some cut given es placed j d2 fits)))) has
+            (stands_left cut given es j i d2 d placed right within)
         | inr not_right ↦
             let own : j ≡ i = omega (arith, not_left, not_right) in
             let same : get_or es j d2 ≡ get_or es i d = ap (λ k. get_or es k d2) own ∙ get_or_default es i d2 d within in
@@ -157,20 +160,27 @@ all_clear given es i d placed places within has zero_here j d2 fits =
     get_or_default (x ∷ xs) (suc k) a b inside = get_or_default xs k a b (omega (arith, inside))
 
 -- marks, painted later, leave each label as it stands
-pub labels_kept : (layout : Layout) (row : ℕ) (given : List LineAnnotation) (es : List PlacedEntry) (old new : List (List Cell)) → ArePlaced given es
-    → All (λ e. HasPlace e.entry) es → AreMarked layout es row old new → All (StandsWhole layout row old) es → All (StandsWhole layout row new) es
-labels_kept layout row given es old new placed places marked stand k d within has n inside =
+pub labels_kept : (cut : Bool) (layout : Layout) (row : ℕ) (given : List LineAnnotation) (es : List PlacedEntry) (old new : List (List Cell))
+    → ArePlaced cut given es → All (λ e. HasPlace e.entry) es → AreMarked layout es row old new → All (StandsWhole layout row old) es
+    → All (StandsWhole layout row new) es
+labels_kept cut layout row given es old new placed places marked stand k d within m n inside =
     let e : PlacedEntry = get_or es k d in
-    let before = stand k d within has n inside in
-    elim (label_parts e) [
-      | inl at ↦
-          let here : row + (label_place e).0 ≡ row = omega (arith, at.row) in
-          let p : ℕ = (label_place e).1 + n in
-          let there : layout.code + (label_place e).1 + n ≡ layout.code + p = omega arith in
-          let clear : All (λ (f : PlacedEntry). IsPaintedAt f p → ⊥) es = All-weaker (IsClear e) (λ (f : PlacedEntry). IsPaintedAt f p → ⊥) (λ f is.
-          unpainted e f n at (placed.labels k d within) is inside) es (all_clear given es k d placed places within has at.position) in
-          ap (λ r. cell_at new r (layout.code + (label_place e).1 + n)) here ∙ ap (cell_at new row) there
-          ∙ marked.painted.unmarked p (All-permutation (λ (f : PlacedEntry). IsPaintedAt f p → ⊥) es marked.order marked.same clear)
-          ∙ sym (ap (cell_at old row) there) ∙ sym (ap (λ r. cell_at old r (layout.code + (label_place e).1 + n)) here) ∙ before
-      | inr at ↦ grind (arith, common_steps, label_place, e, at, before, layout.code, marked.painted.others, at.row)
+    let r : ℕ = row + (label_place e).0 + m in
+    let before = stand k d within m n inside in
+    elim (cases_eq r row) [
+      | inl here ↦ elim (label_parts e) [
+        | inl at ↦
+            let first : m ≡ 0 = omega (arith, here) in
+            let p : ℕ = (label_place e).1 + n in
+            let there : layout.code + (label_place e).1 + n ≡ layout.code + p = omega arith in
+            let begun : n < length (get_or e.label 0 []) = subst (λ j. n < length (get_or e.label j [])) first inside in
+            let clear : All (λ (f : PlacedEntry). IsPaintedAt f p → ⊥) es = All-weaker (IsClear e) (λ (f : PlacedEntry). IsPaintedAt f p → ⊥) (λ f is.
+            unpainted e f n at is begun) es
+            (all_clear cut given es k d placed places within (has_piece e m (omega (arith, inside))) at.position) in
+            ap (λ i. cell_at new i (layout.code + (label_place e).1 + n)) here ∙ ap (cell_at new row) there
+            ∙ marked.painted.unmarked p (All-permutation (λ (f : PlacedEntry). IsPaintedAt f p → ⊥) es marked.order marked.same clear)
+            ∙ sym (ap (cell_at old row) there) ∙ sym (ap (λ i. cell_at old i (layout.code + (label_place e).1 + n)) here) ∙ before
+        | inr at ↦ absurd (omega (arith, here, at.row))
+      ]
+      | inr other ↦ ap (λ cells. get_or cells (layout.code + (label_place e).1 + n) SPACE) (marked.painted.others r other) ∙ before
     ]

@@ -4,12 +4,13 @@ use Rattle.snippet_strokes.proofs.Common.{List, [], ◌∷◌, length, map, get_
 use Rattle.snippet_strokes.proofs.Common.{swap, IsPermutation, cases_Bool, false≢true, nat_tests, get_or-map, map-set, All-cons, All-map, All-nil}
 use Rattle.snippet_strokes.proofs.Common.{All-permutation, IsPermutation-keeps, IsPermutation-refl, IsPermutation-swap, IsPermutation-sym, IsPermutation-trans}
 use Rattle.snippet_strokes.proofs.Common.{sum_by-IsPermutation, sum_by-cons, cell_at, Cell, SPACE, LineAnnotation, Layout, PlacedEntry, label_text, IsStemCell}
-use Rattle.snippet_strokes.proofs.Common.{IsStrokeCell, has_label, label_place, HasPlace, ArePlaced, HasItsLabel, count-map, zero, row_at, inner_cell}
+use Rattle.snippet_strokes.proofs.Common.{IsStrokeCell, label_place, HasPlace, ArePlaced, HasItsLabel, label_pieces, shows_any, ◌-◌, count-map, zero, row_at}
+use Rattle.snippet_strokes.proofs.Common.{inner_cell}
 use Rattle.snippet_strokes.proofs.Common.{IsBarCell, is_mark_role, closing_row, common_steps, rules}
 use Rattle.std.proofs.Common.{if◌then◌else◌}
 use Rattle.snippet_strokes.proofs.SeenLabels.{IsLedTo, LabelsStand, PlacedLabel, StandsIn, is_cell_of}
 use Rattle.snippet_strokes.proofs.PaintedMarks.{StandsWhole}
-use Rattle.snippet_strokes.proofs.CellLemmas.{label_write}
+use Rattle.snippet_strokes.proofs.PieceWrites.{label_write}
 use Rattle.snippet_strokes.proofs.Reach.{Reaches}
 use Rattle.snippet_strokes.proofs.StrokeCells.{BesideLabels, placed_apart}
 use Rattle.snippet_strokes.proofs.StemCells.{IsHung}
@@ -89,11 +90,7 @@ one_passes q (x ∷ xs) apart =
 -- the label of an entry that has its place
 abbrev pub placed_label : Layout → PlacedEntry → PlacedLabel
 placed_label layout e =
-    record { entry = e.entry; row = (label_place e).0; cell = layout.code + (label_place e).1 }
-
--- a label that shows anything is one
-pub shows_label : (e : PlacedEntry) → HasItsLabel e → 0 < length (label_text e.entry) → has_label e ≡ true
-shows_label e has some = search rules
+    record { entry = e.entry; pieces = e.label; row = (label_place e).0; cell = layout.code + (label_place e).1 }
 
 -- where a label begins
 stands-at : (layout : Layout) (e : PlacedEntry)
@@ -101,14 +98,34 @@ stands-at : (layout : Layout) (e : PlacedEntry)
     ⊎ ((0 < l.row) × (l.cell ≡ layout.code + e.entry.start.display))
 stands-at layout e = search rules
 
--- the cell is reached by the label's write
-reached : (layout : Layout) (e : PlacedEntry) (r c : ℕ) → is_cell_of r c (placed_label layout e) ≡ true → Reaches r c (label_write layout 0 e)
-reached layout e r c is = search rules
+-- the cell is reached by the write of one of the label's pieces
+reached : (layout : Layout) (e : PlacedEntry) (r c : ℕ) → is_cell_of r c (placed_label layout e) ≡ true
+    → Reaches r c (label_write layout 0 e (r - (label_place e).0))
+reached layout e r c is =
+    let parts = in_cell (label_place e).0 (layout.code + (label_place e).1) (length (get_or e.label (r - (label_place e).0) [])) is in
+    record { row = omega (arith, parts.0); from = parts.1; to = parts.2 }
+  where
+    in_cell : (row cell n : ℕ) → (nat_le row r && (nat_le cell c && nat_lt c (cell + n))) ≡ true → (row ≤ r) × (cell ≤ c) × (c < cell + n)
+    in_cell row cell n is = grind (arith, nat_tests, is)
+
+-- and such a cell is one of the label's
+has_cell : (layout : Layout) (row r c n : ℕ) (e : PlacedEntry) → Reaches (row + r) c (label_write layout row e n)
+    → is_cell_of r c (placed_label layout e) ≡ true
+has_cell layout row r c n e there =
+    let first : ℕ = (label_place e).0 in
+    let same : r - first ≡ n = omega (arith, there.row) in
+    let long : length (get_or e.label n []) ≡ length (get_or e.label (r - first) []) = ap (λ k. length (get_or e.label k [])) (sym same) in
+    in_cell first (layout.code + (label_place e).1) (length (get_or e.label (r - first) [])) (omega (arith, there.row)) there.from
+    (omega (arith, there.to, long))
+  where
+    in_cell : (row cell n : ℕ) → row ≤ r → cell ≤ c → c < cell + n → (nat_le row r && (nat_le cell c && nat_lt c (cell + n))) ≡ true
+    in_cell row cell n below from to = grind (arith, nat_tests, below, from, to)
 
 -- no label of placed entries has a cell, if none has it where they are given
 beside_labels : (layout : Layout) (row r c : ℕ) (placed : List PlacedEntry) → count_by (λ e. is_cell_of r c (placed_label layout e)) placed ≡ 0
     → BesideLabels layout row (row + r) c placed
-beside_labels layout row r c placed none k d within has there = search (rules, false≢true, all_fail)
+beside_labels layout row r c placed none k d within n there =
+    false≢true (sym (all_fail (λ e. is_cell_of r c (placed_label layout e)) placed none k d within) ∙ has_cell layout row r c n (get_or placed k d) there)
 
 -- in the rows from `row` on each cell from the code on that no label reaches is a space or a stroke's
 abbrev pub HasStrokesBeside : Layout → ℕ → List PlacedEntry → List (List Cell) → Type 0
@@ -117,7 +134,7 @@ HasStrokesBeside layout row placed rows =
 
 -- labels that stand whole in the rows from `row` on stand so in those rows alone, for each entry as it is given
 pub LabelsStand-placed : (layout : Layout) (row : ℕ) (es : List LineAnnotation) (placed : List PlacedEntry) (rows below : List (List Cell))
-    → ArePlaced es placed → All (λ (e : PlacedEntry). HasPlace e.entry) placed → All (StandsWhole layout row rows) placed
+    → ArePlaced layout.label_lines es placed → All (λ (e : PlacedEntry). HasPlace e.entry) placed → All (StandsWhole layout row rows) placed
     → HasStrokesBeside layout row placed rows → All (IsHung layout row placed rows) placed
     → ((r c : ℕ) → cell_at below r c ≡ cell_at rows (row + r) c) → LabelsStand layout es below
 LabelsStand-placed layout row es placed rows below is places stands beside hung same =
@@ -125,7 +142,8 @@ LabelsStand-placed layout row es placed rows below is places stands beside hung 
     let moved : Reordered f placed es = reordered f placed es (IsPermutation-sym es (map f placed) is.same) in
     let order : List PlacedEntry = moved.order in
     let g : PlacedEntry → PlacedLabel = placed_label layout in
-    let has : All HasItsLabel order = All-permutation HasItsLabel placed order moved.same is.labels in
+    let cut : Bool = layout.label_lines in
+    let has : All (HasItsLabel cut) order = All-permutation (HasItsLabel cut) placed order moved.same is.labels in
     let stand : All (StandsWhole layout row rows) order = All-permutation (StandsWhole layout row rows) placed order moved.same stands in
     let leads : All (IsHung layout row placed rows) order = All-permutation (IsHung layout row placed rows) placed order moved.same hung in
     let counted : (r c : ℕ) → count_by (λ e. is_cell_of r c (g e)) placed ≡ count_by (is_cell_of r c) (map g order) = λ r c.
@@ -133,13 +151,15 @@ LabelsStand-placed layout row es placed rows below is places stands beside hung 
     record {
       labels = map g order;
       are = entries order ∙ moved.are;
-      stand = All-map (λ (l : PlacedLabel). 0 < length (label_text l.entry) → StandsIn layout below l) g order (λ k d within some.
+      pieces = All-map (λ (l : PlacedLabel). l.pieces ≡ label_pieces cut (label_text l.entry)) g order has;
+      stand = All-map (λ (l : PlacedLabel). shows_any l.pieces ≡ true → StandsIn layout below l) g order (λ k d within some.
           let e : PlacedEntry = get_or order k d in
           record {
-            whole = λ n inside. same (label_place e).0 (layout.code + (label_place e).1 + n) ∙ stand k d within (shows_label e (has k d within) some) n inside;
+            whole = λ m n inside. same ((label_place e).0 + m) (layout.code + (label_place e).1 + n)
+                ∙ ap (λ (i : ℕ). cell_at rows i (layout.code + (label_place e).1 + n)) (omega arith) ∙ stand k d within m n inside;
             place = stands-at layout e;
           });
-      led = All-map (λ (l : PlacedLabel). 0 < length (label_text l.entry) → IsLedTo layout.decor (map g order) below l) g order
+      led = All-map (λ (l : PlacedLabel). shows_any l.pieces ≡ true → IsLedTo layout.decor (map g order) below l) g order
           (λ k d within some r under above none.
           let e : PlacedEntry = get_or order k d in
           let c : ℕ = layout.code + (label_place e).1 in
@@ -149,7 +169,7 @@ LabelsStand-placed layout row es placed rows below is places stands beside hung 
                 let here : layout.code + e.entry.start.display ≡ c = omega (arith, at.column) in
                 let clear : BesideLabels layout row (row + r) c placed = beside_labels layout row r c placed (counted r c ∙ none) in
                 subst (λ n. IsStemCell layout.decor (cell_at rows (row + r) n)) here
-                (leads k d within (shows_label e (has k d within) some) r under (omega (arith, above, at.row))
+                (leads k d within some r under (omega (arith, above, at.row))
                 (subst (λ n. BesideLabels layout row (row + r) n placed) (sym here) clear))
           ] in
           subst (IsStemCell layout.decor) (sym (same r c)) stem);
@@ -158,9 +178,8 @@ LabelsStand-placed layout row es placed rows below is places stands beside hung 
           let few : count_by q placed ≤ 1 = one_passes q placed (λ i j d d2 before within one other.
           let here = reached layout (get_or placed i d) r c one in
           let there = reached layout (get_or placed j d2) r c other in
-          placed_apart layout 0 es placed i j d d2 is places before within
-          (shows_label (get_or placed i d) (is.labels i d (omega (arith, before, within))) (omega (arith, here.from, here.to)))
-          (shows_label (get_or placed j d2) (is.labels j d2 within) (omega (arith, there.from, there.to))) r c here there) in
+          placed_apart cut layout 0 es placed i j d d2 is places before within (r - (label_place (get_or placed i d)).0)
+          (r - (label_place (get_or placed j d2)).0) r c here there) in
           let kept : count_by q order ≡ count_by q placed = sum_by-IsPermutation (λ e. cond (q e) 1 0) placed order moved.same in
           omega (arith, few, kept, count-map (is_cell_of r c) g order);
       others = λ r c right none.
@@ -175,27 +194,44 @@ LabelsStand-placed layout row es placed rows below is places stands beside hung 
 pub LabelsStand-none : (layout : Layout) (es : List LineAnnotation) (rows : List (List Cell)) → All (λ e. label_text e ≡ []) es
     → ((r c : ℕ) → layout.code ≤ c → cell_at rows r c ≡ SPACE) → LabelsStand layout es rows
 LabelsStand-none layout es rows none blank =
-    let g : LineAnnotation → PlacedLabel = λ e. record { entry = e; row = 0; cell = 0 } in
+    let cut : Bool = layout.label_lines in
+    let g : LineAnnotation → PlacedLabel = λ e. record { entry = e; pieces = label_pieces cut (label_text e); row = 0; cell = 0 } in
+    let empty_pieces : (k : ℕ) (d : LineAnnotation) → k < length es → label_pieces cut (label_text (get_or es k d)) ≡ [] ∷ [] = λ k d within.
+    ap (label_pieces cut) (none k d within) ∙ no_text cut in
+    let nothing : (k : ℕ) (d : LineAnnotation) → k < length es → shows_any (g (get_or es k d)).pieces ≡ true → ⊥ = λ k d within some.
+    false≢true (sym (ap shows_any (empty_pieces k d within)) ∙ some) in
     record {
       labels = map g es;
-      are = entries es;
-      stand = All-map (λ (l : PlacedLabel). 0 < length (label_text l.entry) → StandsIn layout rows l) g es (λ k d within some.
-          absurd (omega (arith, some, ap length (none k d within))));
-      led = All-map (λ (l : PlacedLabel). 0 < length (label_text l.entry) → IsLedTo layout.decor (map g es) rows l) g es (λ k d within some.
-          absurd (omega (arith, some, ap length (none k d within))));
+      are = entries cut es;
+      pieces = All-map (λ (l : PlacedLabel). l.pieces ≡ label_pieces cut (label_text l.entry)) g es (λ k d within. refl);
+      stand = All-map (λ (l : PlacedLabel). shows_any l.pieces ≡ true → StandsIn layout rows l) g es (λ k d within some. absurd (nothing k d within some));
+      led = All-map (λ (l : PlacedLabel). shows_any l.pieces ≡ true → IsLedTo layout.decor (map g es) rows l) g es (λ k d within some.
+          absurd (nothing k d within some));
       apart = λ r c.
           let empty : count_by (λ e. is_cell_of r c (g e)) es ≡ 0 = none_pass (λ e. is_cell_of r c (g e)) es (λ j d within.
-          no_cell r c (length (label_text (get_or es j d))) (ap length (none j d within))) in
+          no_cell r c (g (get_or es j d)).pieces (empty_pieces j d within)) in
           omega (arith, empty, count-map (is_cell_of r c) g es);
       others = λ r c right _. inl (blank r c right);
     }
   where
-    entries : (xs : List LineAnnotation) → map (λ (l : PlacedLabel). l.entry) (map (λ e. record { entry = e; row = 0; cell = 0 }) xs) ≡ xs
-    entries [] = refl
-    entries (x ∷ xs) = ap (λ es. x ∷ es) (entries xs)
+    no_text : (cut : Bool) → label_pieces cut [] ≡ [] ∷ []
+    no_text true = refl
+    no_text false = refl
 
-    no_cell : (r c n : ℕ) → n ≡ 0 → (0 == r && (nat_le 0 c && nat_lt c (0 + n))) ≡ false
-    no_cell r c n is = grind (arith, nat_tests, is)
+    entries : (cut : Bool) (xs : List LineAnnotation)
+        → map (λ (l : PlacedLabel). l.entry) (map (λ e. record { entry = e; pieces = label_pieces cut (label_text e); row = 0; cell = 0 }) xs) ≡ xs
+    entries cut [] = refl
+    entries cut (x ∷ xs) = ap (λ es. x ∷ es) (entries cut xs)
+
+    no_cell : (r c : ℕ) (ps : List (List ℕ)) → ps ≡ [] ∷ [] → (nat_le 0 r && (nat_le 0 c && nat_lt c (0 + length (get_or ps (r - 0) [])))) ≡ false
+    no_cell r c ps is = ap (λ qs. nat_le 0 r && (nat_le 0 c && nat_lt c (0 + length (get_or qs (r - 0) [])))) is ∙ beyond r
+      where
+        nothing : List (List ℕ)
+        nothing = [] ∷ []
+
+        beyond : (r : ℕ) → (nat_le 0 r && (nat_le 0 c && nat_lt c (0 + length (get_or nothing (r - 0) [])))) ≡ false
+        beyond zero = grind (arith, nat_tests)
+        beyond (suc r) = grind (arith, nat_tests)
 
 -- labels that stand in some rows stand in others, whose cells from the code on are the same
 pub LabelsStand-kept : (layout : Layout) (es : List LineAnnotation) (old new : List (List Cell)) → LabelsStand layout es old

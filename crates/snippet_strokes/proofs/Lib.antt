@@ -34,6 +34,7 @@ pub mod LowerWrites
 pub mod MarkStrokeLemmas
 pub mod OpenLemmas
 pub mod PaintLemmas
+pub mod PieceWrites
 pub mod PaintOrder
 pub mod PaintedMarks
 pub mod PlacedOf

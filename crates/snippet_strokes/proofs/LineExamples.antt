@@ -2,7 +2,7 @@
 use Rattle.snippet_strokes.proofs.Common.{◌≡◌, ℕ, true, false, Option, None, Some, List, [], ◌∷◌, ◌++◌, codes, refl, AnnotationKind, Primary}
 use Rattle.snippet_strokes.proofs.Common.{Context, norm, Cell, text_cells, written, Ascii, LabelPrimary, LabelSecondary, LineNumber, NoStyle, Quotation}
 use Rattle.snippet_strokes.proofs.Common.{UnderlinePrimary, UnderlineSecondary, LineAnnotation, LineAnnotationType, Singleline, MultilineStart, Layout}
-use Rattle.snippet_strokes.proofs.Common.{source_row, line_rows, highlighted_row}
+use Rattle.snippet_strokes.proofs.Common.{source_row, line_rows, highlighted_row, drop}
 use Rattle.std.specs.Str.{chars}
 
 -- an entry of these columns, each of one character
@@ -19,7 +19,7 @@ entry kind from to label part = record {
 
 -- numbers of one digit, and the code in this cell
 abbrev layout_to : ℕ → Layout
-layout_to code = record { gutter = 1; code = code; decor = Ascii }
+layout_to code = record { gutter = 1; code = code; decor = Ascii; label_lines = false }
 
 abbrev text : List ℕ
 text = codes "ab cd"
@@ -78,3 +78,73 @@ whole_line = refl
 two_highlighted : highlighted_row 1 0 (entry Primary 0 2 None Singleline ∷ []) (text_cells NoStyle (codes " ") ++ text_cells Quotation text)
     ≡ text_cells NoStyle (codes " ") ++ text_cells UnderlinePrimary (codes "ab") ++ text_cells Quotation (codes " cd")
 two_highlighted = refl
+
+-- ---- labels that are cut at their line feeds
+
+abbrev cut : Layout
+cut = record (layout_to 4) { label_lines = true }
+
+abbrev lines_below : List LineAnnotation → List (List Cell)
+lines_below es = drop 1 (line_rows cut 140 false text 0 [] es (source 4))
+
+-- a label of two pieces after its mark
+-- `1 | ab cd`
+-- `  |    ^^ a`
+-- `  |       b`
+two_pieces : lines_below (entry Primary 3 5 (Some (codes "a" ++ 10 ∷ codes "b")) Singleline ∷ []) ≡
+    (separated ++ text_cells NoStyle (codes "   ") ++ text_cells UnderlinePrimary (codes "^^") ++ text_cells NoStyle (codes " ")
+    ++ text_cells LabelPrimary (codes "a"))
+    ∷ (separated ++ text_cells NoStyle (codes "      ") ++ text_cells LabelPrimary (codes "b"))
+    ∷ []
+unfolding chars norm written lib.Utf8.encode
+two_pieces = refl
+
+-- an empty piece has its row
+-- `1 | ab cd`
+-- `  | ^^ a`
+-- `  |`
+-- `  |    b`
+empty_piece : lines_below (entry Primary 0 2 (Some (codes "a" ++ 10 ∷ 10 ∷ codes "b")) Singleline ∷ []) ≡
+    (separated ++ text_cells UnderlinePrimary (codes "^^") ++ text_cells NoStyle (codes " ") ++ text_cells LabelPrimary (codes "a"))
+    ∷ (text_cells NoStyle (codes "  ") ++ text_cells LineNumber (codes "|"))
+    ∷ (separated ++ text_cells NoStyle (codes "   ") ++ text_cells LabelPrimary (codes "b"))
+    ∷ []
+unfolding chars norm written lib.Utf8.encode
+empty_piece = refl
+
+-- beside it a label hangs that begins farther left: below both pieces, its stem left of them
+-- `1 | ab cd`
+-- `  | -- ^^ a`
+-- `  | |     b`
+-- `  | |`
+-- `  | x`
+-- `  | y`
+hangs_below : lines_below (entry Context 0 2 (Some (codes "x" ++ 10 ∷ codes "y")) Singleline ∷ entry Primary 3 5
+    (Some (codes "a" ++ 10 ∷ codes "b")) Singleline ∷ []) ≡
+    (separated ++ text_cells UnderlineSecondary (codes "--") ++ text_cells NoStyle (codes " ") ++ text_cells UnderlinePrimary (codes "^^")
+    ++ text_cells NoStyle (codes " ") ++ text_cells LabelPrimary (codes "a"))
+    ∷ (separated ++ text_cells UnderlineSecondary (codes "|") ++ text_cells NoStyle (codes "     ") ++ text_cells LabelPrimary (codes "b"))
+    ∷ (separated ++ text_cells UnderlineSecondary (codes "|"))
+    ∷ (separated ++ text_cells LabelSecondary (codes "x"))
+    ∷ (separated ++ text_cells LabelSecondary (codes "y"))
+    ∷ []
+unfolding chars norm written lib.Utf8.encode
+hangs_below = refl
+
+-- two labels of one span: the second hangs below both pieces of the first
+-- `1 | ab cd`
+-- `  |    ^^`
+-- `  |    |`
+-- `  |    a`
+-- `  |    b`
+-- `  |    c`
+one_below_another : lines_below (entry Primary 3 5 (Some (codes "a" ++ 10 ∷ codes "b")) Singleline ∷ entry Context 3 5
+    (Some (codes "c")) Singleline ∷ []) ≡
+    (separated ++ text_cells NoStyle (codes "   ") ++ text_cells UnderlinePrimary (codes "^^"))
+    ∷ (separated ++ text_cells NoStyle (codes "   ") ++ text_cells UnderlineSecondary (codes "|"))
+    ∷ (separated ++ text_cells NoStyle (codes "   ") ++ text_cells LabelPrimary (codes "a"))
+    ∷ (separated ++ text_cells NoStyle (codes "   ") ++ text_cells LabelPrimary (codes "b"))
+    ∷ (separated ++ text_cells NoStyle (codes "   ") ++ text_cells LabelSecondary (codes "c"))
+    ∷ []
+unfolding chars norm written lib.Utf8.encode
+one_below_another = refl

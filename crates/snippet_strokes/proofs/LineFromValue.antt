@@ -14,7 +14,8 @@ use Rattle.std.proofs.Common.{chars}
 use Rattle.snippet_strokes.proofs.CellLemmas.{with_parts, cut_row, begun_rows, drawn_strokes, free_shown, unlisted_part}
 use Rattle.snippet_strokes.proofs.CutWords.{cuts_of, Stretch, cut_rows}
 use Rattle.snippet_strokes.proofs.WriteLaws.{AreLineRows, AreOwnRows, CanBeShown, IsHighlighted, IsSourceRow, ShowsLine, StrokesPainted}
-use Rattle.snippet_strokes.proofs.PlacedOf.{HasTextLabel, placed_of_are, texts-shifted}
+use Rattle.snippet_strokes.proofs.PieceWrites.{labels_some}
+use Rattle.snippet_strokes.proofs.PlacedOf.{placed_of_are}
 use Rattle.snippet_strokes.proofs.PositionLemmas.{row_count_some}
 use Rattle.snippet_strokes.proofs.SourceRowLemmas.{source_celled}
 use Rattle.snippet_strokes.proofs.StemCells.{painted_rows-count, stroke_rows-count}
@@ -39,7 +40,7 @@ module _ (layout : Layout) (room : ℕ) (closes : Bool) (source : List Cell) whe
       → rows ≡ stroke_rows layout room closes es source
   stroke_rows_are es rows is =
       let cut = cut_row layout.decor (cuts_of layout room (painting_order is.placed) (overlapped is.placed)) in
-      is.rows_are ∙ ap (λ whole. map cut (take 2 whole) ++ drop 2 whole) is.painted_are ∙ ap rows_at (placed_are es is.placed is.are)
+      is.rows_are ∙ ap (λ whole. map cut (take 2 whole) ++ drop 2 whole) is.painted_are ∙ ap rows_at (placed_are layout.label_lines es is.placed is.are)
       ∙ sym (stroke_rows-cut layout room closes es source)
 
 -- ---- the source row
@@ -73,20 +74,21 @@ two_more [] some = absurd (omega (arith, some))
 two_more (x ∷ []) some = absurd (omega (arith, some))
 two_more (x ∷ y ∷ rows) some = refl
 
--- the rows of strokes, where labels are texts
-pub stroke_rows_are_painted : (layout : Layout) (room : ℕ) (closes : Bool) (es : List LineAnnotation) (source : List Cell) → All HasTextLabel es
+-- the rows of strokes
+pub stroke_rows_are_painted : (layout : Layout) (room : ℕ) (closes : Bool) (es : List LineAnnotation) (source : List Cell)
     → StrokesPainted layout room closes es source (stroke_rows layout room closes es source)
-stroke_rows_are_painted layout room closes es source texts =
-    let placed : List PlacedEntry = placed_of es in
+stroke_rows_are_painted layout room closes es source =
+    let placed : List PlacedEntry = placed_of layout.label_lines es in
     let order : List PlacedEntry = painting_order placed in
     let count : ℕ = row_count placed in
     let whole : List (List Cell) = painted (drawn_strokes layout 0 (count + 1) placed order) (begun_rows layout closes count source) in
-    let long : length whole ≡ count + 1 = painted_rows-count layout closes placed order source in
+    let some = labels_some layout.label_lines es placed (placed_of_are layout.label_lines es) in
+    let long : length whole ≡ count + 1 = painted_rows-count layout closes placed order source some in
     let parts = two_more whole (omega (arith, long, row_count_some placed)) in
     let cut : List Cell → List Cell = cut_row layout.decor (cuts_of layout room order (overlapped placed)) in
     record {
       placed = placed;
-      are = placed_of_are es texts;
+      are = placed_of_are layout.label_lines es;
       top = get_or whole 0 [];
       marks = get_or whole 1 [];
       lower = drop 2 whole;
@@ -97,10 +99,10 @@ stroke_rows_are_painted layout room closes es source texts =
 
 module _ (layout : Layout) (room : ℕ) (closes : Bool) (text : List ℕ) (dropped : ℕ) where
   -- the rows that a line has by its own entries
-  pub own_rows_are_rows : (es : List LineAnnotation) (source : List Cell) → All HasTextLabel es
+  pub own_rows_are_rows : (es : List LineAnnotation) (source : List Cell)
       → AreOwnRows layout room closes text dropped es source (own_rows layout room closes text dropped es source)
-  own_rows_are_rows [] source texts = search rules
-  own_rows_are_rows (e ∷ es) source texts =
+  own_rows_are_rows [] source = search rules
+  own_rows_are_rows (e ∷ es) source =
       let all : List LineAnnotation = e ∷ es in
       let tops : List (List Cell) = with_parts layout Top (ends_of_bars all) source ∷ [] in
       let strokes : List (List Cell) = stroke_rows layout room closes (map (shifted dropped) all) source in
@@ -109,16 +111,16 @@ module _ (layout : Layout) (room : ℕ) (closes : Bool) (text : List ℕ) (dropp
         none = λ empty. absurd (omega (arith, ap length empty));
         strokes = λ other _. subst (StrokesPainted layout room closes (map (shifted dropped) all) source)
             (sym (cond-false (is_whole_line text all) tops strokes other))
-            (stroke_rows_are_painted layout room closes (map (shifted dropped) all) source (texts-shifted dropped all texts));
+            (stroke_rows_are_painted layout room closes (map (shifted dropped) all) source);
       }
 
   -- all rows of a line
-  pub line_rows_are_rows : (open_bars : List OpenBar) (es : List LineAnnotation) (source : List Cell) → All HasTextLabel es
+  pub line_rows_are_rows : (open_bars : List OpenBar) (es : List LineAnnotation) (source : List Cell)
       → AreLineRows layout room closes text dropped open_bars es source (line_rows layout room closes text dropped open_bars es source)
-  line_rows_are_rows open_bars es source texts =
+  line_rows_are_rows open_bars es source =
       record {
         own = own_rows layout room closes text dropped es source;
-        are = own_rows_are_rows es source texts;
+        are = own_rows_are_rows es source;
         rows_are = refl;
       }
 
@@ -170,8 +172,7 @@ info_rows_show layout view open_bars info place can =
       clear = entries_clear margin text es can.clear;
       highlighted = highlighted_row layout.code dropped asking plain;
       highlights = highlighted_row_is layout.code dropped asking plain;
-      drawn = line_rows_are_rows layout margin.term_width view.closes text dropped open_bars es (highlighted_row layout.code dropped asking plain)
-          can.labels;
+      drawn = line_rows_are_rows layout margin.term_width view.closes text dropped open_bars es (highlighted_row layout.code dropped asking plain);
     }
 
 -- The rows of a line, as they are drawn below those that are there.
@@ -184,12 +185,12 @@ begun_below layout closes count above source = simp (append_assoc)
 -- of rows with the strokes of a line the first two are cut where entries are wide
 pub rows_cut : (layout : Layout) (room : ℕ) (closes : Bool) (es : List LineAnnotation) (source : List Cell) (rows : List (List Cell))
     → (is : StrokesPainted layout room closes es source rows)
-    → CutsRows layout (wide_entries room layout.decor es) (is_uncut room layout.decor es) is.top is.marks is.lower rows
+    → CutsRows layout (wide_entries room layout.decor es) (is_uncut room layout es) is.top is.marks is.lower rows
 rows_cut layout room closes es source rows is =
     let order = painting_order is.placed in
     let change : List Cell → List Cell = cut_row layout.decor (cuts_of layout room order (overlapped is.placed)) in
     let cut : (row : List Cell) → IsCut layout (wide_entries room layout.decor es) row (change row) = λ row.
-    subst (λ n. IsCut layout n row (change row)) (wide_entries-order room layout.decor es is.placed is.are)
+    subst (λ n. IsCut layout n row (change row)) (wide_entries-order layout.label_lines room layout.decor es is.placed is.are)
     (IsCut-cuts layout room order (overlapped is.placed) row) in
     record {
       source_now = change is.top;
@@ -198,13 +199,14 @@ rows_cut layout room closes es source rows is =
       source_cut = cut is.top;
       marks_cut = cut is.marks;
       kept = λ uncut. uncut_row layout room (cut_pairs is.placed) is.marks
-          (subst (λ placed. list_all (λ pair. not (is_cut room layout.decor pair)) (cut_pairs placed) ≡ true) (sym (placed_are es is.placed is.are)) uncut);
+          (subst (λ placed. list_all (λ pair. not (is_cut room layout.decor pair)) (cut_pairs placed) ≡ true)
+          (sym (placed_are layout.label_lines es is.placed is.are)) uncut);
     }
 
 -- the strokes of a line, painted and then cut, are its rows
 module _ (layout : Layout) (room : ℕ) (closes : Bool) (es : List LineAnnotation) (placed : List PlacedEntry) (flags : List Bool) (above : List (List Cell))
     (source : List Cell) (old new final : List (List Cell)) (row : ℕ)
-    (are : ArePlaced es placed)
+    (are : ArePlaced layout.label_lines es placed)
     (old_is : old ≡ above ++ source ∷ [])
     (row_is : row ≡ length above)
     (long : length new ≡ length old + row_count placed)

@@ -2,9 +2,11 @@
 use Rattle.snippet_strokes.proofs.Common.{◌≡◌, ℕ, zero, suc, ◌+◌, ◌==◌, cond, true, false, Bool, List, [], ◌∷◌, ◌++◌, length, map}
 use Rattle.snippet_strokes.proofs.Common.{refl, sym, ap, ◌∙◌, arith, flat_map, range_with_len, map-append, flat_map-cons, row_at, is_primary, Cell}
 use Rattle.snippet_strokes.proofs.Common.{written, strokes_of, ElementStyle, LineAnnotationType, Singleline, MultilineStart, MultilineEnd, MultilineLine}
-use Rattle.snippet_strokes.proofs.Common.{Layout, PlacedEntry, stroke_role, has_stem, corner_of, stem_of, column_of, foot_glyph, connectors_of, corners_of}
+use Rattle.snippet_strokes.proofs.Common.{Layout, PlacedEntry, label_of, label_place, label_role, pieces_at, stroke_role, has_stem, corner_of, stem_of}
+use Rattle.snippet_strokes.proofs.Common.{column_of, foot_glyph, connectors_of, corners_of}
 use Rattle.snippet_strokes.proofs.Common.{labels_of, stems_of, Write, glyph_at, painted, stretch_of, rules}
 use Rattle.snippet_strokes.proofs.CellLemmas.{bar_writes, corner_by, drawn_strokes, marks_of, stem_write, written_by}
+use Rattle.snippet_strokes.proofs.PieceWrites.{pieces_at-lowered}
 
 -- a write so many rows farther down
 abbrev pub lowered : ℕ → Write → Write
@@ -131,7 +133,11 @@ module _ (layout : Layout) (n : ℕ) where
   stems-lowered row (e ∷ later) = grind (arith, map-append, stem-lowered, stems-lowered row later)
 
   labels-lowered : (row : ℕ) (es : List PlacedEntry) → labels_of layout (n + row) es ≡ map (lowered n) (labels_of layout row es)
-  labels-lowered row es = grind (arith, flat_map-lowered)
+  labels-lowered row es =
+      flat_map-lowered n (label_of layout (n + row)) (label_of layout row) (λ e.
+      let first : n + row + (label_place e).0 ≡ n + (row + (label_place e).0) = omega arith in
+      ap (λ r. pieces_at r (layout.code + (label_place e).1) (label_role e.entry.kind) e.label) first
+      ∙ pieces_at-lowered n (row + (label_place e).0) (layout.code + (label_place e).1) (label_role e.entry.kind) e.label) es
 
   marks-lowered : (row : ℕ) (es : List PlacedEntry) → marks_of layout (n + row) es ≡ map (lowered n) (marks_of layout row es)
   marks-lowered row es = grind (arith, flat_map-lowered, stretch-lowered)

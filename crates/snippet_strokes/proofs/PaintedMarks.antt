@@ -2,7 +2,7 @@
 use Rattle.std.specs.Prelude.{◌≡◌, ◌≢◌, ℕ, ◌+◌, ◌<◌, ◌≤◌, ◌==◌, max, true, List, [], ◌∷◌, All, IsPermutation, length, map}
 use Rattle.std.specs.Prelude.{slice_index_or}
 use Rattle.snippet_strokes.proofs.Common.{if◌then◌else◌, LineAnnotation, strokes_of, underline_role, cell_at, row_at, Cell, unlinked_cell, Layout}
-use Rattle.snippet_strokes.proofs.Common.{code_cell, IsFreeCell, PlacedEntry, entry_width, label_role, label_text, is_primary, has_label, label_place}
+use Rattle.snippet_strokes.proofs.Common.{code_cell, IsFreeCell, PlacedEntry, entry_width, label_role, is_primary, label_place}
 use Rattle.snippet_strokes.proofs.Common.{first_glyph, mark_end}
 
 -- the later entry may be painted over the earlier one: it is narrower, or as wide, and then primary if the earlier one is
@@ -64,8 +64,8 @@ pub record AreMarked (layout : Layout) (placed : List PlacedEntry) (row : ℕ) (
   pub ordered : IsPaintingOrder (map (λ e. e.entry) order)
   pub painted : Painted layout order row old new
 
--- the label of an entry, if it has one, stands whole at its place, in the role of labels of its kind
+-- the label of an entry stands whole at its place, piece below piece, in the role of labels of its kind
 abbrev pub StandsWhole : Layout → ℕ → List (List Cell) → PlacedEntry → Type 0
 StandsWhole layout row rows e =
-    has_label e ≡ true → (k : ℕ) → k < length (label_text e.entry) → cell_at rows (row + (label_place e).0) (code_cell layout (label_place e).1 + k)
-    ≡ unlinked_cell (label_role e.entry.kind) (slice_index_or (label_text e.entry) k 0)
+    (n k : ℕ) → k < length (slice_index_or e.label n []) → cell_at rows (row + (label_place e).0 + n) (code_cell layout (label_place e).1 + k)
+    ≡ unlinked_cell (label_role e.entry.kind) (slice_index_or (slice_index_or e.label n []) k 0)

@@ -1,36 +1,13 @@
--- The placed entries of a line, as the value that the rule gives: they are placed as painters place them, where labels are texts.
+-- The placed entries of a line, as the value that the rule gives: they are placed as painters place them.
 use Rattle.std.proofs.lemmas.Grind.{common_steps}
-use Rattle.snippet_strokes.proofs.Common.{◌≡◌, ℕ, suc, zero, true, false, IfSome, List, [], ◌∷◌, ◌++◌, All, IsUtf8, encode_utf8_all, length}
-use Rattle.snippet_strokes.proofs.Common.{map, refl, sym, ap, ◌∙◌, subst, arith, inl, inr, scalars, zip, cases_Bool, cond-false, cond-true, nat_tests}
-use Rattle.snippet_strokes.proofs.Common.{length-map, All-cons, All-head, All-nil, All-tail, IsPermutation-map, chars-encodes, chars-nil, scalars-chars}
-use Rattle.snippet_strokes.proofs.Common.{ordered_by, put_in, All-put_in, LineAnnotation, norm, shown, shifted, is_placed_before, line_positions, look_counts}
-use Rattle.snippet_strokes.proofs.Common.{placed_of, position_after, position_at, ArePlaced, HasItsBytes, HasItsLabel, IsFromRight, StandsLeft, unplaced}
-use Rattle.snippet_strokes.proofs.Common.{PlacedEntry, labelled, label_text, placed_at, ArePlaced-from, placed_of-at, rules}
-use Rattle.std.proofs.Common.{chars}
+use Rattle.snippet_strokes.proofs.Common.{◌≡◌, ℕ, suc, zero, Bool, true, false, List, [], ◌∷◌, All, length}
+use Rattle.snippet_strokes.proofs.Common.{map, refl, sym, ap, ◌∙◌, subst, arith, inl, inr, zip, cases_Bool, cond-false, cond-true}
+use Rattle.snippet_strokes.proofs.Common.{length-map, All-cons, All-nil, IsPermutation-map}
+use Rattle.snippet_strokes.proofs.Common.{ordered_by, put_in, All-put_in, LineAnnotation, is_placed_before, line_positions, look_counts}
+use Rattle.snippet_strokes.proofs.Common.{placed_of, position_after, position_at, ArePlaced, HasItsLabel, IsFromRight, StandsLeft, unplaced}
+use Rattle.snippet_strokes.proofs.Common.{PlacedEntry, labelled, placed_at, ArePlaced-from, placed_of-at, rules}
 use Rattle.snippet_strokes.proofs.PositionLemmas.{length-line_positions}
 use Rattle.snippet_strokes.proofs.PaintOrder.{IsPermutation-ordered_by}
-
--- the label of an entry, if it has one, is a text
-abbrev pub HasTextLabel : LineAnnotation → Type 0
-HasTextLabel e = IfSome e.label IsUtf8
-
--- ---- labels
-
-scalars-append : (xs ys : List ℕ) → scalars xs ≡ true → scalars ys ≡ true → scalars (xs ++ ys) ≡ true
-scalars-append [] ys first rest = rest
-scalars-append (x ∷ xs) ys first rest = grind (arith, scalars-append xs ys (grind (arith, first)) rest)
-
-scalars-shown : (c : ℕ) → scalars (c ∷ []) ≡ true → scalars (shown c) ≡ true
-scalars-shown c is = grind (arith, nat_tests)
-
-scalars-norm : (cs : List ℕ) → scalars cs ≡ true → scalars (norm cs) ≡ true
-unfolding norm
-scalars-norm [] are = refl
-scalars-norm (c ∷ cs) are = grind (arith, scalars-append, scalars-shown, scalars-norm cs (grind (arith, are)))
-
--- the bytes of a label spell the characters that it shows
-label_spelled : (e : LineAnnotation) → HasTextLabel e → chars (encode_utf8_all (label_text e)) ≡ label_text e
-label_spelled e = grind (arith, chars-nil, chars-encodes, scalars-norm, scalars-chars)
 
 -- ---- the order from right to left
 
@@ -74,72 +51,63 @@ from_right (e ∷ es) falls (suc i) (suc j) d before within = from_right es fall
 
 -- ---- the places
 
-entries-labelled : (es : List LineAnnotation) → map (λ (e : PlacedEntry). e.entry) (labelled es) ≡ es
-entries-labelled [] = refl
-entries-labelled (e ∷ es) = ap (λ xs. e ∷ xs) (entries-labelled es)
+entries-labelled : (cut : Bool) (es : List LineAnnotation) → map (λ (e : PlacedEntry). e.entry) (labelled cut es) ≡ es
+entries-labelled cut [] = refl
+entries-labelled cut (e ∷ es) = ap (λ xs. e ∷ xs) (entries-labelled cut es)
 
-labels-labelled : (es : List LineAnnotation) → All HasTextLabel es → All HasItsLabel (labelled es)
-labels-labelled [] texts = All-nil HasItsLabel
-labels-labelled (e ∷ es) texts = grind (arith, All-cons, label_spelled, All-head, All-tail, labels-labelled es (All-tail HasTextLabel e es texts))
-
-bytes-labelled : (es : List LineAnnotation) → All HasItsBytes (labelled es)
-bytes-labelled [] = All-nil HasItsBytes
-bytes-labelled (e ∷ es) = All-cons HasItsBytes (placed_at (e, (0, 0))) (labelled es) refl (bytes-labelled es)
+labels-labelled : (cut : Bool) (es : List LineAnnotation) → All (HasItsLabel cut) (labelled cut es)
+labels-labelled cut [] = All-nil (HasItsLabel cut)
+labels-labelled cut (e ∷ es) = All-cons (HasItsLabel cut) (placed_at cut (e, (0, 0))) (labelled cut es) refl (labels-labelled cut es)
 
 length-look_counts : (p : ℕ) (es : List PlacedEntry) → length (look_counts p es) ≡ length es
 length-look_counts p [] = refl
 length-look_counts p (e ∷ es) = omega (arith, length-look_counts (position_after (position_at p e es) e es) es)
 
 -- entries at places that are as many
-abbrev at_places : List LineAnnotation → List ℕ → List ℕ → List PlacedEntry
-at_places es ps ns = map placed_at (zip es (zip ps ns))
+abbrev at_places : Bool → List LineAnnotation → List ℕ → List ℕ → List PlacedEntry
+at_places cut es ps ns = map (placed_at cut) (zip es (zip ps ns))
 
-positions-at_places : (es : List LineAnnotation) (ps ns : List ℕ) → length ps ≡ length es → length ns ≡ length es
-    → map (λ (e : PlacedEntry). e.position) (at_places es ps ns) ≡ ps
-positions-at_places [] [] ns long_ps long_ns = refl
-positions-at_places [] (p ∷ ps) ns long_ps long_ns = absurd (omega (arith, long_ps))
-positions-at_places (e ∷ es) [] ns long_ps long_ns = absurd (omega (arith, long_ps))
-positions-at_places (e ∷ es) (p ∷ ps) [] long_ps long_ns = absurd (omega (arith, long_ns))
-positions-at_places (e ∷ es) (p ∷ ps) (n ∷ ns) long_ps long_ns =
-    ap (λ xs. p ∷ xs) (positions-at_places es ps ns (omega (arith, long_ps)) (omega (arith, long_ns)))
+positions-at_places : (cut : Bool) (es : List LineAnnotation) (ps ns : List ℕ) → length ps ≡ length es → length ns ≡ length es
+    → map (λ (e : PlacedEntry). e.position) (at_places cut es ps ns) ≡ ps
+positions-at_places cut [] [] ns long_ps long_ns = refl
+positions-at_places cut [] (p ∷ ps) ns long_ps long_ns = absurd (omega (arith, long_ps))
+positions-at_places cut (e ∷ es) [] ns long_ps long_ns = absurd (omega (arith, long_ps))
+positions-at_places cut (e ∷ es) (p ∷ ps) [] long_ps long_ns = absurd (omega (arith, long_ns))
+positions-at_places cut (e ∷ es) (p ∷ ps) (n ∷ ns) long_ps long_ns =
+    ap (λ xs. p ∷ xs) (positions-at_places cut es ps ns (omega (arith, long_ps)) (omega (arith, long_ns)))
 
-counts-at_places : (es : List LineAnnotation) (ps ns : List ℕ) → length ps ≡ length es → length ns ≡ length es
-    → map (λ (e : PlacedEntry). e.looked) (at_places es ps ns) ≡ ns
-counts-at_places [] ps [] long_ps long_ns = refl
-counts-at_places [] ps (n ∷ ns) long_ps long_ns = absurd (omega (arith, long_ns))
-counts-at_places (e ∷ es) [] ns long_ps long_ns = absurd (omega (arith, long_ps))
-counts-at_places (e ∷ es) (p ∷ ps) [] long_ps long_ns = absurd (omega (arith, long_ns))
-counts-at_places (e ∷ es) (p ∷ ps) (n ∷ ns) long_ps long_ns =
-    ap (λ xs. n ∷ xs) (counts-at_places es ps ns (omega (arith, long_ps)) (omega (arith, long_ns)))
+counts-at_places : (cut : Bool) (es : List LineAnnotation) (ps ns : List ℕ) → length ps ≡ length es → length ns ≡ length es
+    → map (λ (e : PlacedEntry). e.looked) (at_places cut es ps ns) ≡ ns
+counts-at_places cut [] ps [] long_ps long_ns = refl
+counts-at_places cut [] ps (n ∷ ns) long_ps long_ns = absurd (omega (arith, long_ns))
+counts-at_places cut (e ∷ es) [] ns long_ps long_ns = absurd (omega (arith, long_ps))
+counts-at_places cut (e ∷ es) (p ∷ ps) [] long_ps long_ns = absurd (omega (arith, long_ns))
+counts-at_places cut (e ∷ es) (p ∷ ps) (n ∷ ns) long_ps long_ns =
+    ap (λ xs. n ∷ xs) (counts-at_places cut es ps ns (omega (arith, long_ps)) (omega (arith, long_ns)))
 
-unplaced-at_places : (es : List LineAnnotation) (ps ns : List ℕ) → length ps ≡ length es → length ns ≡ length es
-    → map unplaced (at_places es ps ns) ≡ map unplaced (labelled es)
-unplaced-at_places [] ps ns long_ps long_ns = refl
-unplaced-at_places (e ∷ es) [] ns long_ps long_ns = absurd (omega (arith, long_ps))
-unplaced-at_places (e ∷ es) (p ∷ ps) [] long_ps long_ns = absurd (omega (arith, long_ns))
-unplaced-at_places (e ∷ es) (p ∷ ps) (n ∷ ns) long_ps long_ns =
-    ap (λ xs. unplaced (placed_at (e, (p, n))) ∷ xs) (unplaced-at_places es ps ns (omega (arith, long_ps)) (omega (arith, long_ns)))
+unplaced-at_places : (cut : Bool) (es : List LineAnnotation) (ps ns : List ℕ) → length ps ≡ length es → length ns ≡ length es
+    → map unplaced (at_places cut es ps ns) ≡ map unplaced (labelled cut es)
+unplaced-at_places cut [] ps ns long_ps long_ns = refl
+unplaced-at_places cut (e ∷ es) [] ns long_ps long_ns = absurd (omega (arith, long_ps))
+unplaced-at_places cut (e ∷ es) (p ∷ ps) [] long_ps long_ns = absurd (omega (arith, long_ns))
+unplaced-at_places cut (e ∷ es) (p ∷ ps) (n ∷ ns) long_ps long_ns =
+    ap (λ xs. unplaced (placed_at cut (e, (p, n))) ∷ xs) (unplaced-at_places cut es ps ns (omega (arith, long_ps)) (omega (arith, long_ns)))
 
--- the entries of a line whose labels are texts, placed as the rule says
-pub placed_of_are : (es : List LineAnnotation) → All HasTextLabel es → ArePlaced es (placed_of es)
-placed_of_are es texts =
+-- the entries of a line, placed as the rule says
+pub placed_of_are : (cut : Bool) (es : List LineAnnotation) → ArePlaced cut es (placed_of cut es)
+placed_of_are cut es =
     let entry : PlacedEntry → LineAnnotation = λ e. e.entry in
     let ordered : List LineAnnotation = ordered_by is_placed_before es in
-    let sorted : List PlacedEntry = labelled ordered in
+    let sorted : List PlacedEntry = labelled cut ordered in
     let ps : List ℕ = line_positions sorted in
     let ns : List ℕ = look_counts 0 sorted in
-    let all : length sorted ≡ length ordered = length-map ordered (λ e. placed_at (e, (0, 0))) in
+    let all : length sorted ≡ length ordered = length-map ordered (λ e. placed_at cut (e, (0, 0))) in
     let long_ps : length ps ≡ length ordered = length-line_positions sorted ∙ all in
     let long_ns : length ns ≡ length ordered = length-look_counts 0 sorted ∙ all in
-    subst (ArePlaced es) (sym (placed_of-at es))
-    (ArePlaced-from es (labelled es) sorted (at_places ordered ps ns) (entries-labelled es) (labels-labelled es texts) (bytes-labelled es)
-    (IsPermutation-map (λ e. placed_at (e, (0, 0))) es ordered (IsPermutation-ordered_by is_placed_before es))
-    (entries-labelled ordered ∙ ap (ordered_by is_placed_before) (sym (entries-labelled es)))
-    (subst IsFromRight (sym (entries-labelled ordered)) (from_right ordered (Falls-ordered_by es)))
-    (positions-at_places ordered ps ns long_ps long_ns) (counts-at_places ordered ps ns long_ps long_ns)
-    (unplaced-at_places ordered ps ns long_ps long_ns))
-
--- columns that are dropped are none of a label's
-pub texts-shifted : (dropped : ℕ) (es : List LineAnnotation) → All HasTextLabel es → All HasTextLabel (map (shifted dropped) es)
-texts-shifted dropped [] texts = All-nil HasTextLabel
-texts-shifted dropped (e ∷ es) texts = grind (arith, All-cons, All-head, All-tail, texts-shifted dropped es (All-tail HasTextLabel e es texts))
+    subst (ArePlaced cut es) (sym (placed_of-at cut es))
+    (ArePlaced-from cut es (labelled cut es) sorted (at_places cut ordered ps ns) (entries-labelled cut es) (labels-labelled cut es)
+    (IsPermutation-map (λ e. placed_at cut (e, (0, 0))) es ordered (IsPermutation-ordered_by is_placed_before es))
+    (entries-labelled cut ordered ∙ ap (ordered_by is_placed_before) (sym (entries-labelled cut es)))
+    (subst IsFromRight (sym (entries-labelled cut ordered)) (from_right ordered (Falls-ordered_by es)))
+    (positions-at_places cut ordered ps ns long_ps long_ns) (counts-at_places cut ordered ps ns long_ps long_ns)
+    (unplaced-at_places cut ordered ps ns long_ps long_ns))

@@ -1,24 +1,26 @@
 -- What is seen of the labels of a line: none is lost.
-use Rattle.std.specs.Prelude.{ℕ, Bool, true, ◌+◌, ◌<◌, ◌≤◌, ◌≡◌, ◌⊎◌, ◌==◌, ◌&&◌, ◌||◌, nat_le, nat_lt, max, All, List}
+use Rattle.std.specs.Prelude.{ℕ, Bool, true, ◌+◌, ◌-◌, ◌<◌, ◌≤◌, ◌≡◌, ◌⊎◌, ◌&&◌, ◌||◌, nat_le, nat_lt, max, All, List}
 use Rattle.std.specs.Prelude.{[], count_by, length, map, slice_index_or}
 use Rattle.snippet_strokes.proofs.Common.{Cell, unlinked_cell, DecorStyle, cell_at, is_bar, LineAnnotation, Layout, code_cell, label_role, label_text}
-use Rattle.snippet_strokes.proofs.Common.{is_start_part, IsStrokeCell, IsStemCell}
+use Rattle.snippet_strokes.proofs.Common.{is_start_part, IsStrokeCell, IsStemCell, label_pieces, shows_any}
 
--- where the label of an entry begins: in which row of a line's strokes, that of the marks first, and in which cell of it
+-- the pieces of the label of an entry, and where it begins: in which row of a line's strokes, that of the marks first, and in which cell
+-- of it
 pub record PlacedLabel : Type 0 where
   pub entry : LineAnnotation
+  pub pieces : List (List ℕ)
   pub row : ℕ
   pub cell : ℕ
 
 -- whether a cell of those rows is one of the label's
 abbrev pub is_cell_of : ℕ → ℕ → PlacedLabel → Bool
-is_cell_of r c l = l.row == r && (nat_le l.cell c && nat_lt c (l.cell + length (label_text l.entry)))
+is_cell_of r c l = nat_le l.row r && (nat_le l.cell c && nat_lt c (l.cell + length (slice_index_or l.pieces (r - l.row) [])))
 
--- the label stands whole in these rows, in the role of labels of its kind: in the row of the marks one cell after its mark, which
--- takes column 0 even where it ends there; or in a row below, at the mark's first column
+-- the label stands whole in these rows, piece below piece, in the role of labels of its kind: in the row of the marks one cell after its
+-- mark, which takes column 0 even where it ends there; or in a row below, at the mark's first column
 pub record StandsIn (layout : Layout) (rows : List (List Cell)) (l : PlacedLabel) : Type 0 where
-  pub whole : (n : ℕ) → n < length (label_text l.entry)
-      → cell_at rows l.row (l.cell + n) ≡ unlinked_cell (label_role l.entry.kind) (slice_index_or (label_text l.entry) n 0)
+  pub whole : (k n : ℕ) → n < length (slice_index_or l.pieces k [])
+      → cell_at rows (l.row + k) (l.cell + n) ≡ unlinked_cell (label_role l.entry.kind) (slice_index_or (slice_index_or l.pieces k []) n 0)
   pub place : ((l.row ≡ 0) × (l.cell ≡ code_cell layout (max l.entry.end.display 1) + 1)) ⊎ ((0 < l.row) × (l.cell ≡ code_cell layout l.entry.start.display))
 
 -- a stem leads from the mark down to the label, if the label hangs below it: one stands in each row between, in the label's first cell,
@@ -32,8 +34,9 @@ IsLedTo decor labels rows l =
 pub record LabelsStand (layout : Layout) (es : List LineAnnotation) (rows : List (List Cell)) : Type 0 where
   pub labels : List PlacedLabel
   pub are : map (λ (l : PlacedLabel). l.entry) labels ≡ es
-  pub stand : All (λ l. 0 < length (label_text l.entry) → StandsIn layout rows l) labels
-  pub led : All (λ l. 0 < length (label_text l.entry) → IsLedTo layout.decor labels rows l) labels
+  pub pieces : All (λ l. l.pieces ≡ label_pieces layout.label_lines (label_text l.entry)) labels
+  pub stand : All (λ l. shows_any l.pieces ≡ true → StandsIn layout rows l) labels
+  pub led : All (λ l. shows_any l.pieces ≡ true → IsLedTo layout.decor labels rows l) labels
   pub apart : (r c : ℕ) → count_by (is_cell_of r c) labels ≤ 1
   pub others : (r c : ℕ) → layout.code ≤ c → count_by (is_cell_of r c) labels ≡ 0 → IsStrokeCell layout.decor (cell_at rows r c)
 

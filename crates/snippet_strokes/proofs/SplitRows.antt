@@ -12,13 +12,14 @@ use Rattle.snippet_strokes.proofs.Common.{glyph_at, rules}
 use Rattle.snippet_strokes.proofs.SeenRows.{wide_entries, AreSeen, CutsRows, HasNoBars}
 use Rattle.snippet_strokes.proofs.LineFromValue.{rows_cut}
 use Rattle.snippet_strokes.proofs.StrokeCells.{Painted-marks}
-use Rattle.snippet_strokes.proofs.WriteLaws.{StrokesPainted, DrawsFrom-labels, All-label_of, All-flat_map}
+use Rattle.snippet_strokes.proofs.PieceWrites.{All-label_of, labels_some}
+use Rattle.snippet_strokes.proofs.WriteLaws.{StrokesPainted, labels_count, All-flat_map}
 use Rattle.snippet_strokes.proofs.CellLemmas.{drawn_strokes, marks_of, begun_rows, drawn_mark, bar_writes, corner_by, top_by, written_by}
 use Rattle.snippet_strokes.proofs.BarWrites.{DrawsBarCells-corners, DrawsFrom-connectors, DrawsFrom-stems, All-column_of, All-connector_of, All-stretch_of}
 use Rattle.snippet_strokes.proofs.BarWrites.{All-stem_of, All-stems_of}
 use Rattle.snippet_strokes.proofs.BegunLemmas.{rows_begun, rows_ready, sole}
 use Rattle.snippet_strokes.proofs.PositionLemmas.{HasRows-row_count, row_count_some}
-use Rattle.snippet_strokes.proofs.ReadyLemmas.{all_ready, ready_bar_cells, ready_places}
+use Rattle.snippet_strokes.proofs.ReadyLemmas.{all_ready, ready_bar_cells}
 use Rattle.snippet_strokes.proofs.StrokeLemmas.{strokes_seen}
 use Rattle.snippet_strokes.proofs.EntryBarLaws.{marks_painted, under_painted}
 use Rattle.snippet_strokes.proofs.LowerWrites.{flat_map-lowered, lowered, painted-below, strokes-lowered, written-cons}
@@ -120,7 +121,7 @@ module _ (layout : Layout) where
   stems_below es = All-stems_of IsBelow layout 1 es (λ k d within. All-stem_of IsBelow layout 1 (get_or es k d) (λ b low. omega arith))
 
   labels_below : (es : List PlacedEntry) → All IsBelow (labels_of layout 1 es)
-  labels_below es = All-flat_map IsBelow (label_of layout 1) es (λ k d within. All-label_of IsBelow layout 1 (get_or es k d) (λ has. omega arith))
+  labels_below es = All-flat_map IsBelow (label_of layout 1) es (λ k d within. All-label_of IsBelow layout 1 (get_or es k d) (λ n _ _. omega arith))
 
   marks_below : (es : List PlacedEntry) → All IsBelow (marks_of layout 1 es)
   marks_below es = All-flat_map IsBelow (drawn_mark layout 1) es (λ k d within. All-drawn_mark IsBelow layout 1 (get_or es k d) (omega arith) (λ w is. omega
@@ -207,13 +208,14 @@ module _ (layout : Layout) where
 -- as many rows as are begun are enough
 pub enough_begun : {row count : ℕ} {placed : List PlacedEntry} (layout : Layout) (dropped : ℕ) (entries : List LineAnnotation)
     (old begun : List (List Cell)) (sep end : List Cell) → AreDrawable layout entries
-    → ArePlaced (map (shifted dropped) entries) placed → count ≡ row_count placed → length old ≡ row + 1
+    → ArePlaced layout.label_lines (map (shifted dropped) entries) placed → count ≡ row_count placed → length old ≡ row + 1
     → begun ≡ old ++ replicate (count - 1) sep ++ end ∷ [] → length begun ≤ 2 ^ 60 → AreEnough layout row (length begun) placed
 enough_begun {row} {count} {placed} layout dropped entries old begun sep end drawable are is last begins small =
     record {
       marks = omega (arith, is, row_count_some placed, last, rows_begun old begun sep end count (omega (arith, is, row_count_some placed)) begins);
       small = small;
-      rows = rows_ready placed old begun sep end count (row + 1) (length begun) is (sym last) begins refl;
+      rows = rows_ready placed old begun sep end count (row + 1) (length begun)
+          (labels_some layout.label_lines (map (shifted dropped) entries) placed are) is (sym last) begins refl;
       ready = all_ready layout dropped entries placed drawable are;
     }
 
@@ -249,8 +251,7 @@ module _ {layout : Layout} {row : ℕ} {placed : List PlacedEntry} (old new : Li
   count_stems drawn = ap length drawn ∙ (DrawsFrom-stems layout (row + 1) 0 placed old enough.rows (λ k d within. omega arith)).count
 
   pub count_labels : new ≡ painted (labels_of layout (row + 1) placed) old → length new ≡ length old
-  count_labels drawn = ap length drawn ∙ (DrawsFrom-labels layout (row + 1) 0 placed old (ready_places layout placed enough.ready)
-      enough.rows (λ k d within. omega arith)).count
+  count_labels drawn = ap length drawn ∙ labels_count layout (row + 1) placed old enough.rows
 
   pub count_marks : (order : List PlacedEntry) → new ≡ painted (marks_of layout (row + 1) order) old → length new ≡ length old
   count_marks order drawn = ap length drawn ∙ (Painted-marks layout (row + 1) order old).count enough.marks
@@ -284,12 +285,13 @@ painted_seen layout room closes es source rows place places bar_cells bare_bars 
     let stemmed = painted (stems_of layout 1 placed) barred in
     let labelled = painted (labels_of layout 1 placed) stemmed in
     let marked = painted (marks_of layout 1 order) labelled in
-    let many : length joined ≡ length begun = (DrawsFrom-connectors layout 1 placed begun (HasRows-row_count 1 (length begun) placed long)).count in
+    let many : length joined ≡ length begun = (DrawsFrom-connectors layout 1 placed begun (HasRows-row_count 1 (length begun) placed
+    (labels_some layout.label_lines es placed is.are) long)).count in
     let under = under_painted layout 0 (length joined) (length begun) placed begun joined barred stemmed labelled many refl refl refl refl in
     let all : painted (drawn_strokes layout 0 (row_count placed + 1) placed order) begun ≡ marked =
     grind (arith, common_steps, placed, order, begun, long, marks_painted, labelled, marked, under) in
     let Cut : List (List Cell) → Type 0 = λ drawn.
-    CutsRows layout (wide_entries room layout.decor es) (is_uncut room layout.decor es) (row_at drawn 0) (row_at drawn 1) (drop 2 drawn) rows in
+    CutsRows layout (wide_entries room layout.decor es) (is_uncut room layout es) (row_at drawn 0) (row_at drawn 1) (drop 2 drawn) rows in
     strokes_seen layout room closes es placed [] source begun joined barred stemmed labelled marked place is.are
     (entries_all HasPlace es placed is.are.same places) (entries_all (HasBarCell layout) es placed is.are.same bar_cells)
     bare_bars refl refl refl refl refl refl rows (subst Cut (is.painted_are ∙ all) (rows_cut layout room closes es source rows is))

@@ -16,7 +16,9 @@ use Rattle.snippet_strokes.proofs.Common.{rules}
 use Rattle.snippet_strokes.proofs.StrokeGlyphs.{of_foot, stems_among}
 use Rattle.snippet_strokes.proofs.CellLemmas.{written_by, drawn_mark, drawn_strokes, marks_of, stem_write, cut_row, bar_writes, begun_rows, corner_by}
 use Rattle.snippet_strokes.proofs.CellLemmas.{above_zero}
-use Rattle.snippet_strokes.proofs.WriteLaws.{painted-append, All-label_of, All-flat_map, cell-written, painted-cell, painted-count}
+use Rattle.snippet_strokes.proofs.PieceWrites.{All-label_of, has_piece, labels_some}
+use Rattle.snippet_strokes.proofs.PlacedOf.{placed_of_are}
+use Rattle.snippet_strokes.proofs.WriteLaws.{painted-append, All-flat_map, cell-written, painted-cell, painted-count}
 use Rattle.snippet_strokes.proofs.Reach.{Reaches, cell_of_write}
 use Rattle.snippet_strokes.proofs.BarWrites.{All-stretch_of, All-stem_of, All-stems_of, stems_next, stems_skip, All-connector_of}
 use Rattle.snippet_strokes.proofs.StrokeCells.{BesideLabels}
@@ -160,7 +162,7 @@ module _ (layout : Layout) (r c : ℕ) where
       let hung : P (cell_at (painted (bars ++ stems) rows) r c) = subst (λ rs.
       P (cell_at rs r c)) (sym (painted-append bars stems rows)) (stems_stand (row + 1) placed k b d (painted bars rows) within stem low at_row at_cell) in
       let own_labels : All Q labels = All-flat_map Q (label_of layout (row + 1)) placed (λ i x inside.
-      All-label_of Q layout (row + 1) (get_or placed i x) (λ shows there. absurd (beside i x inside shows there))) in
+      All-label_of Q layout (row + 1) (get_or placed i x) (λ n _ _ there. absurd (beside i x inside n there))) in
       let named : P (cell_at (painted (bars ++ stems ++ labels) rows) r c) = subst (λ rs.
       P (cell_at rs r c)) (sym (painted-append (bars ++ stems) labels rows)) (painted-cell P labels (painted (bars ++ stems) rows) r c hung own_labels) in
       subst (λ rs. P (cell_at rs r c)) (sym (painted-append (bars ++ stems ++ labels) marks rows))
@@ -211,8 +213,9 @@ module _ (layout : Layout) (count : ℕ) where
           (All-cons Inside foot [] (omega (arith, mark)) (All-nil Inside))
       by_part (MultilineLine depth) = All-nil Inside
 
-  label_inside : (e : PlacedEntry) → HasRows 1 count e → has_label e ≡ true → 1 + (label_place e).0 < count
-  label_inside e rows has = search rules
+  label_inside : (e : PlacedEntry) → HasRows 1 count e → (n : ℕ) → n < length e.label → 0 < length (get_or e.label n [])
+      → 1 + (label_place e).0 + n < count
+  label_inside e rows n within some = omega (arith, rows.label (has_piece e n some), within)
 
   mark_inside : (e : PlacedEntry) → 1 < count → All Inside (drawn_mark layout 1 e)
   mark_inside e some = search rules
@@ -239,29 +242,31 @@ module _ (layout : Layout) (count : ℕ) where
 
 -- the rows over which strokes are painted stay as many
 pub painted_rows-count : (layout : Layout) (closes : Bool) (placed order : List PlacedEntry) (source : List Cell)
+    → All (λ e. 0 < length e.label) placed
     → length (painted (drawn_strokes layout 0 (row_count placed + 1) placed order) (begun_rows layout closes (row_count placed) source)) ≡ row_count placed + 1
-painted_rows-count layout closes placed order source =
+painted_rows-count layout closes placed order source pieces =
     let count : ℕ = row_count placed in
     let seps : List (List Cell) = replicate (count - 1) (separator_row layout.decor layout.gutter) in
     let last : List Cell = bare_row layout.decor layout.gutter closes in
     let some : 0 < count = row_count_some placed in
     let bare : count + 1 ≡ length (begun_rows layout closes count source) =
     grind (arith, common_steps, some, length-append, seps, last, length-replicate, count, layout.decor, layout.gutter) in
-    let rows : All (HasRows 1 (count + 1)) placed = HasRows-row_count 1 (count + 1) placed (omega arith) in
+    let rows : All (HasRows 1 (count + 1)) placed = HasRows-row_count 1 (count + 1) placed pieces (omega arith) in
     painted-count (drawn_strokes layout 0 (count + 1) placed order) (begun_rows layout closes count source) (count + 1) bare
     (strokes_inside layout (count + 1) placed order (omega (arith, some)) rows)
 
 -- so there are as many rows of strokes as the entries ask for, and the source row
 pub stroke_rows-count : (layout : Layout) (room : ℕ) (closes : Bool) (es : List LineAnnotation) (source : List Cell)
-    → length (stroke_rows layout room closes es source) ≡ row_count (placed_of es) + 1
+    → length (stroke_rows layout room closes es source) ≡ row_count (placed_of layout.label_lines es) + 1
 stroke_rows-count layout room closes es source =
-    let placed : List PlacedEntry = placed_of es in
+    let placed : List PlacedEntry = placed_of layout.label_lines es in
     let order : List PlacedEntry = painting_order placed in
     let whole : List (List Cell) = painted (drawn_strokes layout 0 (row_count placed + 1) placed order) (begun_rows layout closes (row_count placed) source) in
     let cut : List Cell → List Cell = cut_row layout.decor (cuts_of layout room order (overlapped placed)) in
     ap length (stroke_rows-cut layout room closes es source)
     ∙ length-append (map cut (take 2 whole)) (drop 2 whole) ∙ ap (λ n. n + length (drop 2 whole)) (length-map (take 2 whole) cut)
     ∙ sym (length-append (take 2 whole) (drop 2 whole)) ∙ ap length (take-append-drop 2 whole) ∙ painted_rows-count layout closes placed order source
+    (labels_some layout.label_lines es placed (placed_of_are layout.label_lines es))
 
 -- The text that the cells of a window print.
 -- the characters of cells that were written

@@ -4,20 +4,22 @@ use Rattle.snippet_strokes.proofs.Common.{replicate, refl, sym, ap, ◌∙◌, s
 use Rattle.snippet_strokes.proofs.Common.{WritesCells-cells_written, is_primary, Cell, text_cells, unlinked_cell, strokes_of, ElementStyle, Layout, PlacedEntry}
 use Rattle.snippet_strokes.proofs.Common.{painting_order, stroke_role, first_glyph, mark_end, WritesCells, Write, glyph_at, painted, stretch_of, ◌==◌, Bool}
 use Rattle.snippet_strokes.proofs.Common.{true, false, ◌++◌, drop, All, flat_map, LineAnnotation, label_role, has_label, label_place, label_of, labels_of}
-use Rattle.snippet_strokes.proofs.Common.{HasPlace, HasItsLabel, ArePlaced, drop_more, take-append-drop, length-drop, get_or-drop, flat_map-append, cell_at}
-use Rattle.snippet_strokes.proofs.Common.{crowds, label_text, nat_lt, list_any, All-append, All-cons, All-nil, All-replicate, underline_role, DecorStyle}
+use Rattle.snippet_strokes.proofs.Common.{HasPlace, ArePlaced, append_assoc, code_cell, label_width, pieces_at, drop_more, take-append-drop, length-drop}
+use Rattle.snippet_strokes.proofs.Common.{get_or-drop, flat_map-append, cell_at}
+use Rattle.snippet_strokes.proofs.Common.{crowds, nat_lt, list_any, All-append, All-cons, All-nil, All-replicate, underline_role, DecorStyle}
 use Rattle.snippet_strokes.proofs.Common.{LineAnnotationType, Singleline, MultilineStart, MultilineEnd, MultilineLine, IsStrokeCell, stroke_glyphs}
 use Rattle.snippet_strokes.proofs.Common.{connector_of, corner_of, foot_glyph, connectors_of, corners_of, HasBarCell, HasBarCellAt, stem_of, stems_of}
 use Rattle.snippet_strokes.proofs.Common.{common_steps, nat_tests, rules}
-use Rattle.snippet_strokes.proofs.CellLemmas.{drawn_mark, marks_of, label_write, bar_writes, corner_by, drawn_strokes}
+use Rattle.snippet_strokes.proofs.CellLemmas.{drawn_mark, marks_of, bar_writes, corner_by, drawn_strokes}
+use Rattle.snippet_strokes.proofs.PieceWrites.{All-label_of, All-pieces_at, has_piece, label_parts_of, label_write, piece_chars_le, piece_within}
 use Rattle.snippet_strokes.proofs.PaintedMarks.{AreMarked, Painted, Paints, mark_cell, StandsWhole}
 use Rattle.snippet_strokes.proofs.LineLemmas.{text_cells-replicate}
 use Rattle.snippet_strokes.proofs.PaintOrder.{IsPaintingOrder-painting_order, IsPermutation-painting_order}
 use Rattle.snippet_strokes.proofs.PaintLemmas.{Painted-next, Painted-none, Paints-more, Paints-none, Paints-past, Paints-rest, first_cell_is, other_cell_is}
-use Rattle.snippet_strokes.proofs.WriteLaws.{flat_map-take_more, less, drawn_mark-none, painted-append, stretch_of-none, All-label_of, All-flat_map}
+use Rattle.snippet_strokes.proofs.WriteLaws.{flat_map-take_more, less, drawn_mark-none, painted-append, stretch_of-none, All-flat_map}
 use Rattle.snippet_strokes.proofs.WriteLaws.{painted-last, painted-cell}
 use Rattle.snippet_strokes.proofs.Reach.{Reaches, cell_of_write}
-use Rattle.snippet_strokes.proofs.LabelKept.{label_chars_le, label_parts, labelled_positions, position_of, stands_left, uncrowded}
+use Rattle.snippet_strokes.proofs.LabelKept.{ascending, label_parts, labelled_positions, position_of, stands_left, uncrowded}
 use Rattle.snippet_strokes.proofs.MarkStrokeLemmas.{of_first}
 use Rattle.snippet_strokes.proofs.StrokeGlyphs.{code_among, of_foot}
 use Rattle.snippet_strokes.proofs.BarWrites.{All-column_of, All-connector_of, All-stretch_of, All-stem_of, All-stems_of}
@@ -37,7 +39,7 @@ stroke_cell decor false ch among = inr (among, refl)
 
 -- no label of these entries, whose marks stand in this row, reaches a cell
 abbrev pub BesideLabels : Layout → ℕ → ℕ → ℕ → List PlacedEntry → Type 0
-BesideLabels layout row r c es = All (λ e. has_label e ≡ true → Reaches r c (label_write layout row e) → ⊥) es
+BesideLabels layout row r c es = All (λ e. (n : ℕ) → Reaches r c (label_write layout row e n) → ⊥) es
 
 module _ (layout : Layout) (r c : ℕ) (right : layout.code ≤ c) where
   abbrev P : Cell → Type 0
@@ -118,7 +120,7 @@ module _ (layout : Layout) (r c : ℕ) (right : layout.code ≤ c) where
 
   labels : (row : ℕ) (es : List PlacedEntry) → BesideLabels layout row r c es → All Q (labels_of layout row es)
   labels row es beside =
-      All-flat_map Q (label_of layout row) es (λ k d within. All-label_of Q layout row (get_or es k d) (λ has there. absurd (beside k d within has there)))
+      All-flat_map Q (label_of layout row) es (λ k d within. All-label_of Q layout row (get_or es k d) (λ n _ _ there. absurd (beside k d within n there)))
 
   marks : (row : ℕ) (es : List PlacedEntry) → All Q (marks_of layout row es)
   marks row es =
@@ -155,54 +157,91 @@ module _ (layout : Layout) (r c : ℕ) (right : layout.code ≤ c) where
 
 -- No label is lost: the labels of two entries share no cell.
 pub uncrowded_apart : (p : ℕ) (e f : PlacedEntry) → crowds p e f ≡ false → has_label e ≡ true → has_label f ≡ true
-    → f.entry.start.display ≤ e.entry.start.display → f.entry.end.display + (length f.label + 2) ≤ e.entry.start.display
+    → f.entry.start.display ≤ e.entry.start.display → f.entry.end.display + (label_width f.label + 2) ≤ e.entry.start.display
 uncrowded_apart p e f crowded has_e has_f left = search rules
 
 -- the labels of two entries, the second of them farther left, share no cell
-pub labels_apart : (layout : Layout) (row : ℕ) (e f : PlacedEntry) → HasPlace e.entry → HasPlace f.entry → HasItsLabel f → has_label e ≡ true
-    → has_label f ≡ true → f.entry.start.display ≤ e.entry.start.display → (e.position ≡ f.position → crowds e.position e f ≡ false) → (r c : ℕ)
-    → Reaches r c (label_write layout row e) → Reaches r c (label_write layout row f) → ⊥
-labels_apart layout row e f place_e place_f label has_e has_f left clear r c there_e there_f = grind (arith, label_chars_le, uncrowded_apart, label_parts)
+pub labels_apart : (layout : Layout) (row : ℕ) (e f : PlacedEntry) (n m : ℕ) → HasPlace e.entry → HasPlace f.entry → n < length e.label
+    → has_label e ≡ true → has_label f ≡ true → f.entry.start.display ≤ e.entry.start.display → e.position ≤ f.position
+    → (f.position < e.position + length e.label → crowds e.position e f ≡ false) → (r c : ℕ)
+    → Reaches r c (label_write layout row e n) → Reaches r c (label_write layout row f m) → ⊥
+labels_apart layout row e f n m place_e place_f within has_e has_f left below clear r c there_e there_f =
+    let few : length (get_or f.label m []) ≤ label_width f.label = piece_chars_le f.label m in
+    elim (cases_lt f.position (e.position + length e.label)) [
+      | inl close ↦
+          let apart = uncrowded_apart e.position e f (clear close) has_e has_f left in
+          elim (label_parts e) [
+            | inl at_e ↦ elim (label_parts f) [
+              | inl at_f ↦ omega (arith, apart, few, at_e.from, at_f.to, there_e.from, there_f.to, place_e.ordered)
+              | inr at_f ↦ omega (arith, apart, few, at_e.from, at_f.column, there_e.from, there_f.to, place_e.ordered, place_f.ordered)
+            ]
+            | inr at_e ↦ elim (label_parts f) [
+              | inl at_f ↦ omega (arith, below, at_e.position, at_f.position)
+              | inr at_f ↦ omega (arith, apart, few, at_e.column, at_f.column, there_e.from, there_f.to, place_f.ordered)
+            ]
+          ]
+      | inr far ↦ elim (label_parts e) [
+        | inl at_e ↦ elim (label_parts f) [
+          | inl at_f ↦ omega (arith, far, within, at_f.position)
+          | inr at_f ↦ omega (arith, far, within, at_e.row, at_e.position, at_f.row, there_e.row, there_f.row)
+        ]
+        | inr at_e ↦ elim (label_parts f) [
+          | inl at_f ↦ omega (arith, below, at_e.position, at_f.position)
+          | inr at_f ↦ omega (arith, far, within, at_e.row, at_f.row, there_e.row, there_f.row)
+        ]
+      ]
+    ]
 
 -- the labels of two entries of a line share no cell
-pub placed_apart : (layout : Layout) (row : ℕ) (given : List LineAnnotation) (es : List PlacedEntry) (i j : ℕ) (d d2 : PlacedEntry)
-    → ArePlaced given es → All (λ e. HasPlace e.entry) es → i < j → j < length es → has_label (get_or es i d) ≡ true
-    → has_label (get_or es j d2) ≡ true → (r c : ℕ) → Reaches r c (label_write layout row (get_or es i d))
-    → Reaches r c (label_write layout row (get_or es j d2)) → ⊥
-placed_apart layout row given es i j d d2 placed places before within has has_f r c here there =
+pub placed_apart : (cut : Bool) (layout : Layout) (row : ℕ) (given : List LineAnnotation) (es : List PlacedEntry) (i j : ℕ) (d d2 : PlacedEntry)
+    → ArePlaced cut given es → All (λ e. HasPlace e.entry) es → i < j → j < length es → (n m r c : ℕ)
+    → Reaches r c (label_write layout row (get_or es i d) n) → Reaches r c (label_write layout row (get_or es j d2) m) → ⊥
+placed_apart cut layout row given es i j d d2 placed places before within n m r c here there =
     let e : PlacedEntry = get_or es i d in
     let f : PlacedEntry = get_or es j d2 in
     let inside : i < length es = omega (arith, before, within) in
-    let are = labelled_positions given es i d placed inside has in
+    let some_e : 0 < length (get_or e.label n []) = omega (arith, here.from, here.to) in
+    let some_f : 0 < length (get_or f.label m []) = omega (arith, there.from, there.to) in
+    let has : has_label e ≡ true = has_piece e n some_e in
+    let are = labelled_positions cut given es i d placed inside has in
     let at_e = position_of es i d are inside in
     let at_f = position_of es j d2 are within in
-    labels_apart layout row e f (places i d inside) (places j d2 within) (placed.labels j d2 within)
-    has has_f (stands_left given es i j d d2 placed before within)
-    (λ one_row. subst (λ p. crowds p e f ≡ false) (sym at_e) (uncrowded 0 es i j d d2 before within (sym at_e ∙ one_row ∙ at_f))) r c here there
+    labels_apart layout row e f n m (places i d inside) (places j d2 within) (piece_within e.label n some_e)
+    has (has_piece f m some_f) (stands_left cut given es i j d d2 placed before within) (omega (arith, at_e, at_f, ascending 0 es i j before within))
+    (λ close. subst (λ p. crowds p e f ≡ false) (sym at_e) (uncrowded 0 es i j d d2 before within (omega (arith, close, at_e, at_f)))) r c here there
 
 -- each label stands whole once all are written
-pub labels_stand : (layout : Layout) (row : ℕ) (given : List LineAnnotation) (es : List PlacedEntry) (rows : List (List Cell)) → ArePlaced given es
-    → All (λ e. HasPlace e.entry) es → All (StandsWhole layout row (painted (labels_of layout row es) rows)) es
-labels_stand layout row given es rows placed places k d within has n inside =
+pub labels_stand : (cut : Bool) (layout : Layout) (row : ℕ) (given : List LineAnnotation) (es : List PlacedEntry) (rows : List (List Cell))
+    → ArePlaced cut given es → All (λ e. HasPlace e.entry) es → All (StandsWhole layout row (painted (labels_of layout row es) rows)) es
+labels_stand cut layout row given es rows placed places k d within i n inside =
     let f : PlacedEntry → List Write = label_of layout row in
     let e : PlacedEntry = get_or es k d in
-    let w : Write = label_write layout row e in
+    let w : Write = label_write layout row e i in
+    let some : 0 < length (get_or e.label i []) = omega (arith, inside) in
     let after = drop (k + 1) es in
-    let r = row + (label_place e).0 in
+    let r = row + (label_place e).0 + i in
     let c = layout.code + (label_place e).1 + n in
     let N : Write → Type 0 = λ v. Reaches r c v → ⊥ in
     let here : Reaches r c w = record { row = refl; from = omega arith; to = omega (arith, inside) } in
     let split : es ≡ take k es ++ e ∷ after = sym (take-append-drop k es) ∙ ap (λ xs. take k es ++ xs) (drop_more es k d within) in
-    let parts : labels_of layout row es ≡ labels_of layout row (take k es) ++ w ∷ labels_of layout row after = ap (flat_map f) split
-    ∙ flat_map-append f (take k es) (e ∷ after) ∙ ap (λ b. labels_of layout row (take k es) ++ (cond b (w ∷ []) [] ++ labels_of layout row after)) has in
-    let beside : All N (labels_of layout row after) = All-flat_map N f after (λ m d2 fits.
+    let ahead : List Write = pieces_at (row + (label_place e).0) (code_cell layout (label_place e).1) (label_role e.entry.kind) (take i e.label) in
+    let below : List Write = pieces_at (r + 1) (code_cell layout (label_place e).1) (label_role e.entry.kind) (drop (i + 1) e.label) in
+    let front : List Write = labels_of layout row (take k es) in
+    let back : List Write = labels_of layout row after in
+    let parts : labels_of layout row es ≡ (front ++ ahead) ++ w ∷ (below ++ back) = ap (flat_map f) split
+    ∙ flat_map-append f (take k es) (e ∷ after)
+    ∙ ap (λ ws. front ++ (ws ++ back)) (label_parts_of layout row e i (piece_within e.label i some) some)
+    ∙ ap (λ ws. front ++ ws) (append_assoc ahead (w ∷ below) back) ∙ sym (append_assoc front ahead (w ∷ (below ++ back))) in
+    let lower : All N below = All-pieces_at N (r + 1) (code_cell layout (label_place e).1) (label_role e.entry.kind) (drop (i + 1) e.label) (λ m _ _ there.
+    absurd (omega (arith, there.row))) in
+    let beside : All N back = All-flat_map N f after (λ m d2 fits.
     let j : ℕ = k + 1 + m in
     let later : j < length es = omega (arith, fits, length-drop (k + 1) es) in
     let same : get_or after m d2 ≡ get_or es j d2 = get_or-drop (k + 1) es m d2 in
-    subst (λ (x : PlacedEntry). All N (f x)) (sym same) (All-label_of N layout row (get_or es j d2) (λ has_f there.
-    placed_apart layout row given es k j d d2 placed places (omega arith) later has has_f r c here there))) in
-    ap (λ ws. cell_at (painted ws rows) r c) parts ∙ painted-last (labels_of layout row (take k es)) (labels_of layout row after) w rows r c here beside
-    ∙ ap (λ m. unlinked_cell (label_role e.entry.kind) (get_or (label_text e.entry) m 0)) (omega arith)
+    subst (λ (x : PlacedEntry). All N (f x)) (sym same) (All-label_of N layout row (get_or es j d2) (λ p _ _ there.
+    placed_apart cut layout row given es k j d d2 placed places (omega arith) later i p r c here there))) in
+    ap (λ ws. cell_at (painted ws rows) r c) parts ∙ painted-last (front ++ ahead) (below ++ back) w rows r c here (All-append N below back lower beside)
+    ∙ ap (λ m. unlinked_cell (label_role e.entry.kind) (get_or (get_or e.label i []) m 0)) (omega arith)
 
 -- The writes of marks paint them, each over those before it.
 -- a mark that takes some cells paints the first, and then the rest

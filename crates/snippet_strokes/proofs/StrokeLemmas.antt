@@ -1,16 +1,15 @@
 -- The rows of a line's strokes, once all are drawn.
 use Rattle.std.proofs.lemmas.Grind.{common_steps}
-use Rattle.snippet_strokes.proofs.Common.{◌≡◌, ◌≢◌, ℕ, zero, suc, ◌+◌, ◌-◌, ◌<◌, ◌≤◌, ◌==◌, ◌&&◌, max, not, Bool, true}
+use Rattle.snippet_strokes.proofs.Common.{◌≡◌, ◌≢◌, ℕ, zero, suc, ◌+◌, ◌-◌, ◌<◌, ◌≤◌, ◌==◌, ◌&&◌, max, Bool, true}
 use Rattle.snippet_strokes.proofs.Common.{false, List, [], ◌∷◌, ◌++◌, length, map, drop, replicate, get_or, refl, sym, ap, ◌∙◌, subst, arith}
-use Rattle.snippet_strokes.proofs.Common.{All, slice_index_or, IsPermutation, cases_lt, nat_tests, length-append, length-replicate, length-drop}
+use Rattle.snippet_strokes.proofs.Common.{All, slice_index_or, IsPermutation, cases_lt, length-append, length-replicate, length-drop}
 use Rattle.snippet_strokes.proofs.Common.{get_or_append_left, get_or_past, get_or_push, length_push, get_or-drop, All-from_get_or, All-nil, All-cons}
-use Rattle.snippet_strokes.proofs.Common.{IsPermutation-map, IsPermutation-trans, length_permutation, LineAnnotation, cell_at, row_at, cells_written, Cell}
-use Rattle.snippet_strokes.proofs.Common.{SPACE, text_cells, written, row_at-cells_written_same, length-written, Layout, PlacedEntry, IsBarCell, is_mark_role}
+use Rattle.snippet_strokes.proofs.Common.{IsPermutation-map, IsPermutation-trans, length_permutation, LineAnnotation, cell_at, row_at, Cell}
+use Rattle.snippet_strokes.proofs.Common.{SPACE, text_cells, written, length-written, Layout, PlacedEntry, IsBarCell, is_mark_role}
 use Rattle.snippet_strokes.proofs.Common.{label_role, label_text, IsFreeCell, painting_order, painted, row_count, HasRows, has_label, has_stem, takes_space}
 use Rattle.snippet_strokes.proofs.Common.{bare_row, separator_row, is_uncut, mark_end, connectors_of, corners_of, labels_of, HasPlace, HasItsLabel, ArePlaced}
 use Rattle.snippet_strokes.proofs.Common.{HasBarCell, stems_of, entries_all, rules}
-use Rattle.std.proofs.Common.{chars}
-use Rattle.snippet_strokes.proofs.SeenRows.{EntryCovers, are_plain, wide_entries, AreSeen, CutsRows, HasNoBars, IsCut, IsStrokeRow, ShowsMarks}
+use Rattle.snippet_strokes.proofs.SeenRows.{EntryCovers, are_plain, wide_entries, AreSeen, CutsRows, HasNoBars, IsCut, IsStrokeRow, ShowsMarks, first_piece}
 use Rattle.snippet_strokes.proofs.PaintedMarks.{IsPaintedAt, AreMarked, StandsWhole}
 use Rattle.snippet_strokes.proofs.DrawnCells.{DrawsFrom, DrawsBarCells, KeepsBarCells, MarksStarts, StandsFrom}
 use Rattle.snippet_strokes.proofs.DrawLemmas.{DrawsFrom-more, bar_space}
@@ -21,6 +20,7 @@ use Rattle.snippet_strokes.proofs.StemCells.{IsHung, all_hung}
 use Rattle.snippet_strokes.proofs.BegunLemmas.{mark_shown, IsPlainEntry, covered_painted, mark_end_plain, spaceless, lone_placed, unlabelled, begun_row}
 use Rattle.snippet_strokes.proofs.BegunLemmas.{written_far, same_after, free_cell, sole, plain_entries, plain_narrow, IsStrokeRow-cut, sole_same}
 use Rattle.snippet_strokes.proofs.LabelKept.{labels_kept}
+use Rattle.snippet_strokes.proofs.PieceWrites.{labels_free, labels_some}
 use Rattle.snippet_strokes.proofs.BarWrites.{DrawsBarCells-corners, DrawsFrom-connectors, KeepsBarCells-connectors, connectors_none, corners_none}
 use Rattle.snippet_strokes.proofs.BarWrites.{DrawsFrom-stems, stems_none, stems_start}
 use Rattle.snippet_strokes.proofs.WriteLaws.{DrawsFrom-labels, label_lone, labels_none, labels_unmarked}
@@ -32,7 +32,7 @@ use Rattle.snippet_strokes.proofs.RowLemmas.{bare_row_short, bare_row_right, fre
 module _ (layout : Layout) (room : ℕ) (closes : Bool) (es : List LineAnnotation) (placed : List PlacedEntry) (above_rows : List (List Cell))
     (plain_row : List Cell) (begun joined barred stemmed labelled new : List (List Cell))
     (place : layout.gutter + 3 ≤ layout.code)
-    (is : ArePlaced es placed)
+    (is : ArePlaced layout.label_lines es placed)
     (places : All (λ (e : PlacedEntry). HasPlace e.entry) placed)
     (bar_cells : All (λ (e : PlacedEntry). HasBarCell layout e.entry) placed)
     (bare_bars : HasNoBars layout plain_row)
@@ -77,7 +77,7 @@ module _ (layout : Layout) (room : ℕ) (closes : Bool) (es : List LineAnnotatio
 
   -- each entry has the rows that it needs, as long as no row is added
   enough : (rows : List (List Cell)) → length rows ≡ length begun → All (HasRows row (length rows)) placed
-  enough rows same = HasRows-row_count row (length rows) placed (omega (arith, same, long_begun))
+  enough rows same = HasRows-row_count row (length rows) placed (labels_some layout.label_lines es placed is) (omega (arith, same, long_begun))
 
   -- ---- what each list of strokes draws
 
@@ -105,7 +105,8 @@ module _ (layout : Layout) (room : ℕ) (closes : Bool) (es : List LineAnnotatio
   labels : (from : ℕ) → All (λ (e : PlacedEntry). StandsFrom layout.code from e.entry) placed → DrawsFrom row from stemmed labelled
   labels from stand =
       let same : length stemmed ≡ length begun = (stems 0 (λ k d within. omega arith)).count ∙ bars.draws.count ∙ lines.count in
-      subst (DrawsFrom row from stemmed) (sym labels_are) (DrawsFrom-labels layout row from placed stemmed places (enough stemmed same) stand)
+      subst (DrawsFrom row from stemmed) (sym labels_are) (DrawsFrom-labels layout row from placed stemmed places (enough stemmed same) stand
+      (labels_free layout.label_lines es placed is))
 
   label_starts : MarksStarts layout.code [] stemmed labelled
   label_starts = subst (MarksStarts layout.code [] stemmed) (sym labels_are) (labels_unmarked layout row placed stemmed)
@@ -113,10 +114,12 @@ module _ (layout : Layout) (room : ℕ) (closes : Bool) (es : List LineAnnotatio
   no_labels : All (λ e. has_label e ≡ false) placed → labelled ≡ stemmed
   no_labels none = labels_are ∙ ap (λ ws. painted ws stemmed) (labels_none layout row placed none)
 
-  lone_label : (e : PlacedEntry) → placed ≡ e ∷ [] → e.position ≡ 0 → 0 < e.entry.end.display → has_label e ≡ true
-      → labelled ≡ cells_written stemmed row (layout.code + e.entry.end.display + 1) (text_cells (label_role e.entry.kind) (label_text e.entry))
+  lone_label : (e : PlacedEntry) → placed ≡ e ∷ [] → e.position ≡ 0 → 0 < e.entry.end.display → 0 < length (get_or e.label 0 [])
+      → row_at labelled row
+      ≡ written SPACE (row_at stemmed row) (layout.code + e.entry.end.display + 1) (text_cells (label_role e.entry.kind) (get_or e.label 0 []))
   lone_label e one beside some has =
-      labels_are ∙ ap (λ xs. painted (labels_of layout row xs) stemmed) one ∙ label_lone layout row e stemmed beside some has
+      ap (λ rows. row_at rows row) (labels_are ∙ ap (λ xs. painted (labels_of layout row xs) stemmed) one)
+      ∙ label_lone layout row e stemmed beside some has
 
   marked : AreMarked layout placed row labelled new
   marked = subst (AreMarked layout placed row labelled) (sym marks_are) (AreMarked-marks layout row placed labelled)
@@ -124,8 +127,8 @@ module _ (layout : Layout) (room : ℕ) (closes : Bool) (es : List LineAnnotatio
   -- each label stands whole once all are written, and once the marks are painted
   stands : All (StandsWhole layout row new) placed
   stands =
-      labels_kept layout row es placed labelled new is places marked
-      (subst (λ rows. All (StandsWhole layout row rows) placed) (sym labels_are) (labels_stand layout row es placed stemmed is places))
+      labels_kept layout.label_lines layout row es placed labelled new is places marked
+      (subst (λ rows. All (StandsWhole layout row rows) placed) (sym labels_are) (labels_stand layout.label_lines layout row es placed stemmed is places))
 
   -- all strokes, as one list
   new_is : new ≡ painted (drawn_strokes layout (length above_rows) (length begun) placed (painting_order placed)) begun
@@ -245,7 +248,9 @@ module _ (layout : Layout) (room : ℕ) (closes : Bool) (es : List LineAnnotatio
       }
 
   unhung : plain ≡ true → All (λ e. label_text e ≡ []) es → labelled ≡ begun
-  unhung flat none = grind (arith, unlabelled, no_labels, no_stems, stemless_bare, spaceless_all, barless)
+  unhung flat none =
+      let bare : All (λ e. has_label e ≡ false) placed = unlabelled layout.label_lines es placed is none in
+      no_labels bare ∙ no_stems (λ k d within. stemless_bare (get_or placed k d) (bare k d within) (spaceless_all flat k d within)) ∙ barless flat
 
   space_at : (p : ℕ) → slice_index_or (bare 0) (layout.code + p) SPACE ≡ SPACE
   space_at p =
@@ -261,26 +266,26 @@ module _ (layout : Layout) (room : ℕ) (closes : Bool) (es : List LineAnnotatio
       found.1 ∙ ap (λ x. x ∷ []) (sole_same q found.0 (subst (λ xs. IsPermutation xs (found.0 ∷ [])) one (subst (IsPermutation placed) found.1 marked.same)))
 
   -- after the mark of a line's one entry stand a space and its label
-  lone : plain ≡ true → (e : LineAnnotation) → es ≡ e ∷ [] → e.start.display < e.end.display → 0 < length (label_text e)
-      → drop (layout.code + e.end.display) (row_at new row) ≡ SPACE ∷ text_cells (label_role e.kind) (label_text e)
+  lone : plain ≡ true → (e : LineAnnotation) → es ≡ e ∷ [] → e.start.display < e.end.display → 0 < length (first_piece layout.label_lines e)
+      → drop (layout.code + e.end.display) (row_at new row) ≡ SPACE ∷ text_cells (label_role e.kind) (first_piece layout.label_lines e)
   lone flat e one some shown =
-      let found = lone_placed es placed is e one in
+      let cut : Bool = layout.label_lines in
+      let found = lone_placed cut es placed is e one in
       let q : PlacedEntry = found.0 in
       let entry : q.entry ≡ e = found.2 in
       let at : ℕ = layout.code + e.end.display in
-      let cells : List Cell = text_cells (label_role e.kind) (label_text e) in
-      let text : chars q.label ≡ label_text e = subst (All HasItsLabel) found.1 is.labels 0 q (omega arith) ∙ ap label_text entry in
-      let labels_here : has_label q ≡ true = has (chars q.label) (omega (arith, ap length text, shown)) in
+      let cells : List Cell = text_cells (label_role e.kind) (first_piece cut e) in
+      let text : get_or q.label 0 [] ≡ first_piece cut e = ap (λ (ps : List (List ℕ)). get_or ps 0 []) (subst (All (HasItsLabel cut)) found.1 is.labels 0 q
+      (omega arith)) ∙ ap (first_piece cut) entry in
       let bare_stems : stemmed ≡ begun = no_stems (subst (All (λ x. has_stem x ≡ false)) (sym found.1)
       (All-cons (λ x. has_stem x ≡ false) q [] (stemless_beside q found.3) (All-nil (λ x. has_stem x ≡ false)))) ∙ barless flat in
-      let write : LineAnnotation → List (List Cell) = λ x. cells_written begun row (layout.code + x.end.display + 1)
-      (text_cells (label_role x.kind) (label_text x)) in
+      let write : LineAnnotation → List ℕ → List Cell = λ x piece. written SPACE (row_at begun row) (layout.code + x.end.display + 1)
+      (text_cells (label_role x.kind) piece) in
       let past : 0 < q.entry.end.display = omega (arith, some, ap (λ (x : LineAnnotation). x.end.display) entry) in
-      let puts : labelled ≡ write e = lone_label q found.1 found.3 past labels_here
-      ∙ ap (λ rows. cells_written rows row (layout.code + q.entry.end.display + 1) (text_cells (label_role q.entry.kind) (label_text q.entry))) bare_stems
-      ∙ ap write entry in
-      let line : row_at labelled row ≡ written SPACE (bare 0) (at + 1) cells = ap (λ rows. row_at rows row) puts
-      ∙ row_at-cells_written_same begun row (at + 1) cells ∙ ap (λ cs. written SPACE cs (at + 1) cells) first_begun in
+      let line : row_at labelled row ≡ written SPACE (bare 0) (at + 1) cells = lone_label q found.1 found.3 past (omega (arith, ap length text, shown))
+      ∙ ap (λ rows. written SPACE (row_at rows row) (layout.code + q.entry.end.display + 1)
+      (text_cells (label_role q.entry.kind) (get_or q.label 0 []))) bare_stems ∙ ap (write q.entry) text ∙ ap (λ x. write x (first_piece cut e)) entry
+      ∙ ap (λ cs. written SPACE cs (at + 1) cells) first_begun in
       let long : length (row_at labelled row) ≡ max (length (bare 0)) (at + 1 + length cells) = ap length line ∙ length-written SPACE (bare 0) (at + 1) cells in
       let ends : mark_end q ≡ e.end.display = mark_end_plain q (subst (All (λ (x : PlacedEntry). IsPlainEntry x.entry)) found.1 (single flat) 0 q
       (omega arith)) ∙ ap (λ (x : LineAnnotation). x.end.display) entry in
@@ -293,9 +298,6 @@ module _ (layout : Layout) (room : ℕ) (closes : Bool) (es : List LineAnnotatio
       same ∙ ap (drop at) line ∙ written_far (bare 0) cells at (omega
       (arith, bare_row_short layout.decor layout.gutter (closes && 0 + 1 == row_count placed), place))
     where
-      has : (cs : List ℕ) → 0 < length cs → not (length cs == 0) ≡ true
-      has cs some = grind (arith, nat_tests, some)
-
       after : (q : PlacedEntry) (e : LineAnnotation) → placed ≡ q ∷ [] → mark_end q ≡ e.end.display → (c : ℕ) → layout.code + e.end.display ≤ c
           → cell_at new row c ≡ cell_at labelled row c
       after q e one ends c right =
@@ -325,7 +327,7 @@ module _ (layout : Layout) (room : ℕ) (closes : Bool) (es : List LineAnnotatio
       let labels_done = label_starts row (layout.code + p) (All-nil (λ (e : PlacedEntry). layout.code + p ≢ layout.code + e.entry.start.display)) stems_done in
       ap (λ (c : Cell). is_mark_role c.role) (marked.painted.unmarked p (unpainted flat p uncovered)) ∙ labels_done
 
-  shows_marks : plain ≡ true → ShowsMarks layout.decor layout.code es (row_at new row)
+  shows_marks : plain ≡ true → ShowsMarks layout.label_lines layout.decor layout.code es (row_at new row)
   shows_marks flat =
       record {
         marks = mark_shown layout es placed row labelled new (plain_entries room layout.decor es flat) is.same marked;
@@ -361,7 +363,7 @@ module _ (layout : Layout) (room : ℕ) (closes : Bool) (es : List LineAnnotatio
 
   -- what is seen of the rows, once those of the source and of the marks are cut where entries are wide
   pub strokes_seen : (rows : List (List Cell))
-      → CutsRows layout (wide_entries room layout.decor es) (is_uncut room layout.decor es) source (row_at new row) lower rows
+      → CutsRows layout (wide_entries room layout.decor es) (is_uncut room layout es) source (row_at new row) lower rows
       → AreSeen layout room es closes plain_row rows
   strokes_seen rows cuts =
       let wide : ℕ = wide_entries room layout.decor es in
@@ -377,7 +379,7 @@ module _ (layout : Layout) (room : ℕ) (closes : Bool) (es : List LineAnnotatio
             cuts.source_now cuts.source_cut;
         strokes = record {
           some = λ flat _. omega (arith, long, row_count_some placed);
-          marks = λ flat. subst (ShowsMarks layout.decor layout.code es) (sym (cuts.marks_cut.uncut (narrow flat))) (shows_marks flat);
+          marks = λ flat. subst (ShowsMarks layout.label_lines layout.decor layout.code es) (sym (cuts.marks_cut.uncut (narrow flat))) (shows_marks flat);
           labels = λ uncut _. LabelsStand-placed layout row es placed new below is places stands beside_labels
               (subst hung (sym new_is) (all_hung layout (length above_rows) (length begun) placed (painting_order placed) begun))
               (rows_new cuts.marks_now (cuts.kept uncut));

@@ -1,12 +1,11 @@
 -- Where no entry of a line is wide none is cut; and a wide one that others overlap isn't, either.
 use Rattle.snippet_strokes.proofs.Common.{◌≡◌, ◌∙◌, ℕ, ◌+◌, Bool, true, false, not, cond, List, [], ◌∷◌, length, map, refl, sym, ap}
-use Rattle.snippet_strokes.proofs.Common.{All, arith, and_from, sum_by-cons, list_all, zip, placed_of, PlacedEntry, is_wide_entry, LineAnnotation}
+use Rattle.snippet_strokes.proofs.Common.{Layout, arith, and_from, sum_by-cons, list_all, zip, placed_of, PlacedEntry, is_wide_entry, LineAnnotation}
 use Rattle.snippet_strokes.proofs.Common.{placeholder_of, DecorStyle, Ascii, Primary, Context, is_cut, overlapped, painting_order, is_uncut}
 use Rattle.std.specs.Prelude.{◌&&◌}
-use Rattle.std.specs.Str.{chars}
 use Rattle.snippet_strokes.proofs.BegunLemmas.{wide_entries-order}
-use Rattle.snippet_strokes.proofs.Examples.{entry}
-use Rattle.snippet_strokes.proofs.PlacedOf.{HasTextLabel, placed_of_are}
+use Rattle.snippet_strokes.proofs.Examples.{entry, layout}
+use Rattle.snippet_strokes.proofs.PlacedOf.{placed_of_are}
 use Rattle.snippet_strokes.proofs.SeenRows.{wide_entries}
 
 -- a sum of nothing
@@ -27,11 +26,12 @@ none_cut room decor (e ∷ es) (flag ∷ flags) narrow =
     (none_cut room decor es flags parts.1)
 
 -- so a line without a wide entry has none that is cut
-pub narrow_uncut : (room : ℕ) (decor : DecorStyle) (es : List LineAnnotation) → All HasTextLabel es → wide_entries room decor es ≡ 0
-    → is_uncut room decor es ≡ true
-narrow_uncut room decor es texts narrow =
-    let placed = placed_of es in
-    none_cut room decor (painting_order placed) (overlapped placed) (wide_entries-order room decor es placed (placed_of_are es texts) ∙ narrow)
+pub narrow_uncut : (room : ℕ) (drawn : Layout) (es : List LineAnnotation) → wide_entries room drawn.decor es ≡ 0 → is_uncut room drawn es ≡ true
+narrow_uncut room drawn es narrow =
+    let cut : Bool = drawn.label_lines in
+    let placed = placed_of cut es in
+    none_cut room drawn.decor (painting_order placed) (overlapped placed)
+    (wide_entries-order cut room drawn.decor es placed (placed_of_are cut es) ∙ narrow)
 
 -- four spans that overlap one another: in twenty columns all are wide, and none is cut
 abbrev nested : List LineAnnotation
@@ -40,10 +40,9 @@ nested = entry Primary 0 60 ∷ entry Context 1 60 ∷ entry Context 2 60 ∷ en
 nested_wide : wide_entries 20 Ascii nested ≡ 4
 nested_wide = refl
 
-nested_uncut : is_uncut 20 Ascii nested ≡ true
-unfolding chars
+nested_uncut : is_uncut 20 layout nested ≡ true
 nested_uncut = refl
 
 -- one alone is cut
-alone_cut : is_uncut 20 Ascii (entry Primary 0 50 ∷ []) ≡ false
+alone_cut : is_uncut 20 layout (entry Primary 0 50 ∷ []) ≡ false
 alone_cut = refl

@@ -5,20 +5,20 @@ use Rattle.snippet_strokes.proofs.Common.{filter, length, map, not, take, if◌t
 use Rattle.snippet_strokes.proofs.Common.{AnnotatedLineInfo, LineAnnotation, Cell, SPACE, text_cells, unlinked_cell, separator_of, closing_row, LineNumber}
 use Rattle.snippet_strokes.proofs.Common.{norm, width_of, StandsClear, dropped_part, Margin, Layout, separator_cell, is_end_part, shifted, PlacedEntry, Solid}
 use Rattle.snippet_strokes.proofs.Common.{Top, OpenBar, bars_apart, ends_of_bars, is_whole_line, ArePlaced, overlapped, AreDrawable, row_count, painting_order}
-use Rattle.snippet_strokes.proofs.Common.{source_row, window_cells, painted, cond, ◌++◌, get_or, refl, sym, ap, ◌∙◌, arith, inl, inr, All-nil}
-use Rattle.snippet_strokes.proofs.Common.{AnnotationKind, Primary, Context, Visible, cells_written, label_role, label_text, is_mark_role, HasRows, has_label}
+use Rattle.snippet_strokes.proofs.Common.{source_row, window_cells, painted, ◌++◌, get_or, refl, sym, ap, ◌∙◌, arith, inl, inr, All-nil}
+use Rattle.snippet_strokes.proofs.Common.{AnnotationKind, Primary, Context, Visible, cells_written, label_role, is_mark_role, HasRows, has_label}
 use Rattle.snippet_strokes.proofs.Common.{Write, label_of, labels_of, HasPlace, ◌-◌, ◌⊎◌, cases_lt, cases_eq, All-append, All-head, All-tail}
 use Rattle.snippet_strokes.proofs.Common.{All-weaker, flat_map, cell_at, row_at, WritesCells-cells_written, length-text_cells, slice_index_or-text_cells}
 use Rattle.snippet_strokes.proofs.Common.{IsFreeCell, nat_lt, replicate, nat_tests, take_more, append-nil, flat_map-append, fold-append, ElementStyle}
-use Rattle.snippet_strokes.proofs.Common.{strokes_of, is_primary, stroke_role, first_glyph, mark_end, stretch_of, common_steps, rules}
+use Rattle.snippet_strokes.proofs.Common.{strokes_of, is_primary, stroke_role, first_glyph, mark_end, stretch_of, common_steps, rules, code_cell}
+use Rattle.snippet_strokes.proofs.Common.{label_place, pieces_at, row_at-cells_written_same, written}
 use Rattle.std.proofs.Common.{chars}
-use Rattle.snippet_strokes.proofs.CellLemmas.{with_parts, cut_row, role_in_source, begun_rows, drawn_strokes, label_write, written_by, drawn_mark}
+use Rattle.snippet_strokes.proofs.CellLemmas.{with_parts, cut_row, role_in_source, begun_rows, drawn_strokes, written_by, drawn_mark}
 use Rattle.snippet_strokes.proofs.CutWords.{cuts_of}
-use Rattle.snippet_strokes.proofs.PlacedOf.{HasTextLabel}
 use Rattle.snippet_strokes.proofs.DrawnCells.{DrawsFrom, MarksStarts, StandsFrom}
 use Rattle.snippet_strokes.proofs.Reach.{Reaches, IsWithin, cell_of_write}
-use Rattle.snippet_strokes.proofs.PositionLemmas.{label_column, label_stands}
-use Rattle.snippet_strokes.proofs.TextLemmas.{free_label_text}
+use Rattle.snippet_strokes.proofs.PieceWrites.{AreFree, All-label_of, All-pieces_at, has_piece, label_of-none, label_parts_of, label_write, piece_within}
+use Rattle.snippet_strokes.proofs.PositionLemmas.{label_column}
 
 -- Rows after writes.
 -- one write more, and some more
@@ -158,29 +158,33 @@ DrawsFrom-painted row from ws rows within =
     }
 
 -- The writes of labels.
--- what holds of the write of a label holds of those of all
-pub All-label_of : (P : Write → Type 0) (layout : Layout) (row : ℕ) (e : PlacedEntry) → (has_label e ≡ true → P (label_write layout row e))
-    → All P (label_of layout row e)
-All-label_of P layout row e holds = search rules
-
 -- labels stand in rows that are there, and not left of their entries
 pub labels_within : (layout : Layout) (row count from : ℕ) (es : List PlacedEntry) → All (λ e. HasPlace e.entry) es → All (HasRows row count) es
-    → All (λ e. StandsFrom layout.code from e.entry) es → All (IsWithin row count from) (labels_of layout row es)
-labels_within layout row count from es places rows stand =
+    → All (λ e. StandsFrom layout.code from e.entry) es → All (λ e. AreFree e.label) es → All (IsWithin row count from) (labels_of layout row es)
+labels_within layout row count from es places rows stand free =
     All-flat_map (IsWithin row count from) (label_of layout row) es (λ k d within.
     let e : PlacedEntry = get_or es k d in
-    All-label_of (IsWithin row count from) layout row e (λ has. record {
+    All-label_of (IsWithin row count from) layout row e (λ n inside some. record {
       below = omega arith;
-      there = label_stands row count e (rows k d within) (places k d within) has;
+      there = omega (arith, (rows k d within).label (has_piece e n some), inside);
       right = omega (arith, stand k d within, (label_column e (places k d within)).0);
-      free = free_label_text e.entry;
+      free = free k d within n [] inside;
     }))
 
--- so labels are drawn there
+-- so there are as many rows after them
+pub labels_count : (layout : Layout) (row : ℕ) (es : List PlacedEntry) (old : List (List Cell)) → All (HasRows row (length old)) es
+    → length (painted (labels_of layout row es) old) ≡ length old
+labels_count layout row es old rows =
+    painted-count (labels_of layout row es) old (length old) refl (All-flat_map (λ w. w.row < length old) (label_of layout row) es (λ k d within.
+    let e : PlacedEntry = get_or es k d in
+    All-label_of (λ w. w.row < length old) layout row e (λ n inside some. omega (arith, (rows k d within).label (has_piece e n some), inside))))
+
+-- and labels are drawn there
 pub DrawsFrom-labels : (layout : Layout) (row from : ℕ) (es : List PlacedEntry) (old : List (List Cell)) → All (λ e. HasPlace e.entry) es
-    → All (HasRows row (length old)) es → All (λ e. StandsFrom layout.code from e.entry) es → DrawsFrom row from old (painted (labels_of layout row es) old)
-DrawsFrom-labels layout row from es old places rows stand =
-    DrawsFrom-painted row from (labels_of layout row es) old (labels_within layout row (length old) from es places rows stand)
+    → All (HasRows row (length old)) es → All (λ e. StandsFrom layout.code from e.entry) es → All (λ e. AreFree e.label) es
+    → DrawsFrom row from old (painted (labels_of layout row es) old)
+DrawsFrom-labels layout row from es old places rows stand free =
+    DrawsFrom-painted row from (labels_of layout row es) old (labels_within layout row (length old) from es places rows stand free)
 
 -- a label is in no role of marks
 label_unmarked : (kind : AnnotationKind) → is_mark_role (unlinked_cell (label_role kind) 32).role ≡ false
@@ -195,18 +199,38 @@ labels_unmarked layout row es rows r c _ before =
     let M : Cell → Type 0 = λ cell. is_mark_role cell.role ≡ false in
     let Q : Write → Type 0 = λ w. Reaches r c w → M (cell_of_write w c) in
     painted-cell M (labels_of layout row es) rows r c before (All-flat_map Q (label_of layout row) es (λ k d within.
-    All-label_of Q layout row (get_or es k d) (λ has there. label_unmarked (get_or es k d).entry.kind)))
+    All-label_of Q layout row (get_or es k d) (λ n _ _ there. label_unmarked (get_or es k d).entry.kind)))
 
 -- where no entry has a label nothing is written
 pub labels_none : (layout : Layout) (row : ℕ) (es : List PlacedEntry) → All (λ e. has_label e ≡ false) es → labels_of layout row es ≡ []
 labels_none layout row es none =
-    flat_map-none (label_of layout row) es (λ k d within. ap (λ b. cond b (label_write layout row (get_or es k d) ∷ []) []) (none k d within))
+    flat_map-none (label_of layout row) es (λ k d within. label_of-none layout row (get_or es k d) (none k d within))
 
--- a lone label stands one cell after its mark
+-- the first piece of a lone label stands one cell after its mark
 pub label_lone : (layout : Layout) (row : ℕ) (e : PlacedEntry) (rows : List (List Cell)) → e.position ≡ 0 → 0 < e.entry.end.display
-    → has_label e ≡ true → painted (labels_of layout row (e ∷ [])) rows ≡ cells_written rows row (layout.code + e.entry.end.display + 1)
-    (text_cells (label_role e.entry.kind) (label_text e.entry))
-label_lone layout row e rows beside some has = search rules
+    → 0 < length (get_or e.label 0 []) → row_at (painted (labels_of layout row (e ∷ [])) rows) row
+    ≡ written SPACE (row_at rows row) (layout.code + e.entry.end.display + 1) (text_cells (label_role e.entry.kind) (get_or e.label 0 []))
+label_lone layout row e rows beside some shown =
+    let role : ElementStyle = label_role e.entry.kind in
+    let cell : ℕ = code_cell layout (label_place e).1 in
+    let at : ℕ = layout.code + e.entry.end.display + 1 in
+    let w : Write = label_write layout row e 0 in
+    let here : w.row ≡ row = grind (arith, nat_tests, beside, label_place) in
+    let there : w.cell ≡ at = grind (arith, nat_tests, beside, some, label_place) in
+    let rest : List Write = pieces_at (row + (label_place e).0 + 0 + 1) cell role (drop (0 + 1) e.label) in
+    let split : labels_of layout row (e ∷ []) ≡ w ∷ rest = right_nil (label_of layout row e)
+    ∙ label_parts_of layout row e 0 (piece_within e.label 0 shown) shown in
+    let mid : List (List Cell) = cells_written rows w.row w.cell (text_cells role (get_or e.label 0 [])) in
+    ap (λ ws. row_at (painted ws rows) row) split
+    ∙ painted-other rest mid row (All-pieces_at (λ v. row ≢ v.row) (row + (label_place e).0 + 0 + 1) cell role (drop (0 + 1) e.label) (λ n _ _ same.
+    absurd (omega (arith, same)))) ∙ ap (row_at mid) (sym here)
+    ∙ row_at-cells_written_same rows w.row w.cell (text_cells role (get_or e.label 0 []))
+    ∙ ap (λ r. written SPACE (row_at rows r) w.cell (text_cells role (get_or e.label 0 []))) here
+    ∙ ap (λ c. written SPACE (row_at rows row) c (text_cells role (get_or e.label 0 []))) there
+  where
+    right_nil : (ws : List Write) → ws ++ [] ≡ ws
+    right_nil [] = refl
+    right_nil (w ∷ ws) = ap (λ xs. w ∷ xs) (right_nil ws)
 
 -- What is known of the rows of a line, by which laws are proved. LineFromValue has it of the rows that painters promise.
 -- ---- the source row
@@ -237,7 +261,7 @@ pub record IsHighlighted (code dropped : ℕ) (es : List LineAnnotation) (plain 
 -- source row and that of the marks, stretches are cut where entries are wide
 pub record StrokesPainted (layout : Layout) (room : ℕ) (closes : Bool) (es : List LineAnnotation) (source : List Cell) (rows : List (List Cell)) : Type 0 where
   pub placed : List PlacedEntry
-  pub are : ArePlaced es placed
+  pub are : ArePlaced layout.label_lines es placed
   pub top : List Cell
   pub marks : List Cell
   pub lower : List (List Cell)
@@ -266,13 +290,12 @@ pub record AreLineRows (layout : Layout) (room : ℕ) (closes : Bool) (text : Li
 -- ---- all of them
 
 -- a line can be shown: its number is one that a machine holds, what the gutter shows beside it has room up to the separator, its entries
--- can be drawn, none of them stands left of the padding of the margin's left bound, and their labels are texts
+-- can be drawn, and none of them stands left of the padding of the margin's left bound
 pub record CanBeShown (layout : Layout) (margin : Margin) (numbers : LineNumbers) (info : AnnotatedLineInfo) : Type 0 where
   pub small : info.line_index < 2 ^ 64
   pub number : length (shown_number numbers layout.gutter info.line_index) ≤ separator_cell layout
   pub entries : AreDrawable layout info.annotations.items
   pub clear : All (StandsClear margin) info.annotations.items
-  pub labels : All HasTextLabel info.annotations.items
 
 -- the rows show this line. Its source row shows its number and the window of its source, normalised, and is highlighted as its entries
 -- ask; the rows are what the entries, and the bars that are open above the line, make of that row, as far left as columns of the line

@@ -1,5 +1,5 @@
 -- The bars of spans of several lines: which are open beside a line, and what drawing them changes.
-use Rattle.std.specs.Prelude.{◌+◌, ◌==◌, ◌&&◌, ◌||◌, ℕ, not, Bool, Option, Some, None, List, [], ◌∷◌, ◌++◌, filter, fold}
+use Rattle.std.specs.Prelude.{◌==◌, ◌&&◌, ◌||◌, ℕ, not, Bool, Option, Some, None, List, [], ◌∷◌, ◌++◌, filter, fold}
 use Rattle.std.specs.Prelude.{take}
 use Rattle.std.specs.Char.{is_whitespace}
 use Rattle.std.specs.List.{filter_map, list_all, list_any}

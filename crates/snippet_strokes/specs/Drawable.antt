@@ -5,13 +5,12 @@ use Rattle.snippet_lines.specs.declared.number.LineNumbers.{LineNumbers}
 use Rattle.snippet_parts.specs.declared.entries.AnnotatedLineInfo.{AnnotatedLineInfo}
 use Rattle.snippet_parts.specs.declared.entries.LineAnnotation.{LineAnnotation}
 use Rattle.snippet_text.specs.TextBounds.{TextFits}
-use Rattle.snippet_style.specs.Bounds.{FitsRow}
+use Rattle.snippet_style.specs.Bounds.{AreRows, FitsRow}
 use Rattle.snippet_window.specs.Measures.{StandsClear}
 use Rattle.snippet_window.specs.declared.margin.Margin.{Margin}
 use Rattle.snippet_grid.specs.Layout.{Layout, separator_cell, inner_cell}
 use Rattle.snippet_labels.specs.declared.positions.PlacedEntry.{PlacedEntry}
-use Rattle.snippet_labels.specs.Placing.{HasPlace, HasItsLabel}
-use Rattle.snippet_text.specs.Normalized.{normalized_chars}
+use Rattle.snippet_labels.specs.Placing.{HasPlace}
 use Rattle.snippet_parts.specs.declared.entries.LineAnnotationType.{LineAnnotationType}
 use Rattle.snippet_parts.specs.declared.entries.LineAnnotationType.TheVariants.{Singleline, MultilineStart, MultilineEnd, MultilineLine}
 
@@ -41,9 +40,9 @@ pub record IsDrawableLine (layout : Layout) (margin : Margin) (numbers : LineNum
   pub entries : AreDrawable layout info.annotations.items
   pub clear : All (StandsClear margin) info.annotations.items
 
--- an entry that is placed can be drawn: the same, where it holds what its label shows, which fits a row
+-- an entry that is placed can be drawn: the same, where each piece of its label fits a row, and there are no more pieces than a grid has rows
 pub record IsReady (layout : Layout) (e : PlacedEntry) : Type 0 where
   pub columns : HasPlace e.entry
   pub bar_cell : HasBarCell layout e.entry
-  pub label : HasItsLabel e
-  pub short : FitsRow (normalized_chars e.entry.label)
+  pub short : All FitsRow e.label
+  pub few : AreRows (length e.label)

@@ -1,11 +1,15 @@
 -- How many rows the strokes of a line take.
-use Rattle.std.specs.Prelude.{ℕ, ◌+◌, ◌==◌, List, if◌then◌else◌, fold, max}
+use Rattle.std.specs.Prelude.{ℕ, ◌+◌, ◌-◌, ◌==◌, Bool, List, if◌then◌else◌, length, map}
 use Rattle.snippet_labels.specs.declared.positions.PlacedEntry.{PlacedEntry}
 use Rattle.snippet_labels.specs.Positions.{are_starts}
+use Rattle.snippet_parts.specs.Least.{greatest}
 
--- how many rows the strokes of some entries take: that of the marks, and below it, where an entry needs a row of its own,
--- as many as the lowest position, and one more for labels, which starts don't have
+-- how many rows an entry needs below that of the marks: down to the last piece of a label that hangs, or of one that stands after its
+-- mark; starts, which have no label, down to their lines to bars
+abbrev pub rows_below : Bool → PlacedEntry → ℕ
+rows_below starts e =
+    if starts then e.position else (if e.position == 0 then length e.label - 1 else e.position + length e.label)
+
+-- how many rows the strokes of some entries take: that of the marks, and as many below it as any of them needs
 abbrev pub row_count : List PlacedEntry → ℕ
-row_count placed =
-    let lowest = fold (λ lowest e. max lowest e.position) 0 placed in
-    if lowest == 0 then 1 else (if are_starts placed then lowest + 1 else lowest + 2)
+row_count placed = greatest (map (rows_below (are_starts placed)) placed) + 1

@@ -1,5 +1,5 @@
 -- Strokes as their painters promise them.
-use Rattle.std.specs.Prelude.{ℕ, ◌+◌, ◌==◌, ◌&&◌, ◌||◌, if◌then◌else◌, List, fold, max, [], ◌∷◌, ◌++◌}
+use Rattle.std.specs.Prelude.{ℕ, ◌+◌, ◌==◌, ◌&&◌, ◌||◌, if◌then◌else◌, List, [], ◌∷◌, ◌++◌}
 use Rattle.snippet_style.specs.declared.glyphs.DecorStyle.{DecorStyle}
 use Rattle.snippet_style.specs.Glyphs.{strokes_of}
 use Rattle.snippet_labels.specs.declared.positions.PlacedEntry.{PlacedEntry}
@@ -34,10 +34,6 @@ abbrev pub foot_glyph : DecorStyle → PlacedEntry → ℕ
 foot_glyph decor e =
     let strokes = strokes_of decor (is_primary e.entry.kind) in
     if is_start_part e.entry.annotation_type then strokes.corner else (if takes_space e && has_label e then strokes.corner_with_label else strokes.stem)
-
--- the greatest position of some entries
-abbrev pub lowest_position : List PlacedEntry → ℕ
-lowest_position placed = fold (λ lowest e. max lowest e.position) 0 placed
 
 -- what of an entry's bar stands in the source row: the uppermost part of that of an end
 abbrev pub top_of : Layout → ℕ → PlacedEntry → List Write

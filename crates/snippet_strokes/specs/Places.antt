@@ -1,17 +1,17 @@
 -- What the entries of a line need so that their strokes can be drawn.
-use Rattle.std.specs.Prelude.{◌≡◌, ℕ, ◌+◌, ◌<◌, true, List, All}
+use Rattle.std.specs.Prelude.{◌≡◌, ℕ, ◌+◌, ◌<◌, ◌≤◌, true, List, All, length}
 use Rattle.snippet_grid.specs.Layout.{Layout}
 use Rattle.snippet_labels.specs.declared.positions.PlacedEntry.{PlacedEntry}
 use Rattle.snippet_labels.specs.Placing.{HasPlace}
 use Rattle.snippet_strokes.specs.Drawable.{IsReady}
 use Rattle.snippet_style.specs.Bounds.{AreRows}
-use Rattle.snippet_labels.specs.Positions.{has_label}
+use Rattle.snippet_labels.specs.Positions.{has_label, label_place}
 
--- the rows that an entry needs are there: down to that of its stem, or where it has none that of the marks, and where its
--- label hangs down to that of the label
+-- the rows that an entry needs are there: down to that of its stem, or where it has none that of the marks, and down to the last of its
+-- label, if it has one
 pub record HasRows (row count : ℕ) (e : PlacedEntry) : Type 0 where
   pub mark : row + e.position < count
-  pub label : 0 < e.position → has_label e ≡ true → row + e.position + 1 < count
+  pub label : has_label e ≡ true → row + (label_place e).0 + length e.label ≤ count
 
 -- an entry has its place among so many rows, of which this is that of the marks: it has its columns, and the rows that it needs, and
 -- there are no more rows than a grid can have

@@ -1,16 +1,14 @@
 -- What is written for the strokes of a line, as lists of writes: its labels, its stems, the lines that lead to bars, the bars of
 -- the spans that begin or end on it, and all of them, over which its marks are painted.
-use Rattle.std.specs.Prelude.{ℕ, ◌+◌, ◌-◌, List, [], ◌∷◌, map, if◌then◌else◌, ◌==◌, ◌&&◌, Bool, not, ◌++◌, replicate, drop, take, fold}
+use Rattle.std.specs.Prelude.{ℕ, ◌+◌, ◌-◌, List, [], ◌∷◌, map, if◌then◌else◌, ◌==◌, ◌&&◌, Bool, not, ◌++◌, length, replicate, drop, take, fold}
 use Rattle.std.specs.List.{range_with_len, flat_map, list_all, zip}
 use Rattle.snippet_style.specs.declared.role.ElementStyle.{ElementStyle}
 use Rattle.snippet_strokes.specs.Writes.{Write, glyph_at, painted, stretch_of}
 use Rattle.snippet_style.specs.Glyphs.{strokes_of}
-use Rattle.snippet_style.specs.declared.glyphs.DecorStyle.{DecorStyle}
 use Rattle.snippet_model.specs.AnnotationKind.{is_primary}
 use Rattle.snippet_grid.specs.Layout.{Layout, bar_cell, code_cell}
 use Rattle.snippet_labels.specs.declared.positions.PlacedEntry.{PlacedEntry}
 use Rattle.snippet_labels.specs.PlacedEntries.{label_role}
-use Rattle.snippet_text.specs.Normalized.{normalized_chars}
 use Rattle.snippet_parts.specs.declared.entries.LineAnnotation.{LineAnnotation}
 use Rattle.snippet_style.specs.Cell.{Cell}
 use Rattle.snippet_style.specs.Separators.{separator_row}
@@ -24,12 +22,20 @@ use Rattle.snippet_strokes.specs.Bars.{bar_at}
 
 -- ---- labels
 
+-- a piece of a label in this row, from this cell on, if it has a character
+abbrev pub piece_at : ℕ → ℕ → ElementStyle → List ℕ → List Write
+piece_at row cell role piece = if length piece == 0 then [] else record { row = row; cell = cell; text = piece; role = role } ∷ []
+
+-- the pieces of a label, each in a row of its own from this one on
+abbrev pub pieces_at : ℕ → ℕ → ElementStyle → List (List ℕ) → List Write
+pieces_at row cell role [] = []
+pieces_at row cell role (piece ∷ pieces) = piece_at row cell role piece ++ pieces_at (row + 1) cell role pieces
+
 -- the label of an entry, if it has one, at its place below the row of the marks
 abbrev pub label_of : Layout → ℕ → PlacedEntry → List Write
 label_of layout row e =
     let place = label_place e in
-    if has_label e
-    then record { row = row + place.0; cell = code_cell layout place.1; text = normalized_chars e.entry.label; role = label_role e.entry.kind } ∷ [] else []
+    pieces_at (row + place.0) (code_cell layout place.1) (label_role e.entry.kind) e.label
 
 -- ---- stems
 
@@ -85,15 +91,15 @@ abbrev pub cut_pairs : List PlacedEntry → List (PlacedEntry × Bool)
 cut_pairs placed = zip (painting_order placed) (overlapped placed)
 
 -- whether no entry of a line is cut
-abbrev pub is_uncut : ℕ → DecorStyle → List LineAnnotation → Bool
-is_uncut room decor es = list_all (λ pair. not (is_cut room decor pair)) (cut_pairs (placed_of es))
+abbrev pub is_uncut : ℕ → Layout → List LineAnnotation → Bool
+is_uncut room layout es = list_all (λ pair. not (is_cut room layout.decor pair)) (cut_pairs (placed_of layout.label_lines es))
 
 -- the rows of a line with the strokes of these entries, of which this is the source row. All strokes are painted over this row and those below
 -- it, of which there are as many as the entries ask for: separators, with the last row as the window closes or goes on. Of the first two, the
 -- source row and that of the marks, what is cut where entries are wide is replaced last
 abbrev pub stroke_rows : Layout → ℕ → Bool → List LineAnnotation → List Cell → List (List Cell)
 stroke_rows layout room closes es source =
-    let placed = placed_of es in
+    let placed = placed_of layout.label_lines es in
     let order = painting_order placed in
     let count = row_count placed in
     let bare = replicate (count - 1) (separator_row layout.decor layout.gutter) ++ bare_row layout.decor layout.gutter closes ∷ [] in

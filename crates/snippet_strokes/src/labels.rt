@@ -1,18 +1,19 @@
 //! The labels of marks.
-ghost use Rattle.std.specs.Prelude.{◌≡◌, All, OnOk, length};
-ghost use Rattle.snippet_text.specs.Normalized.{normalized_chars};
+ghost use Rattle.std.specs.Prelude.{◌≡◌, ◌+◌, ◌==◌, All, OnOk, chars, length};
+ghost use Rattle.std.specs.List.{slice_split};
 ghost use Rattle.snippet_strokes.specs.Places.{HasPlaceAmong};
 ghost use Rattle.snippet_labels.specs.Positions as spec;
-ghost use Rattle.snippet_strokes.specs.Strokes.{label_of};
+ghost use Rattle.snippet_strokes.specs.Strokes.{label_of, piece_at, pieces_at};
 ghost use Rattle.snippet_strokes.specs.PaintedStrokes.{labels_of};
-ghost use Rattle.snippet_labels.specs.Placing.{HasPlace, HasItsLabel};
+ghost use Rattle.snippet_labels.specs.Placing.{HasPlace};
 ghost use Rattle.snippet_strokes.specs.Writes.{painted};
-ghost use Rattle.snippet_style.specs.Bounds.{FitsRow, HasNext};
+ghost use Rattle.snippet_style.specs.Bounds.{AreRows, FitsRow, HasNext, IsUsize};
 
 use crate::canvas::Canvas;
 use crate::roles::label_role;
 use snippet_grid::Layout;
 use snippet_labels::PlacedEntry;
+use snippet_style::ElementStyle;
 use std::alloc::AllocError;
 
 /// Draws the labels of some entries, the first row of which is that of the marks.
@@ -21,6 +22,7 @@ use std::alloc::AllocError;
 ///       |        c       position 0: in the row of the marks, one cell after its own
 ///       |
 ///       | a              position 1: two rows farther down, below its mark's first column
+///       | b              a further piece: one row farther down
 /// ```
 ///
 /// # Errors
@@ -33,8 +35,7 @@ pub(crate) fn draw_labels<C: Canvas>(
     placed: &[PlacedEntry],
 ) -> Result<(), AllocError>
     requires places { All (HasPlaceAmong row (length (C.rows buffer.old))) placed.now }
-    requires labels { All HasItsLabel placed.now }
-    requires short { All (λ e. FitsRow (normalized_chars e.entry.label)) placed.now }
+    requires short { All (λ e. All FitsRow e.label) placed.now }
     ensures painted { OnOk result (C.rows buffer.new ≡ painted (labels_of layout row placed.now) (C.rows buffer.old)) }
 {
     for entry in placed {
@@ -51,18 +52,60 @@ pub(crate) fn draw_label<C: Canvas>(
     placed: &PlacedEntry,
 ) -> Result<(), AllocError>
     requires place { HasPlaceAmong row (length (C.rows buffer.old)) placed.now }
-    requires label { HasItsLabel placed.now }
-    requires short { FitsRow (normalized_chars placed.now.entry.label) }
+    requires short { All FitsRow placed.now.label }
     ensures painted { OnOk result (C.rows buffer.new
         ≡ painted (label_of layout row placed.now) (C.rows buffer.old)) }
 {
+    if !placed.has_label() {
+        return Ok(());
+    }
     let (below, column) = label_place(placed);
-    buffer.puts(
-        row + below,
-        layout.code_cell(column),
-        placed.label.as_str(),
-        label_role(placed.entry.kind),
-    )
+    let cell = layout.code_cell(column);
+    let role = label_role(placed.entry.kind);
+    let (text, is_cut) = placed.label.text();
+    if is_cut {
+        draw_pieces(buffer, row + below, cell, text, role)
+    } else {
+        draw_piece(buffer, row + below, cell, text, role)
+    }
+}
+
+/// Draws the pieces of a text that is cut at its line feeds, each in a row of its own from this one on, and from this
+/// cell of it on.
+fn draw_pieces<C: Canvas>(
+    buffer: &mut C,
+    row: usize,
+    cell: usize,
+    text: &str,
+    role: ElementStyle,
+) -> Result<(), AllocError>
+    requires rows { AreRows (row + length (slice_split (λ c. c == 10) (chars text.now))) }
+    requires ends { All (λ piece. IsUsize (cell + length piece)) (slice_split (λ c. c == 10) (chars text.now)) }
+    ensures painted { OnOk result (C.rows buffer.new
+        ≡ painted (pieces_at row cell role (slice_split (λ c. c == 10) (chars text.now))) (C.rows buffer.old)) }
+{
+    let mut below = row;
+    for piece in text.split('\n') {
+        draw_piece(buffer, below, cell, piece, role)?;
+        below += 1;
+    }
+    Ok(())
+}
+
+/// Draws a piece of a label in this row, from this cell on.
+fn draw_piece<C: Canvas>(
+    buffer: &mut C,
+    row: usize,
+    cell: usize,
+    piece: &str,
+    role: ElementStyle,
+) -> Result<(), AllocError>
+    requires row { HasNext row }
+    requires end { IsUsize (cell + length (chars piece.now)) }
+    ensures painted { OnOk result (C.rows buffer.new
+        ≡ painted (piece_at row cell role (chars piece.now)) (C.rows buffer.old)) }
+{
+    buffer.puts(row, cell, piece, role)
 }
 
 /// Where the label of an entry begins: how many rows below the row of the marks, and at which column. A mark that ends

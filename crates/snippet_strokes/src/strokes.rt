@@ -5,7 +5,6 @@ ghost use Rattle.snippet_strokes.specs.Drawable.{AreDrawable, IsReady};
 ghost use Rattle.snippet_strokes.specs.LineRows.{own_rows};
 ghost use Rattle.snippet_style.specs.Cell.{Cell};
 ghost use Rattle.snippet_strokes.specs.Drawing as spec;
-ghost use Rattle.snippet_strokes.specs.PaintedStrokes as painter;
 ghost use Rattle.snippet_strokes.specs.Places.{AreEnough, HasRows};
 ghost use Rattle.snippet_strokes.specs.SourceRows.{bare_row};
 ghost use Rattle.snippet_strokes.specs.Strokes.{line_strokes};
@@ -14,7 +13,7 @@ ghost use Rattle.snippet_strokes.specs.DrawnBars.{is_whole_line};
 ghost use Rattle.snippet_strokes.specs.Painting.{painting_order};
 ghost use Rattle.snippet_strokes.specs.Writes.{painted};
 ghost use Rattle.snippet_style.specs.Separators.{closing_row, separator_row};
-ghost use Rattle.snippet_style.specs.Bounds.{AreRows, IsCount};
+ghost use Rattle.snippet_style.specs.Bounds.{AreRows, IsCount, IsRowNumber};
 
 use crate::canvas::Canvas;
 use crate::cell_rows::CellRows;
@@ -78,7 +77,7 @@ pub(crate) fn draw_strokes(
     if entries.is_empty() {
         return close_below(buffer, layout, place.closes);
     }
-    let mut placed = placed_entries(alloc, place.dropped, entries)?;
+    let mut placed = placed_entries(alloc, place.dropped, layout.label_lines, entries)?;
     let overlapped = overlapping(alloc, layout.decor, place.room, &placed)?;
     let count = row_count(&placed);
     draw_rows(buffer, layout, place, count, &mut placed)?;
@@ -213,29 +212,34 @@ fn close_below(buffer: &mut StyledBuffer, layout: Layout, closes: bool) -> Resul
     Ok(())
 }
 
-/// How many rows the strokes of some entries take: that of the marks, and below it, where an entry needs a row of its
-/// own, as many as the lowest position, and one more for labels, which starts don't have.
+/// How many rows the strokes of some entries take: that of the marks, and as many below it as any of them needs.
 fn row_count(placed: &[PlacedEntry]) -> usize
-    requires low { All (λ e. IsCount e.position) placed.now }
+    requires low { All (λ e. IsRowNumber e.position) placed.now }
+    requires few { All (λ e. AreRows (length e.label)) placed.now }
     ensures value { result ≡ spec.row_count placed.now }
 {
-    let lowest = lowest_position(placed);
-    if lowest == 0 {
-        1
-    } else if are_starts(placed) {
-        lowest + 1
-    } else {
-        lowest + 2
+    let starts = are_starts(placed);
+    let mut below: usize = 0;
+    for entry in placed {
+        below = below.max(rows_below(starts, entry));
     }
+    below + 1
 }
 
-/// The greatest position of some entries.
-fn lowest_position(placed: &[PlacedEntry]) -> usize
-    ensures value { result ≡ painter.lowest_position placed.now }
+/// How many rows an entry needs below that of the marks: down to the last piece of its label. Starts, which have no
+/// label, need those down to their lines to bars.
+fn rows_below(starts: bool, placed: &PlacedEntry) -> usize
+    requires low { IsRowNumber placed.now.position }
+    requires few { AreRows (length placed.now.label) }
+    ensures value { result ≡ spec.rows_below starts placed.now }
+    ensures small { IsCount result }
 {
-    let mut lowest = 0;
-    for entry in placed {
-        lowest = lowest.max(entry.position);
+    let height = placed.label.height();
+    if starts {
+        placed.position
+    } else if placed.position == 0 {
+        height.saturating_sub(1)
+    } else {
+        placed.position + height
     }
-    lowest
 }

@@ -85,7 +85,7 @@ pub use Rattle.snippet_titles.proofs.HeadingLemmas.{plain_shown}
 pub use Rattle.snippet_titles.proofs.LineLemmas.{lines_at-plain, number_is}
 pub use Rattle.snippet_titles.proofs.OriginFree.{each-fails}
 pub use Rattle.snippet_titles.proofs.SignLemmas.{chars-colon}
-pub use Rattle.snippet_titles.proofs.SplitLemmas.{lines_at, lines_at-after, lines_at-chars}
+pub use Rattle.snippet_text.proofs.SplitLemmas.{lines_at, lines_at-after, lines_at-chars}
 pub use Rattle.snippet_titles.specs.HeadingRows.{heading_lines, address_of, is_set, shown_text, colon_of}
 pub use Rattle.snippet_titles.specs.Origin.{line_name, column_text}
 pub use Rattle.snippet_titles.specs.Title.{id_links, text_links}

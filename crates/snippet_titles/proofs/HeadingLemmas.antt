@@ -6,7 +6,7 @@ use Rattle.snippet_titles.proofs.Common.{lines_below, roles_of, sign_cells, with
 use Rattle.snippet_titles.proofs.Common.{AddsToRow, GridRow}
 use Rattle.std.specs.Str.{chars}
 use Rattle.snippet_titles.proofs.EndLemmas.{IsAtEnd-begun}
-use Rattle.snippet_titles.proofs.SplitLemmas.{lines_at, lines_at-chars}
+use Rattle.snippet_text.proofs.SplitLemmas.{lines_at, lines_at-chars}
 
 -- the row below all others has no cells yet
 pub row_at-below : (rows : List (List Cell)) (row : ℕ) → row ≡ length rows → row_at rows row ≡ []

@@ -25,5 +25,4 @@ pub mod ShortLaws
 pub mod ShortLemmas
 pub mod ShortRowLemmas
 pub mod SignLemmas
-pub mod SplitLemmas
 pub mod TextLemmas

@@ -4,7 +4,7 @@ use Rattle.snippet_titles.proofs.Common.{All, refl, sym, ap, ◌∙◌, arith, B
 use Rattle.snippet_titles.proofs.Common.{length-take, map-append, get_or-enumerate_from, length-enumerate_from, slice_split_none, slice_split_at}
 use Rattle.snippet_titles.proofs.Common.{All-from_get_or, row_at, Cell, text_cells, ElementStyle, IsPlain, IsAtEnd, appended, lines_below, without_empty_end}
 use Rattle.std.specs.Str.{chars}
-use Rattle.snippet_titles.proofs.SplitLemmas.{lines_at}
+use Rattle.snippet_text.proofs.SplitLemmas.{lines_at}
 use Rattle.snippet_titles.proofs.EndLemmas.{IsAtEnd-more, appended-further, refilled}
 
 -- a text without a line feed is one line

@@ -6,7 +6,7 @@ use Rattle.snippet_titles.proofs.Common.{label_width, lines_below, roles_of, sig
 use Rattle.std.specs.Str.{chars}
 use Rattle.snippet_titles.proofs.HeadingLemmas.{plain_shown, roles_known}
 use Rattle.snippet_titles.proofs.LineLemmas.{lines_at-plain}
-use Rattle.snippet_titles.proofs.SplitLemmas.{lines_at, lines_at-chars}
+use Rattle.snippet_text.proofs.SplitLemmas.{lines_at, lines_at-chars}
 
 -- the cells of that row
 abbrev pub plain_row : Bool → TitleStyle → Heading → List Cell

@@ -9,7 +9,7 @@ use Rattle.snippet_grid.proofs.WovenLemmas.{Prints-from_adds}
 use Rattle.std.proofs.Common.{chars}
 use Rattle.snippet_titles.proofs.HeadingLemmas.{plain_shown}
 use Rattle.snippet_titles.proofs.LineLemmas.{lines_at-plain}
-use Rattle.snippet_titles.proofs.SplitLemmas.{lines_at, lines_at-chars}
+use Rattle.snippet_text.proofs.SplitLemmas.{lines_at, lines_at-chars}
 
 -- the lines of a text of printable ASCII
 pub plain_lines : (heading : Heading) (text : List ℕ) → IsUtf8 text → text ≡ heading.text → All IsPlain text → heading_lines heading ≡ chars text ∷ []

@@ -31,7 +31,7 @@ wide_spans room placeholder_width s k =
 -- whether no entry of line k is cut, where so many columns are dropped left of it: each that is wide is overlapped by another
 abbrev pub is_uncut_line : Renderer → Layout → Snippet Annotation → ℕ → ℕ → Bool
 is_uncut_line r layout s k dropped =
-    is_uncut (r.term_width - layout.code) layout.decor (map (shifted dropped) (parts_on (numbered_source s) s.markers.items k))
+    is_uncut (r.term_width - layout.code) layout (map (shifted dropped) (parts_on (numbered_source s) s.markers.items k))
 
 -- after the separator and the space after it, the cells of a row left of the code hold nothing but bars and their corners
 abbrev pub HasBarsAlone : DecorStyle → Layout → List Cell → Type 0

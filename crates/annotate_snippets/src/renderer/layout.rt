@@ -6,7 +6,8 @@ ghost use Rattle.snippet_style.specs.Bounds.{IsDepth};
 use snippet_grid::Layout;
 use snippet_style::DecorStyle;
 
-/// The layout of a group in a gutter of this width, where this many bars stand side by side.
+/// The layout of a group in a gutter of this width, where this many bars stand side by side. Labels may be cut at their
+/// line feeds.
 ///
 /// ```text
 ///     1 |   f(a,      one bar: the code stands two cells farther right
@@ -14,12 +15,13 @@ use snippet_style::DecorStyle;
 ///     2 | |  b)
 ///       | |___^
 /// ```
-pub fn layout_for(gutter: usize, depth: usize, decor: DecorStyle) -> Layout
+pub fn layout_for(gutter: usize, depth: usize, decor: DecorStyle, label_lines: bool) -> Layout
     requires gutter { gutter ≤ 20 }
     requires depth { IsDepth depth }
     ensures gutter { result.gutter ≡ gutter }
     ensures code { result.code ≡ code_after gutter depth }
     ensures decor { result.decor ≡ decor }
+    ensures label_lines { result.label_lines ≡ label_lines }
 {
     let code = if depth == 0 {
         gutter + 3
@@ -30,5 +32,6 @@ pub fn layout_for(gutter: usize, depth: usize, decor: DecorStyle) -> Layout
         gutter,
         code,
         decor,
+        label_lines,
     }
 }

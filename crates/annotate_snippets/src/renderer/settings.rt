@@ -30,6 +30,7 @@ impl Renderer {
             context_after: 0,
             wrap: false,
             mask_controls: false,
+            label_lines: false,
         }
     }
 
@@ -218,15 +219,15 @@ impl Renderer {
     /// no marks; where one line is left out between two that are shown it is shown as well, and more are elided.
     ///
     /// ```text
-    /// Renderer::plain()                Renderer::plain().context_lines(1, 2)
+    /// Renderer::plain().context_lines(1, 2)
     ///
-    ///   |                                |
-    /// 4 |     total += price;          3 | for price in prices {
-    ///   |              ^^^^^           4 |     total += price;
-    ///                                    |              ^^^^^
-    ///                                  5 | }
-    ///                                  6 | total
-    ///                                    |
+    ///   |
+    /// 3 | for price in prices {
+    /// 4 |     total += price;
+    ///   |              ^^^^^
+    /// 5 | }
+    /// 6 | total
+    ///   |
     /// ```
     ///
     /// None are shown unless this says so, nor in the short or text form, of suggestions, or past a source's ends.
@@ -270,6 +271,26 @@ impl Renderer {
         ensures changed { result ≡ record self { mask_controls = mask_controls } }
     {
         self.mask_controls = mask_controls;
+        self
+    }
+
+    /// Whether labels are cut at their line feeds in the graphic form. Each line of a label then stands in a row of its
+    /// own, in the column in which the label begins, and what hangs lower stands below all of them:
+    ///
+    /// ```text
+    /// 1 | let x = f(y);
+    ///   |         - ^ expected `u8`
+    ///   |         |   found `i8`
+    ///   |         |
+    ///   |         this function
+    /// ```
+    ///
+    /// A line feed of a label breaks the page unless this, or [`show_line_feeds`](Renderer::show_line_feeds), says
+    /// otherwise.
+    pub fn label_lines(mut self, label_lines: bool) -> Renderer
+        ensures changed { result ≡ record self { label_lines = label_lines } }
+    {
+        self.label_lines = label_lines;
         self
     }
 }

@@ -1,7 +1,6 @@
 use Rattle.snippet_labels.proofs.Common.{arith, ◌≡◌, ◌-◌, ◌∷◌, ◌++◌, [], ℕ, ap, sym, subst, All, map, length, refl, ◌∙◌, map_push}
-use Rattle.snippet_labels.proofs.Common.{All-append, All-cons, All-nil, LineAnnotation, PlacedEntry, shifted, HasItsBytes, HasItsLabel}
+use Rattle.snippet_labels.proofs.Common.{All-append, All-cons, All-nil, LineAnnotation, PlacedEntry, shifted, HasItsLabel, label_pieces}
 use Rattle.snippet_labels.proofs.PlacedLemmas.{label_text}
-use Rattle.snippet_labels.proofs.CharLemmas.{bytes_of_chars}
 use Rattle.snippet_labels.proofs.RowLemmas.{counts_more, labelled_more}
 use Rattle.snippet_labels.proofs.labelled.labelled_entries.Goals as goal
 
@@ -21,9 +20,8 @@ loop-i-preserved c =
       entries = ap (map entry) c.in_ok-push.ensures.items ∙ map_push entry done e ∙ ap (λ l. l ++ e.entry ∷ []) c.loop-i.invariant.entries
           ∙ labelled_more sh es i e.entry _ (omega (arith, c.loop-i-test.true)) (omega (arith, c.loop-i.auto.i))
           (c.shifted.ensures.value ∙ ap sh c.index-entries-i.is);
-      labels = all HasItsLabel c.loop-i.invariant.labels (c.in_ok-label.ensures.shows ∙ ap label_text (sym c.shifted.ensures.value));
-      bytes = all HasItsBytes c.loop-i.invariant.bytes (bytes_of_chars _ c.as_str-text.result.now _ c.as_str-text.utf8 c.as_str-text.ensures.value
-          (c.in_ok-label.ensures.shows ∙ ap label_text (sym c.shifted.ensures.value)));
+      labels = all (HasItsLabel c.args.is_cut) c.loop-i.invariant.labels
+          (c.in_ok-label.ensures.shows ∙ ap (λ (e : LineAnnotation). label_pieces c.args.is_cut (label_text e)) (sym c.shifted.ensures.value));
       positions = all (λ (e : PlacedEntry). e.position ≡ 0) c.loop-i.invariant.positions refl;
       looked = ap (map looked) c.in_ok-push.ensures.items ∙ map_push looked done e ∙ ap (λ l. l ++ j ∷ []) c.loop-i.invariant.looked
           ∙ counts_more (length es) i (omega (arith, c.loop-i-test.true)) (omega (arith, c.loop-i.auto.i));

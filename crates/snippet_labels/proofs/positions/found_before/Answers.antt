@@ -8,5 +8,5 @@ returns-clause-after c =
     let n = c.min-asking.result in
     let front = position_after-front c.position_at-here.result.position c.args.entry.now others n
     (λ k d past within. c.requires.none k d (omega (arith, past, within, c.min-asking.ensures)) within) in
-    c.position_after-after.ensures.value ∙ front
+    c.in_ok-after.ensures.value ∙ front
     ∙ ap (λ p. position_after p c.args.entry.now others) c.position_at-here.ensures.value

@@ -1,6 +1,6 @@
-use Rattle.snippet_labels.proofs.Common.{List, ◌≡◌, ◌∙◌, ◌-◌, ◌<◌, ◌^◌, All, sym, subst, ap, map, reverse, range_with_len}
+use Rattle.snippet_labels.proofs.Common.{arith, get_or, get_or-map, length, ℕ, List, ◌≡◌, ◌∙◌, ◌-◌, ◌<◌, ◌^◌, All, sym, subst, ap, map, reverse, range_with_len}
 use Rattle.snippet_labels.proofs.Common.{IsPermutation, All-permutation, IsPermutation-map, IsPermutation-reverse, LineAnnotation, PlacedEntry, shifted}
-use Rattle.snippet_labels.proofs.Common.{line_positions, look_counts, ArePlaced, HasItsBytes, HasItsLabel, StandInRow, unplaced, length-map, reverse-reverse}
+use Rattle.snippet_labels.proofs.Common.{line_positions, look_counts, ArePlaced, HasItsLabel, StandInRow, unplaced, length-map, reverse-reverse}
 use Rattle.snippet_labels.proofs.PlacedLemmas.{entries_all, written_back, ArePlaced-from, shifted_narrow}
 use Rattle.snippet_labels.proofs.RowLemmas.{ArePlaced-row, map-reverse}
 use Rattle.snippet_labels.proofs.positions.placed_entries.Goals as goal
@@ -25,10 +25,11 @@ returns-then-stand_in_row c =
     let es = map (shifted c.args.dropped) c.args.entries.now in
     let placed = c.in_ok-placed.placed.items in
     record {
-      placed = ArePlaced-row es (2 ^ 64 - 1) placed c.in_ok-placed.ensures.entries c.in_ok-placed.ensures.labels c.in_ok-placed.ensures.bytes
+      placed = ArePlaced-row c.args.is_cut es (2 ^ 64 - 1) placed c.in_ok-placed.ensures.entries c.in_ok-placed.ensures.labels
           c.in_ok-placed.ensures.positions (c.in_ok-placed.ensures.looked
           ∙ ap (λ n. reverse (range_with_len 0 n)) (sym (length-map c.args.entries.now (shifted c.args.dropped))))
           (subst (StandInRow (2 ^ 64 - 1)) c.deref.ensures.value (c.stand_in_row.ensures.yes c.if-stand_in_row.true));
+      low = λ k d within. omega (arith, c.in_ok-placed.ensures.positions k d within);
     }
 
 pub set_positions-requires : goal.set_positions-requires
@@ -51,13 +52,18 @@ returns c =
     let sorted = c.sort_from_right.new.entries in
     let placed = c.set_positions.new.entries in
     let back = IsPermutation-reverse listed in
-    let kept = c.set_positions.ensures.kept ∙ ap (map unplaced) c.deref_mut.ensures.value in
+    let kept = c.in_ok-set_positions.ensures.kept ∙ ap (map unplaced) c.deref_mut.ensures.value in
+    let whole = written_back placed sorted.items sorted.len sorted.ok.0 kept in
+    let position : PlacedEntry → ℕ = λ e. e.position in
+    let are = c.in_ok-set_positions.ensures.placed in
     record {
-      placed = subst (ArePlaced es) (sym (written_back placed sorted.items sorted.len sorted.ok.0 kept))
-          (ArePlaced-from es (reverse listed) sorted.items placed (turned es listed c.in_ok-placed.ensures.entries)
-          (All-permutation HasItsLabel listed (reverse listed) back c.in_ok-placed.ensures.labels)
-          (All-permutation HasItsBytes listed (reverse listed) back c.in_ok-placed.ensures.bytes)
+      placed = subst (ArePlaced c.args.is_cut es) (sym whole)
+          (ArePlaced-from c.args.is_cut es (reverse listed) sorted.items placed (turned es listed c.in_ok-placed.ensures.entries)
+          (All-permutation (HasItsLabel c.args.is_cut) listed (reverse listed) back c.in_ok-placed.ensures.labels)
           c.in_ok-sort_from_right.ensures.same c.in_ok-sort_from_right.ensures.order c.in_ok-sort_from_right.ensures.from_right
-          (c.set_positions.ensures.placed ∙ ap line_positions c.deref_mut.ensures.value)
-          (c.set_positions.ensures.looked ∙ ap (look_counts 0) c.deref_mut.ensures.value) kept);
+          (c.in_ok-set_positions.ensures.placed ∙ ap line_positions c.deref_mut.ensures.value)
+          (c.in_ok-set_positions.ensures.looked ∙ ap (look_counts 0) c.deref_mut.ensures.value) kept);
+      low = subst (All (λ (e : PlacedEntry). e.position < 2 ^ 60)) (sym whole) (λ k d within.
+          subst (λ n. n < 2 ^ 60) (ap (λ ps. get_or ps k 0) (sym are) ∙ get_or-map position placed k d 0 within)
+          (c.in_ok-set_positions.ensures.low k 0 (omega (arith, within, length-map placed position, ap length are))));
     }

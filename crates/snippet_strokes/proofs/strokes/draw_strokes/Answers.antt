@@ -6,9 +6,10 @@ use Rattle.snippet_strokes.proofs.Common.{AreDrawable, Cell, shifted, ArePlaced,
 use Rattle.snippet_strokes.proofs.CutWords.{cut_rows, cuts_of}
 use Rattle.snippet_strokes.proofs.CutPairs.{entries_cut}
 use Rattle.snippet_strokes.proofs.PaintOrder.{IsPermutation-painting_order}
-use Rattle.snippet_strokes.proofs.PositionLemmas.{looked_of_placed, row_count_some, positions_of_placed}
+use Rattle.snippet_strokes.proofs.PieceWrites.{labels_some}
+use Rattle.snippet_strokes.proofs.PositionLemmas.{looked_of_placed, row_count_some}
 use Rattle.snippet_strokes.proofs.BegunLemmas.{rows_begun, rows_ready}
-use Rattle.snippet_strokes.proofs.ReadyLemmas.{all_ready, ready_places}
+use Rattle.snippet_strokes.proofs.ReadyLemmas.{all_ready, ready_few, ready_places}
 use Rattle.snippet_strokes.proofs.SplitRows.{enough_begun}
 use Rattle.snippet_strokes.proofs.CellLemmas.{drawn_strokes}
 use Rattle.snippet_strokes.proofs.EveryMark.{strokes_painted}
@@ -18,27 +19,28 @@ use Rattle.snippet_strokes.proofs.strokes.draw_strokes.Goals as goal
 pub row_count-count-requires : goal.row_count-count-requires
 row_count-count-requires c =
     let placed = c.in_ok-placed.placed in
+    let is_placed = subst (λ (l : Layout). ArePlaced l.label_lines (map (shifted c.args.place.dropped) c.args.entries.now) placed.items) c.layout.view_is
+    c.in_ok-placed.ensures.placed in
     record {
-      low = subst (All (λ (e : PlacedEntry). e.position < 2 ^ 63)) (sym c.deref-2.ensures.value) (λ k d within.
-          omega (
-            arith,
-            positions_of_placed (map (shifted c.args.place.dropped) c.args.entries.now) placed.items c.in_ok-placed.ensures.placed k d within,
-            placed.ok.0,
-            placed.small,
-          ));
+      low = subst (All (λ (e : PlacedEntry). e.position < 2 ^ 60)) (sym c.deref-2.ensures.value) c.in_ok-placed.ensures.low;
+      few = subst (All (λ (e : PlacedEntry). length e.label ≤ 2 ^ 60)) (sym c.deref-2.ensures.value)
+          (ready_few c.args.layout placed.items (all_ready c.args.layout c.args.place.dropped c.args.entries.now placed.items
+          c.requires.entries is_placed));
     }
 
 pub overlapping-requires : goal.overlapping-requires
 overlapping-requires c =
     let placed = c.in_ok-placed.placed in
+    let is_placed = subst (λ (l : Layout). ArePlaced l.label_lines (map (shifted c.args.place.dropped) c.args.entries.now) placed.items) c.layout.view_is
+    c.in_ok-placed.ensures.placed in
     record {
       columns = subst (All (λ (e : PlacedEntry). HasPlace e.entry)) (sym c.deref.ensures.value)
           (ready_places c.args.layout placed.items (all_ready c.args.layout c.args.place.dropped c.args.entries.now placed.items
-          c.requires.entries c.in_ok-placed.ensures.placed));
+          c.requires.entries is_placed));
       looked = subst (All (λ (e : PlacedEntry). e.looked < 2 ^ 63)) (sym c.deref.ensures.value) (λ k d within.
           omega (
             arith,
-            looked_of_placed (map (shifted c.args.place.dropped) c.args.entries.now) placed.items c.in_ok-placed.ensures.placed k d within,
+            looked_of_placed c.args.layout.label_lines (map (shifted c.args.place.dropped) c.args.entries.now) placed.items is_placed k d within,
             placed.ok.0,
             placed.small,
           ));
@@ -46,7 +48,7 @@ overlapping-requires c =
 
 -- so many rows are enough, once it is known that there is room for them
 module _ (layout : Layout) (dropped : ℕ) (entries : List LineAnnotation) (row count : ℕ) (placed : List PlacedEntry) (old : List (List Cell)) (closes : Bool)
-    (drawable : AreDrawable layout entries) (are : ArePlaced (map (shifted dropped) entries) placed)
+    (drawable : AreDrawable layout entries) (are : ArePlaced layout.label_lines (map (shifted dropped) entries) placed)
     (count_is : count ≡ row_count placed) (last : length old ≡ row + 1) where
   some_rows : 0 < count
   some_rows = omega (arith, count_is, row_count_some placed)
@@ -64,23 +66,26 @@ module _ (layout : Layout) (dropped : ℕ) (entries : List LineAnnotation) (row 
       count_is last refl (omega (arith, small, rows_long))
 
 -- each entry has the rows that it needs
-ready : (placed : List PlacedEntry) (es : List LineAnnotation) → ArePlaced es placed → (old : List (List Cell)) (row count : ℕ) → count ≡ row_count placed
+ready : (cut : Bool) (placed : List PlacedEntry) (es : List LineAnnotation) → ArePlaced cut es placed → (old : List (List Cell)) (row count : ℕ)
+    → count ≡ row_count placed
     → length old ≡ row + 1 → All (HasRows (row + 1) (length old + count)) placed
-ready placed es are old row count count_is last =
+ready cut placed es are old row count count_is last =
     let begun : List (List Cell) = old ++ replicate (count - 1) [] ++ [] ∷ [] in
-    rows_ready placed old begun [] [] count (row + 1) (length old + count) count_is (sym last) refl
+    rows_ready placed old begun [] [] count (row + 1) (length old + count) (labels_some cut es placed are) count_is (sym last) refl
     (sym (rows_begun old begun [] [] count (omega (arith, count_is, row_count_some placed)) refl))
 
 pub draw_rows-requires : goal.draw_rows-requires
 draw_rows-requires c =
     let placed = c.in_ok-placed.placed.items in
+    let is_placed = subst (λ (l : Layout). ArePlaced l.label_lines (map (shifted c.args.place.dropped) c.args.entries.now) placed) c.layout.view_is
+    c.in_ok-placed.ensures.placed in
     let es = map (shifted c.args.place.dropped) c.args.entries.now in
-    let are = c.in_ok-placed.ensures.placed in
+    let are = is_placed in
     let count : c.row_count-count.result ≡ row_count placed = c.row_count-count.ensures.value ∙ ap row_count c.deref-2.ensures.value in
     record {
       some = omega (arith, count, row_count_some placed);
       last = c.requires.last;
-      rows = ready placed es are c.args.buffer.now c.args.place.row c.row_count-count.result count c.requires.last;
+      rows = ready c.args.layout.label_lines placed es are c.args.buffer.now c.args.place.row c.row_count-count.result count c.requires.last;
       ready = all_ready c.args.layout c.args.place.dropped c.args.entries.now placed c.requires.entries are;
     }
 
@@ -88,12 +93,14 @@ draw_rows-requires c =
 pub cut_wide-requires : goal.cut_wide-requires
 cut_wide-requires c =
     let placed = c.in_ok-placed.placed.items in
+    let is_placed = subst (λ (l : Layout). ArePlaced l.label_lines (map (shifted c.args.place.dropped) c.args.entries.now) placed) c.layout.view_is
+    c.in_ok-placed.ensures.placed in
     let closes = c.args.place.closes in
     let count : c.row_count-count.result ≡ row_count placed = c.row_count-count.ensures.value ∙ ap row_count c.deref-2.ensures.value in
     let enough = enough_rows c.args.layout c.args.place.dropped c.args.entries.now c.args.place.row c.row_count-count.result placed c.args.buffer.now closes
-    c.requires.entries c.in_ok-placed.ensures.placed count c.requires.last c.in_ok-draw_rows.ensures.small in
+    c.requires.entries is_placed count c.requires.last c.in_ok-draw_rows.ensures.small in
     let long = rows_long c.args.layout c.args.place.dropped c.args.entries.now c.args.place.row c.row_count-count.result placed c.args.buffer.now closes
-    c.requires.entries c.in_ok-placed.ensures.placed count c.requires.last in
+    c.requires.entries is_placed count c.requires.last in
     let marked = c.in_ok-draw_rows.ensures.count ∙ sym long in
     let ordered = c.deref-3.ensures.value ∙ c.in_ok-draw_rows.ensures.order in
     record {
@@ -122,6 +129,8 @@ returns c =
     let layout = c.args.layout in
     let row = c.args.place.row in
     let placed = c.in_ok-placed.placed.items in
+    let is_placed = subst (λ (l : Layout). ArePlaced l.label_lines (map (shifted c.args.place.dropped) c.args.entries.now) placed) c.layout.view_is
+    c.in_ok-placed.ensures.placed in
     let after = painting_order placed in
     let old = c.args.buffer.now in
     let sep = separator_row layout.decor layout.gutter in
@@ -130,7 +139,7 @@ returns c =
     let count : c.row_count-count.result ≡ row_count placed = c.row_count-count.ensures.value ∙ ap row_count c.deref-2.ensures.value in
     let begun : List (List Cell) = old ++ replicate (c.row_count-count.result - 1) sep ++ end ∷ [] in
     let new = c.draw_rows.new.buffer in
-    let are = c.in_ok-placed.ensures.placed in
+    let are = is_placed in
     let closes = c.args.place.closes in
     let whole : length begun ≡ length old + c.row_count-count.result = rows_long layout c.args.place.dropped c.args.entries.now row
     c.row_count-count.result placed old closes c.requires.entries are count c.requires.last in

@@ -2,7 +2,7 @@ use Rattle.std.proofs.Common.{arith}
 use Rattle.snippet_strokes.proofs.Common.{◌∙◌, ◌+◌, length, sym, on_ok_weaker}
 use Rattle.snippet_strokes.proofs.EveryStem.{stems_painted}
 use Rattle.snippet_strokes.proofs.EveryMark.{under_marks_painted}
-use Rattle.snippet_strokes.proofs.ReadyLemmas.{ready_bar_cells, ready_labels, ready_texts}
+use Rattle.snippet_strokes.proofs.ReadyLemmas.{ready_bar_cells, ready_texts}
 use Rattle.snippet_strokes.proofs.SplitRows.{after_connectors, after_corners, after_stems, count_connectors, count_corners, count_labels, count_stems}
 use Rattle.snippet_strokes.proofs.SplitRows.{places_among}
 use Rattle.snippet_strokes.proofs.EntryBarLaws.{under_painted}
@@ -37,7 +37,6 @@ draw_labels-requires g c =
     let placed = c.args.placed.now in
     record {
       places = places_among enough;
-      labels = ready_labels layout placed enough.ready;
       short = ready_texts layout placed enough.ready;
     }
 

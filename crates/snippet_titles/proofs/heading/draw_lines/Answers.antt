@@ -3,7 +3,7 @@ use Rattle.snippet_titles.proofs.Common.{YieldsList-from_enumerate, YieldsList-t
 use Rattle.std.proofs.Common.{chars}
 use Rattle.snippet_titles.proofs.EndLemmas.{IsAtEnd-more}
 use Rattle.snippet_titles.proofs.LineLemmas.{further_drawn, lines_at-first, lines_at-one, none_below, number_is, one_line, several_lines}
-use Rattle.snippet_titles.proofs.SplitLemmas.{lines_at}
+use Rattle.snippet_text.proofs.SplitLemmas.{lines_at}
 use Rattle.snippet_titles.proofs.heading.draw_lines.Goals as goal
 
 pub returns-in_default : goal.returns-in_default

@@ -1,9 +1,15 @@
 -- Cutting the bytes of a text at each line feed cuts its characters there.
-use Rattle.snippet_titles.proofs.Common.{◌≡◌, ℕ, ◌<◌, ◌==◌, Bool, true, false, List, [], ◌∷◌, ◌++◌, length, map, All, refl, sym, ap}
-use Rattle.snippet_titles.proofs.Common.{◌∙◌, arith, encode_utf8, encode_utf8_all, slice_split, onto_first, IsUtf8, IsScalar, scalars, IsUtf8-encode}
-use Rattle.snippet_titles.proofs.Common.{chars-append, chars-nil, chars_past_char, encodes-chars, encode_ascii, inside_one, scalars-chars, nat_tests}
-use Rattle.snippet_titles.proofs.Common.{append-nil, slice_split-cons_yes, slice_split-cons_no, length-slice_split, All-from_get_or, All-head, All-tail}
-use Rattle.std.specs.Str.{chars}
+use Rattle.std.proofs.Common.{◌≡◌, ℕ, ◌<◌, ◌==◌, Bool, true, false, List, [], ◌∷◌, ◌++◌, length, map, All, refl, sym, ap, ◌∙◌, arith, encode_utf8}
+use Rattle.std.proofs.Common.{encode_utf8_all}
+use Rattle.std.specs.List.{slice_split, onto_first}
+use Rattle.std.specs.Str.{IsUtf8, chars}
+use Rattle.std.specs.Char.{IsScalar}
+use Rattle.std.proofs.Math.Utf8.{scalars}
+use Rattle.std.proofs.lemmas.Str.{IsUtf8-encode, chars-append, chars-nil, chars_past_char, encodes-chars, encode_ascii, inside_one, scalars-chars}
+use Rattle.std.proofs.lemmas.Bool.Decides.{nat_tests}
+use Rattle.std.proofs.lemmas.List.{append-nil}
+use Rattle.std.proofs.lemmas.List.Splits.{slice_split-cons_yes, slice_split-cons_no, length-slice_split}
+use Rattle.std.proofs.lemmas.List.Elements.{All-from_get_or, All-head, All-tail}
 
 -- the parts of a list of bytes or characters that is cut at each line feed
 abbrev pub lines_at : List ℕ → List (List ℕ)
