@@ -41,9 +41,9 @@ static void choose(void) {
     static const size_t widths[] = {0, 0, 0, 140, 80, 40, 20, 1, SIZE_MAX};
     yazgult_renderer *it = &how.renderer;
     int *const flags[] = {&it->unicode, &it->wrap, &it->short_message, &it->no_graphics, &it->hyperlink, &it->show_line_feeds,
-                          &it->anonymized_origin, &it->anonymized_snippet, &it->mask_controls};
+                          &it->anonymized_origin, &it->anonymized_snippet, &it->mask_controls, &it->label_lines};
     static const char *const names[] = {"unicode", "wrap", "short_message", "no_graphics", "hyperlink", "show_line_feeds", "anonymized_origin",
-                                        "anonymized_snippet", "mask_controls"};
+                                        "anonymized_snippet", "mask_controls", "label_lines"};
     json.length = 0;
     how.sheet = rarely(2) ? YAZGULT_SHEET_PLAIN : YAZGULT_SHEET_DEFAULT;
     it->term_width = OF(widths);

@@ -60,7 +60,7 @@ def settings(given):
     width = number(140 if given.get("term_width") is None else given["term_width"])
     made = flags["anonymized_origin"] + flags["anonymized_snippet"] + width + flags["unicode"] + flags["hyperlink"]
     made += flags["short_message"] + flags["no_graphics"] + flags["show_line_feeds"]
-    later = [(0, 1)] if given.get("mask_controls") else []
+    later = [(kind, 1) for kind, name in enumerate(("mask_controls", "label_lines")) if given.get(name)]
     return made + numbers["context_before"] + numbers["context_after"] + flags["wrap"] + many(later, pair)
 
 

@@ -81,6 +81,7 @@ typedef struct yazgult_renderer {
     int show_line_feeds;   /* those of labels, paths, ids and names are drawn as U+240A */
     int mask_controls;     /* no control of a text reaches the terminal: they are drawn as signs */
     int anonymized_origin, anonymized_snippet; /* `LL` in place of the line's number after paths; in the gutter */
+    int label_lines;       /* each line of a label stands in a row of its own */
 } yazgult_renderer;
 
 /* A text that grows: `length` bytes, and a NUL after them which isn't counted. It begins as YAZGULT_BUFFER, each call that fills it puts
@@ -360,7 +361,7 @@ static inline void yazgult_report_padding(yazgult_report *report) {
 /* Draws a report into a buffer, without a line feed at its end. Answers 0, or the number of the wrong call, and then the buffer is empty.
  * The report stays as it is: it may be drawn again, otherwise, and go on. */
 static inline size_t yazgult_report_draw(yazgult_report *report, const yazgult_renderer *renderer, enum yazgult_sheet sheet, yazgult_buffer *text) {
-    static const yazgult_renderer defaults = {0, 0, 0, 0, 0, 0, 0, 0, 0, 0, 0, 0};
+    static const yazgult_renderer defaults = {0, 0, 0, 0, 0, 0, 0, 0, 0, 0, 0, 0, 0};
     if (text)
         text->length = 0;
     if (text && text->at)

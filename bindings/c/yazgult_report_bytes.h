@@ -19,7 +19,7 @@ struct yazgult_formatted {
 
 /* The bytes are the list of groups in the form of docs/BINDINGS.md; before it YAZGULT_HEAD bytes are free for the settings and the sheet,
  * which are known when it is drawn. After each call it is a whole list. */
-enum { YAZGULT_HEAD = 1 + 32 + 8 + 9 + 8 + 11 * 12 };
+enum { YAZGULT_HEAD = 1 + 32 + 8 + 2 * 9 + 8 + 11 * 12 };
 
 typedef struct yazgult_report {
     yazgult_buffer bytes, steps, lines;
@@ -252,10 +252,14 @@ static inline size_t yazgult_put_head(yazgult_report *report, const yazgult_rend
     yazgult_set_number(head + 16, renderer->context_before);
     yazgult_set_number(head + 24, renderer->context_after);
     head[32] = renderer->wrap != 0;
-    yazgult_set_number(head + 33, renderer->mask_controls != 0); /* how many later settings there are */
-    if (renderer->mask_controls) {
-        yazgult_set_number(head + 42, 1); /* after the setting's kind */
-        length += 9;
+    const int later[2] = {renderer->mask_controls, renderer->label_lines};
+    yazgult_set_number(head + 33, (size_t)(later[0] != 0) + (size_t)(later[1] != 0)); /* how many later settings there are */
+    for (unsigned char kind = 0; kind < 2; kind++) {
+        if (later[kind]) {
+            head[length++] = kind;
+            yazgult_set_number(head + length, 1);
+            length += 8;
+        }
     }
     yazgult_set_number(head + length, 1);
     length += 8;

@@ -15,6 +15,7 @@ export interface Settings {
   context_after?: number | null;
   wrap?: boolean | null;
   mask_controls?: boolean | null;
+  label_lines?: boolean | null;
 }
 
 export type AnsiColor =

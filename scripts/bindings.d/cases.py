@@ -8,7 +8,7 @@ from facts import ROOT, Trouble
 DATA = ROOT / "crates" / "replay" / "data"
 READABLE = ROOT / "crates" / "replay" / "cases"
 # Settings that few cases of crates/replay/data have.
-SETTINGS = {"show_line_feeds", "context_before", "context_after", "wrap", "mask_controls"}
+SETTINGS = {"show_line_feeds", "context_before", "context_after", "wrap", "mask_controls", "label_lines"}
 # The fields by which a case is drawn as something else than a text under each sheet.
 FORMS = ("html", "html_page", "markdown")
 # How many cases are tried, beside the worked rows.

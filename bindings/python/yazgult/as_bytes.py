@@ -340,7 +340,7 @@ ELEMENTS: Dict[str, Tuple[bytes, FrozenSet[str], Callable[[Mapping[str, Any], bo
 
 
 FLAGS = ("anonymized_origin", "anonymized_snippet", "unicode", "hyperlink", "short_message", "no_graphics", "show_line_feeds", "wrap")
-FLAGS += ("mask_controls",)
+FLAGS += ("mask_controls", "label_lines")
 NUMBERS = {"term_width": 140, "context_before": 0, "context_after": 0}
 
 
@@ -348,11 +348,11 @@ def settings_of(given: Mapping[str, Any]) -> bytes:
     """The version and the settings, each by its default where it is left out."""
     if not given.keys() <= SETTINGS:
         raise Other
-    origin, snippet, decor, hyperlink, short, words, feeds, wrap, mask = (flag(given.get(name), NO) for name in FLAGS)
+    origin, snippet, decor, hyperlink, short, words, feeds, wrap, *switches = (flag(given.get(name), NO) for name in FLAGS)
     numbers = ((given.get(name), default) for name, default in NUMBERS.items())
     width, before, after = (number(default if value is None else whole(value)) for value, default in numbers)
-    later = number(0) if mask == NO else ONE + NO + ONE
-    return b"".join((VERSION, origin, snippet, width, decor, hyperlink, short, words, feeds, before, after, wrap, later))
+    later = [bytes((kind,)) + ONE for kind, switch in enumerate(switches) if switch != NO]
+    return b"".join((VERSION, origin, snippet, width, decor, hyperlink, short, words, feeds, before, after, wrap, number(len(later)), *later))
 
 
 SETTINGS = frozenset(FLAGS) | NUMBERS.keys()

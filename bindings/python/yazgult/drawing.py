@@ -36,6 +36,7 @@ class Settings(TypedDict, total=False):
     context_after: int
     wrap: bool
     mask_controls: bool
+    label_lines: bool
 
 
 def render(
@@ -52,7 +53,8 @@ def render(
     count, "characters" or "bytes", in each snippet that has no `unit`; `sources` are texts that snippets name by their numbers.
 
     Settings are `no_graphics`, `short_message`, `term_width`, `unicode`, `anonymized_snippet`, `anonymized_origin`, `hyperlink`,
-    `show_line_feeds`, `context_before`, `context_after`, `wrap` and `mask_controls`, as that page has them.
+    `show_line_feeds`, `context_before`, `context_after`, `wrap`, `mask_controls` and `label_lines`, as that page has
+    them.
     """
     return texts_of_report(report, (sheet,), spans, sources, settings)[0]
 

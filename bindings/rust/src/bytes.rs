@@ -12,6 +12,9 @@ const VERSION: u8 = 3;
 /// The kind of the later setting `mask_controls`.
 const MASK_CONTROLS: u8 = 0;
 
+/// The kind of the later setting `label_lines`.
+const LABEL_LINES: u8 = 1;
+
 /// The bytes of a report, and the kept sources that it names, in the order of their numbers.
 pub(crate) struct Out {
     pub(crate) bytes: Vec<u8>,
@@ -80,7 +83,13 @@ fn settings(r: &Renderer, out: &mut Out) -> Written {
     number(r.context_before, out)?;
     number(r.context_after, out)?;
     byte(r.wrap, out)?;
-    list(if r.mask_controls { &[(MASK_CONTROLS, 1)] } else { &[] }, later, out)
+    let switches: &[(u8, usize)] = match (r.mask_controls, r.label_lines) {
+        (false, false) => &[],
+        (true, false) => &[(MASK_CONTROLS, 1)],
+        (false, true) => &[(LABEL_LINES, 1)],
+        (true, true) => &[(MASK_CONTROLS, 1), (LABEL_LINES, 1)],
+    };
+    list(switches, later, out)
 }
 
 fn later(&(kind, value): &(u8, usize), out: &mut Out) -> Written {

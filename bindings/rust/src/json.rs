@@ -114,6 +114,7 @@ fn settings(r: &Renderer, out: &mut Vec<u8>) -> Written {
     number_field("context_after", r.context_after, out)?;
     flag_field("wrap", r.wrap, out)?;
     flag_field("mask_controls", r.mask_controls, out)?;
+    flag_field("label_lines", r.label_lines, out)?;
     raw("}", out)
 }
 

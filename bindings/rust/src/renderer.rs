@@ -91,6 +91,7 @@ pub struct Renderer {
     pub(crate) context_after: usize,
     pub(crate) wrap: bool,
     pub(crate) mask_controls: bool,
+    pub(crate) label_lines: bool,
 }
 
 impl Renderer {
@@ -117,6 +118,7 @@ impl Renderer {
             context_after: 0,
             wrap: false,
             mask_controls: false,
+            label_lines: false,
         }
     }
 

@@ -104,7 +104,8 @@ fn renderers_are_made_in_constants() {
         .show_line_feeds(true)
         .context_lines(2, 1)
         .wrap(true)
-        .mask_controls(true);
+        .mask_controls(true)
+        .label_lines(true);
     const STYLED: Renderer = Renderer::styled()
         .error(DEFAULT_ERROR_STYLE)
         .warning(DEFAULT_WARNING_STYLE)

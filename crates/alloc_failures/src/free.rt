@@ -89,7 +89,8 @@ fn switches() -> bool {
         .show_line_feeds(true)
         .context_lines(2, 1)
         .wrap(true)
-        .mask_controls(true);
+        .mask_controls(true)
+        .label_lines(true);
     is_switched(&renderer)
 }
 
@@ -108,6 +109,7 @@ fn is_switched(renderer: &Renderer) -> bool {
         && renderer.context_after == 1
         && renderer.wrap
         && renderer.mask_controls
+        && renderer.label_lines
 }
 
 /// Whether a renderer whose styles are taken away is as plain as the plain one.

@@ -32,6 +32,7 @@ pub record HasSettingsOf (d : Data) (renderer : Renderer) : Type 0 where
   pub context_after : given_or as_whole 0 (codes "context_after") d ≡ Some renderer.context_after
   pub wrap : given_or as_bool false (codes "wrap") d ≡ Some renderer.wrap
   pub mask_controls : given_or as_bool false (codes "mask_controls") d ≡ Some renderer.mask_controls
+  pub label_lines : given_or as_bool false (codes "label_lines") d ≡ Some renderer.label_lines
   pub stylesheet : renderer.stylesheet ≡ plain_settings.stylesheet
 
 -- the same where the settings may be missing: then it is the plain one

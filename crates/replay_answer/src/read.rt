@@ -87,6 +87,7 @@ fn settings_of(node: &Node<'_, '_>) -> Result<Renderer, Fault>
     let (context_before, context_after) = context_of(node)?;
     let wrap = node.flag_or("wrap", false)?;
     let mask_controls = node.flag_or("mask_controls", false)?;
+    let label_lines = node.flag_or("label_lines", false)?;
     Ok(Renderer {
         no_graphics,
         short_message,
@@ -100,6 +101,7 @@ fn settings_of(node: &Node<'_, '_>) -> Result<Renderer, Fault>
         context_after,
         wrap,
         mask_controls,
+        label_lines,
         stylesheet: Stylesheet::plain(),
     })
 }

@@ -11,7 +11,7 @@ names_of shape.Case = codes "id" ∷ codes "settings" ∷ codes "sheets" ∷ cod
     ∷ codes "sources" ∷ codes "groups" ∷ []
 names_of shape.Settings = codes "no_graphics" ∷ codes "short_message" ∷ codes "term_width" ∷ codes "unicode" ∷ codes "anonymized_snippet"
     ∷ codes "anonymized_origin" ∷ codes "hyperlink" ∷ codes "show_line_feeds" ∷ codes "context_before"
-    ∷ codes "context_after" ∷ codes "wrap" ∷ codes "mask_controls" ∷ []
+    ∷ codes "context_after" ∷ codes "wrap" ∷ codes "mask_controls" ∷ codes "label_lines" ∷ []
 names_of shape.Sheet = codes "error" ∷ codes "warning" ∷ codes "info" ∷ codes "note" ∷ codes "help" ∷ codes "line_num" ∷ codes "emphasis" ∷ codes "none"
     ∷ codes "context" ∷ codes "addition" ∷ codes "removal" ∷ []
 names_of shape.Style = codes "fg" ∷ codes "bg" ∷ codes "effects" ∷ []

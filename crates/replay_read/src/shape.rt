@@ -23,6 +23,7 @@ const SETTINGS: &[&str] = &[
     "context_after",
     "wrap",
     "mask_controls",
+    "label_lines",
 ];
 
 /// The fields of a sheet.

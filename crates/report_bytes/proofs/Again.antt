@@ -1,7 +1,9 @@
 -- What has bytes is read from them again.
-use Rattle.std.proofs.Common.{◌≡◌, ℕ, ◌^◌, ◌<◌, true, false, cond, ltb, List, [], ◌∷◌, ◌++◌, length, take, drop, Option, Some, None, Result, Ok, Err, refl}
+use Rattle.std.proofs.Common.{◌≡◌, ℕ, ◌^◌, ◌<◌, ◌-◌, Bool, true, false, cond, ltb, List, [], ◌∷◌, ◌++◌, length, take, drop, Option, Some, None, Result, Ok}
+use Rattle.std.proofs.Common.{Err, refl}
 use Rattle.std.proofs.Common.{ap, ◌∙◌, arith}
-use Rattle.std.specs.Prelude.{◌==◌, if◌then◌else◌, IfSome}
+use Rattle.std.specs.Prelude.{◌==◌, ◌&&◌, nat_lt, if◌then◌else◌, IfSome}
+use Rattle.std.proofs.lemmas.Bool.Decides.{nat_tests}
 use Rattle.std.specs.Int.{w64, from_le_bytes, to_le_bytes}
 use Rattle.std.specs.Cow.{cow_str_bytes}
 use Rattle.std.specs.List.{AllByRecursion}
@@ -20,7 +22,7 @@ use Rattle.report_bytes.specs.Bytes.{ansi_number, later_then, settings_then, col
 use Rattle.report_bytes.specs.Bytes.{title_then, message_then, span_then, annotation_then, patch_then, origin_then}
 use Rattle.report_bytes.specs.Bytes.{AreMembersThen, IsElementThen, IsGroupThen, IsListThen, IsNumberOf, IsSnippetThen, source_then}
 use Rattle.report_bytes.specs.Reading.{◌>>=◌, fault_at, read_number, after_number, after_flag, after_kind, after_text, after_option, after_members, after_list}
-use Rattle.report_bytes.specs.Reading.{after_later, after_pairs}
+use Rattle.report_bytes.specs.Reading.{after_later, after_switch}
 use Rattle.report_bytes.specs.Reading.{after_settings, after_color, after_effects, after_style, after_levels, after_parts, after_sheet, after_name}
 use Rattle.report_bytes.specs.Reading.{after_level, after_id, after_title, after_message, after_span, after_annotation, after_patch, after_snippet}
 use Rattle.report_bytes.specs.Reading.{after_origin, after_element, after_group, after_kept, after_source}
@@ -164,19 +166,41 @@ decor_again : (d : DecorStyle) (rest : List ℕ) → after_kind 2 (decor_number 
 decor_again decor.Ascii rest = refl
 decor_again decor.Unicode rest = refl
 
-later_again : Again later_then after_later Any
+-- a switch that is on is read, and of none none
+switch_on : (kind count : ℕ) (rest : List ℕ) → 0 < count → after_switch kind count (kind ∷ number_then 1 rest) ≡ Ok (count - 1, rest)
+switch_on kind count rest some =
+    rw (both (nat_lt 0 count) (kind == kind) (above count some) (same kind), number_read 1 rest (omega arith)) refl
+  where
+    above : (n : ℕ) → 0 < n → nat_lt 0 n ≡ true
+    above n some = grind (arith, nat_tests, some)
+
+    same : (n : ℕ) → (n == n) ≡ true
+    same n = grind (arith, nat_tests)
+
+    both : (a b : Bool) → a ≡ true → b ≡ true → (a && b) ≡ true
+    both a b first second = rw (first, second) refl
+
+switch_none : (kind : ℕ) (rest : List ℕ) → after_switch kind 0 rest ≡ Ok (0, rest)
+switch_none kind [] = refl
+switch_none kind (byte ∷ rest) = refl
+
+later_again : (masks lines : Bool) (rest : List ℕ) → after_later (later_then masks lines rest) ≡ Ok rest
 unfolding after_later
-later_again false rest _ = ap (λ (n : Result (ℕ × List ℕ) ByteFault). n >>= λ n. after_pairs n.0 n.1) (number_read 0 rest (omega arith))
-later_again true rest _ =
-    ap (λ (n : Result (ℕ × List ℕ) ByteFault). n >>= λ n. after_pairs n.0 n.1) (number_read 1 (0 ∷ number_then 1 rest) (omega arith))
-    ∙ ap (λ (n : Result (ℕ × List ℕ) ByteFault).
-    (n >>= λ n. if n.0 == 1 then Ok n.1 else Err (fault_at Flag (number_then 1 rest))) >>= λ rest. if 1 == 1 then Ok rest else after_kind 0 rest)
-    (number_read 1 rest (omega arith))
+later_again false false rest = rw (number_read 0 rest (omega arith), switch_none 0 rest, switch_none 1 rest) refl
+later_again true false rest =
+    rw (number_read 1 (0 ∷ number_then 1 rest) (omega arith), switch_on 0 1 rest (omega arith), switch_none 1 rest) refl
+later_again false true rest = rw (number_read 1 (1 ∷ number_then 1 rest) (omega arith), switch_on 1 1 rest (omega arith)) refl
+later_again true true rest =
+    rw (
+      number_read 2 (0 ∷ number_then 1 (1 ∷ number_then 1 rest)) (omega arith),
+      switch_on 0 2 (1 ∷ number_then 1 rest) (omega arith),
+      switch_on 1 1 rest (omega arith),
+    ) refl
 
 pub settings_again : Again settings_then after_settings Any
 unfolding after_settings
 settings_again s rest _ =
-    let last = flag_then s.wrap (later_then s.mask_controls rest) in
+    let last = flag_then s.wrap (later_then s.mask_controls s.label_lines rest) in
     let around = number_then s.context_before (number_then s.context_after last) in
     seq _ (flag_again s.anonymized_origin_line_numbers _ tt) (seq _ (flag_again s.anonymized_snippet_line_numbers _ tt)
     (seq_number s.term_width (decor_number s.decor_style ∷ flag_then s.hyperlink (flag_then s.short_message
@@ -184,7 +208,7 @@ settings_again s rest _ =
     (seq _ (decor_again s.decor_style _) (seq _ (flag_again s.hyperlink _ tt)
     (seq _ (flag_again s.short_message _ tt) (seq _ (flag_again s.no_graphics _ tt) (seq _ (flag_again s.show_line_feeds _ tt)
     (seq_number s.context_before (number_then s.context_after last) _
-    (seq_number s.context_after last _ (seq _ (flag_again s.wrap _ tt) (later_again s.mask_controls rest tt)))))))))))
+    (seq_number s.context_after last _ (seq _ (flag_again s.wrap _ tt) (later_again s.mask_controls s.label_lines rest)))))))))))
 
 -- ---- groups
 

@@ -1,6 +1,6 @@
 -- The form of a report as bytes. Each definition gives the bytes of a thing, and then the bytes that follow it, which are its last
 -- argument.
-use Rattle.std.specs.Prelude.{◌≡◌, ℕ, ◌<◌, Bool, true, false, List, [], ◌∷◌, ◌++◌, Option, Some, None, get_or, length, if◌then◌else◌}
+use Rattle.std.specs.Prelude.{◌≡◌, ℕ, ◌+◌, ◌<◌, Bool, true, false, List, [], ◌∷◌, ◌++◌, Option, Some, None, get_or, length, if◌then◌else◌}
 use Rattle.std.specs.Int.{w64, to_le_bytes}
 use Rattle.std.specs.Cow.{cow_str_bytes}
 use Rattle.std.specs.declared.borrow.CowStr.{CowStr}
@@ -100,17 +100,22 @@ ansi_number ansi.BrightWhite = 15
 
 -- ---- settings and sheets
 
--- the settings that came after the others: how many pairs there are, and these, each a kind, one byte, and a number, in the order of their
--- kinds. There is one kind: that controls are masked is 0 and 1
-abbrev pub later_then : Bool → List ℕ → List ℕ
-later_then false rest = number_then 0 rest
-later_then true rest = number_then 1 (0 ∷ number_then 1 rest)
+-- a switch that came after the other settings, where it is on: its kind, one byte, and the number 1
+abbrev pub switch_then : ℕ → Bool → List ℕ → List ℕ
+switch_then kind false rest = rest
+switch_then kind true rest = kind ∷ number_then 1 rest
+
+-- the switches that came after the other settings: how many are on, and these, in the order of their kinds. That controls are masked has the
+-- kind 0, and that labels are cut at their line feeds has 1
+abbrev pub later_then : Bool → Bool → List ℕ → List ℕ
+later_then masks lines rest =
+    number_then ((if masks then 1 else 0) + (if lines then 1 else 0)) (switch_then 0 masks (switch_then 1 lines rest))
 
 abbrev pub settings_then : Settings → List ℕ → List ℕ
 settings_then s rest =
     flag_then s.anonymized_origin_line_numbers (flag_then s.anonymized_snippet_line_numbers (number_then s.term_width
     (decor_number s.decor_style ∷ flag_then s.hyperlink (flag_then s.short_message (flag_then s.no_graphics (flag_then s.show_line_feeds
-    (number_then s.context_before (number_then s.context_after (flag_then s.wrap (later_then s.mask_controls rest))))))))))
+    (number_then s.context_before (number_then s.context_after (flag_then s.wrap (later_then s.mask_controls s.label_lines rest))))))))))
 
 abbrev pub color_then : Color → List ℕ → List ℕ
 color_then (Ansi color) rest = 0 ∷ ansi_number color ∷ rest

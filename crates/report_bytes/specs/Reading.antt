@@ -1,5 +1,6 @@
 -- Reading a report from bytes, from left to right: what is left once a thing is read, or the first fault that is met.
-use Rattle.std.specs.Prelude.{◌≡◌, ℕ, zero, suc, ◌^◌, Bool, true, false, List, [], ◌∷◌, length, take, drop, Result, Ok, Err, ◌==◌, nat_lt, if◌then◌else◌}
+use Rattle.std.specs.Prelude.{◌≡◌, ℕ, zero, suc, ◌^◌, ◌-◌, ◌&&◌, Bool, true, false, List, [], ◌∷◌, length, take, drop, Result, Ok, Err, ◌==◌, nat_lt}
+use Rattle.std.specs.Prelude.{if◌then◌else◌}
 use Rattle.std.specs.Int.{w64, from_le_bytes}
 use Rattle.std.specs.Str.{is_utf8}
 use Rattle.report_bytes.specs.declared.fault.ByteFault.{ByteFault}
@@ -79,18 +80,23 @@ after_list after bytes = read_number bytes >>= λ n. after_members after n.0 n.1
 
 -- ---- settings and sheets
 
--- the number 1, which a later setting has
+-- the number 1, which a switch has that is on
 abbrev pub after_one : List ℕ → Result (List ℕ) ByteFault
 after_one bytes = read_number bytes >>= λ n. if n.0 == 1 then Ok n.1 else Err (fault_at Flag bytes)
 
--- so many later settings: there is one kind, so a second one names none
-abbrev pub after_pairs : ℕ → List ℕ → Result (List ℕ) ByteFault
-after_pairs count bytes =
-    if count == 0 then Ok bytes
-    else after_kind 1 bytes >>= after_one >>= λ rest. if count == 1 then Ok rest else after_kind 0 rest
+-- the switch of a kind, where so many are left and it is the next: how many are left after it, and what
+abbrev pub after_switch : ℕ → ℕ → List ℕ → Result (ℕ × List ℕ) ByteFault
+after_switch kind count [] = Ok (count, [])
+after_switch kind count (byte ∷ rest) =
+    if nat_lt 0 count && byte == kind then (after_one rest >>= λ rest. Ok (count - 1, rest)) else Ok (count, byte ∷ rest)
 
+-- those that came after the other settings, each at most once, and none that isn't known
 unfoldable pub after_later : List ℕ → Result (List ℕ) ByteFault
-after_later bytes = read_number bytes >>= λ n. after_pairs n.0 n.1
+after_later bytes = do
+  n ← read_number bytes
+  masks ← after_switch 0 n.0 n.1
+  lines ← after_switch 1 masks.0 masks.1
+  if lines.0 == 0 then Ok lines.1 else after_kind 0 lines.1
 
 unfoldable pub after_settings : List ℕ → Result (List ℕ) ByteFault
 after_settings bytes = do

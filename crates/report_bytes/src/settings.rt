@@ -1,8 +1,9 @@
 //! The settings of a report, and how they are read.
 
-ghost use Rattle.std.specs.Prelude.{◌≡◌, IfOk};
-ghost use Rattle.report_bytes.specs.Bytes.{later_then, number_then, settings_then};
+ghost use Rattle.std.specs.Prelude.{◌≡◌, ◌+◌, IfOk, if◌then◌else◌};
+ghost use Rattle.report_bytes.specs.Bytes.{later_then, number_then, settings_then, switch_then};
 ghost use Rattle.report_bytes.specs.Reading.{Fails, Gives, after_kind, after_later, after_one, after_settings};
+ghost use Rattle.report_bytes.specs.Reading.{after_switch};
 
 use crate::fault::{ReadError, Wrong};
 use crate::field::{flag, kind, number};
@@ -36,6 +37,8 @@ pub struct Settings {
     pub wrap: bool,
     /// Whether the controls of texts are masked.
     pub mask_controls: bool,
+    /// Whether labels are cut at their line feeds.
+    pub label_lines: bool,
 }
 
 /// The settings at the front.
@@ -55,7 +58,7 @@ pub fn settings_at(bytes: &[u8]) -> Result<(Settings, &[u8]), ReadError>
     let (context_before, rest) = number(rest)?;
     let (context_after, rest) = number(rest)?;
     let (wrap, rest) = flag(rest)?;
-    let (mask_controls, rest) = later(rest)?;
+    let (switches, rest) = switches(rest)?;
     let settings = Settings {
         anonymized_origin_line_numbers,
         anonymized_snippet_line_numbers,
@@ -68,28 +71,48 @@ pub fn settings_at(bytes: &[u8]) -> Result<(Settings, &[u8]), ReadError>
         context_before,
         context_after,
         wrap,
-        mask_controls,
+        mask_controls: switches.mask_controls,
+        label_lines: switches.label_lines,
     };
     Ok((settings, rest))
 }
 
-/// The settings at the front that came after the others, pairs of a kind and a number after how many there are: whether
-/// controls are masked, the one kind.
+/// The switches that came after the other settings.
+#[derive(Clone, Copy, Debug)]
+struct LaterSwitches {
+    mask_controls: bool,
+    label_lines: bool,
+}
+
+/// The switches at the front that came after the other settings: how many are on, and these, in the order of their
+/// kinds.
 #[tactic(auto, unfolding(crate::specs::Reading::after_later))]
-fn later(bytes: &[u8]) -> Result<(bool, &[u8]), ReadError>
+fn switches(bytes: &[u8]) -> Result<(LaterSwitches, &[u8]), ReadError>
     ensures left { Gives (λ x. x.1.now) result (after_later bytes.now) }
-    ensures spelled { IfOk result (λ x. bytes.now ≡ later_then x.0 x.1.now) }
+    ensures spelled { IfOk result (λ x. bytes.now ≡ later_then x.0.mask_controls x.0.label_lines x.1.now) }
 {
     let (count, rest) = number(bytes)?;
-    if count == 0 {
-        return Ok((false, rest));
+    let (mask_controls, left, rest) = switch(0, count, rest)?;
+    let (label_lines, left, rest) = switch(1, left, rest)?;
+    if left > 0 {
+        return Err(no_kind(rest));
     }
-    let (_, rest) = kind(1, rest)?;
-    let rest = one(rest)?;
-    if count == 1 {
-        Ok((true, rest))
-    } else {
-        Err(no_kind(rest))
+    let switches = LaterSwitches {
+        mask_controls,
+        label_lines,
+    };
+    Ok((switches, rest))
+}
+
+/// Whether the switch of this kind is at the front, where so many are left: and how many are left after it, and what.
+fn switch(kind: u8, count: usize, bytes: &[u8]) -> Result<(bool, usize, &[u8]), ReadError>
+    ensures left { Gives (λ x. (x.1, x.2.now)) result (after_switch kind count bytes.now) }
+    ensures spelled { IfOk result (λ x. bytes.now ≡ switch_then kind x.0 x.2.now) }
+    ensures count { IfOk result (λ x. count ≡ x.1 + (if x.0 then 1 else 0)) }
+{
+    match bytes.split_first() {
+        Some((byte, rest)) if count > 0 && *byte == kind => Ok((true, count - 1, one(rest)?)),
+        _ => Ok((false, count, bytes)),
     }
 }
 

@@ -37,6 +37,7 @@ renderer_of s =
       context_after = s.context_after;
       wrap = s.wrap;
       mask_controls = s.mask_controls;
+      label_lines = s.label_lines;
     }
 
 -- a refusal as an answer; that there was no memory is no refusal

@@ -83,5 +83,6 @@ fn renderer(settings: &Settings) -> Renderer
         context_after: settings.context_after,
         wrap: settings.wrap,
         mask_controls: settings.mask_controls,
+        label_lines: settings.label_lines,
     }
 }

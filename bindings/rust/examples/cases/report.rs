@@ -25,6 +25,7 @@ pub fn renderer(case: &Json) -> Renderer {
         .context_lines(s.number("context_before").unwrap_or(0), s.number("context_after").unwrap_or(0))
         .wrap(s.flag("wrap", false))
         .mask_controls(s.flag("mask_controls", false))
+        .label_lines(s.flag("label_lines", false))
 }
 
 /// The sheets of a case: the plain one where none is named.

@@ -177,4 +177,20 @@ impl Renderer {
         self.mask_controls = mask_controls;
         self
     }
+
+    /// Whether labels are cut at their line feeds, so that each line of a label stands in a row of its own below the one before it. Where
+    /// line feeds are shown there are none to cut at. A line feed of a label ends its row unless this says otherwise.
+    ///
+    /// ```
+    /// use yazgult::{AnnotationKind, Level, Renderer, Snippet};
+    ///
+    /// let source = Snippet::source("ab").annotation(AnnotationKind::Primary.span(0..1).label("a\nb"));
+    /// let report = &[Level::ERROR.primary_title("no room").element(source)];
+    /// let text = Renderer::plain().label_lines(true).render(report);
+    /// assert_eq!(text, "error: no room\n  |\n1 | ab\n  | ^ a\n  |   b");
+    /// ```
+    pub const fn label_lines(mut self, label_lines: bool) -> Self {
+        self.label_lines = label_lines;
+        self
+    }
 }
