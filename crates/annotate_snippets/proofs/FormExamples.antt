@@ -71,7 +71,7 @@ names_of_rows v = refl
 --     3 | | c
 --       | |_^
 one_bar : (v : Vec Annotation Global)
-    → texts_of (rows_of_lines plain_settings (record { gutter = 1; code = 6; decor = Ascii; label_lines = false }) false
+    → texts_of (rows_of_lines plain_settings (record { gutter = 1; code = 6; decor = Ascii; label_lines = false; label_end = 0 }) false
     (marked v (codes "a\nb\nc") (span_of Primary 0 5 ∷ []) (omega arith)) []
     (0 ∷ 1 ∷ 2 ∷ [])) ≡ codes "1 | / a" ∷ codes "2 | | b" ∷ codes "3 | | c" ∷ codes "  | |_^" ∷ []
 unfolding place_of line_of start_of chars char_width unicode_width norm locations_of start_location location_of end_location steps_after_text written digits

@@ -1,7 +1,7 @@
 -- The groups of a report, in order, as they are drawn.
 use Rattle.std.proofs.lemmas.Grind.{common_steps}
 use Rattle.annotate_snippets.proofs.Common.{◌≡◌, ℕ, ◌+◌, ◌<◌, ◌==◌, All, Bool, true, false, Option, None, Some, List, [], ◌∷◌}
-use Rattle.annotate_snippets.proofs.Common.{◌++◌, length, get_or, map, take, drop, Bor, refl, sym, ap, ◌∙◌, arith, subst, if◌then◌else◌}
+use Rattle.annotate_snippets.proofs.Common.{◌++◌, length, get_or, map, take, drop, Bor, refl, sym, ap, ◌∙◌, arith, subst, if◌then◌else◌, ◌||◌}
 use Rattle.annotate_snippets.proofs.Common.{enumerate_from, slice_get, option_copied, option_or, zero-add, nat_tests, append_assoc, get_or-map, length-map}
 use Rattle.annotate_snippets.proofs.Common.{length-take, take-append-drop, take_more, get_or-enumerate_from, length-enumerate_from, get_or_from_slice_get}
 use Rattle.annotate_snippets.proofs.Common.{slice_get-get_or, slice_get_within, Layout, Group, All-unmapped, DecorStyle, drawn_elements, file_of_group}
@@ -38,8 +38,9 @@ copied_or (Some x) b = refl
 -- the layout is the one that the report gives the group
 pub layout_is : (r : Renderer) (groups : List Group) (g : Group) (layout : Layout) (gutter depth : ℕ) → gutter ≡ gutter_of_report r groups
     → depth ≡ depth_of_group g → layout.gutter ≡ gutter → layout.code ≡ code_after gutter depth → layout.decor ≡ r.decor_style
-    → layout.label_lines ≡ r.label_lines → layout ≡ layout_of_group r groups g
-layout_is r groups g layout gutter depth wide deep left code decor lines = grind (arith, layout.code, layout.decor, layout.label_lines)
+    → layout.label_lines ≡ (r.label_lines || r.wrap) → layout.label_end ≡ (if r.wrap then r.term_width else 0) → layout ≡ layout_of_group r groups g
+layout_is r groups g layout gutter depth wide deep left code decor lines ends =
+    grind (arith, layout.code, layout.decor, layout.label_lines, layout.label_end)
 
 -- it has room for the group's elements
 pub room_at : (r : Renderer) (groups : List Group) (n : ℕ) (p : PreparedGroup) (layout : Layout) → All IsGroupDrawable groups → IsGroupPrepared p

@@ -13,7 +13,14 @@ use Rattle.annotate_snippets.proofs.Common.{StandsIn, is_cell_of, is_start_part,
 use Rattle.annotate_snippets.proofs.Common.{promoted_spans, is_in_label, labels_ending_on, normalized_chars, shown_label, entry_of, is_short, long_places}
 use Rattle.annotate_snippets.proofs.Common.{stands_among}
 use Rattle.std.specs.List.{All}
+use Rattle.annotate_snippets.specs.Laws.Labels.{IsBroken, pieces_shown}
+use Rattle.snippet_labels.proofs.PieceLemmas.{label_pieces-broken, label_pieces-nil}
 use Rattle.snippet_labels.specs.Pieces.{label_pieces, shows_any}
+use Rattle.snippet_shown.proofs.DrawnLemmas.{rows-within}
+use Rattle.snippet_shown.proofs.WrapLemmas.{wrapped-laws}
+use Rattle.snippet_shown.specs.WrapLaws.{AreRowsWithin}
+use Rattle.snippet_shown.specs.Wrapped.{wrapped}
+use Rattle.std.specs.List.{slice_split}
 use Rattle.std.specs.Prelude.{nat_le, nat_lt}
 use Rattle.annotate_snippets.proofs.MarkLemmas.{end_of_entry, start_of_entry}
 
@@ -64,71 +71,68 @@ labelled_at_end s marks k dropped es same =
 -- ---- the labels of the entries at which spans end
 
 -- the label of a span on one line, and that of a span of several lines, below its last column
-abbrev label_of_span : Bool → List ℕ → Annotation → SpanLabel
-label_of_span cut source a =
-    record { pieces = label_pieces cut (shown_label a); kind = a.kind; from = start_column source a; to = end_column source a }
+abbrev label_of_span : List ℕ → Annotation → SpanLabel
+label_of_span source a =
+    record { text = shown_label a; kind = a.kind; from = start_column source a; to = end_column source a }
 
-abbrev label_of_end : Bool → LineAnnotation → SpanLabel
-label_of_end cut e =
-    record { pieces = label_pieces cut (normalized_chars e.label); kind = e.kind; from = e.end.display - 1; to = e.end.display }
+abbrev label_of_end : LineAnnotation → SpanLabel
+label_of_end e =
+    record { text = normalized_chars e.label; kind = e.kind; from = e.end.display - 1; to = e.end.display }
 
 -- whether an entry is one at which a span ends
 abbrev ends_here : LineAnnotation → Bool
 ends_here p = not (is_start_part p.annotation_type || is_bar p.annotation_type)
 
 -- the label of an entry
-abbrev label_of_part : Bool → LineAnnotation → SpanLabel
-label_of_part cut p =
-    record { pieces = label_pieces cut (normalized_chars p.label); kind = p.kind; from = p.start.display; to = p.end.display }
+abbrev label_of_part : LineAnnotation → SpanLabel
+label_of_part p =
+    record { text = normalized_chars p.label; kind = p.kind; from = p.start.display; to = p.end.display }
 
 -- the labels of those entries, at their places
-abbrev shown_at : Bool → LineAnnotation → PlacedLabel → ShownLabel
-shown_at cut e l = record { label = label_of_part cut e; row = l.row; cell = l.cell }
+abbrev shown_at : LineAnnotation → PlacedLabel → ShownLabel
+shown_at e l = record { label = label_of_part e; row = l.row; cell = l.cell }
 
-shown_labels : Bool → List LineAnnotation → List PlacedLabel → List ShownLabel
-shown_labels cut [] ls = []
-shown_labels cut (e ∷ es) [] = []
-shown_labels cut (e ∷ es) (l ∷ ls) =
-    cond (ends_here e) (shown_at cut e l ∷ shown_labels cut es ls) (shown_labels cut es ls)
+shown_labels : List LineAnnotation → List PlacedLabel → List ShownLabel
+shown_labels [] ls = []
+shown_labels (e ∷ es) [] = []
+shown_labels (e ∷ es) (l ∷ ls) =
+    cond (ends_here e) (shown_at e l ∷ shown_labels es ls) (shown_labels es ls)
 
-labels_are : (cut : Bool) (es : List LineAnnotation) (ls : List PlacedLabel) → length ls ≡ length es
-    → map (λ (l : ShownLabel). l.label) (shown_labels cut es ls) ≡ map (label_of_part cut) (filter ends_here es)
+labels_are : (es : List LineAnnotation) (ls : List PlacedLabel) → length ls ≡ length es
+    → map (λ (l : ShownLabel). l.label) (shown_labels es ls) ≡ map (label_of_part) (filter ends_here es)
 unfolding shown_labels
-labels_are cut [] ls long = refl
-labels_are cut (e ∷ es) [] long = absurd (omega (arith, long))
-labels_are cut (e ∷ es) (l ∷ ls) long =
-    both (ends_here e) (labels_are cut es ls (omega (arith, long)))
+labels_are [] ls long = refl
+labels_are (e ∷ es) [] long = absurd (omega (arith, long))
+labels_are (e ∷ es) (l ∷ ls) long =
+    both (ends_here e) (labels_are es ls (omega (arith, long)))
   where
-    both : (b : Bool) → map (λ (x : ShownLabel). x.label) (shown_labels cut es ls) ≡ map (label_of_part cut) (filter ends_here es)
-        → map (λ (x : ShownLabel). x.label) (cond b (shown_at cut e l ∷ shown_labels cut es ls) (shown_labels cut es ls))
-        ≡ map (label_of_part cut) (cond b (e ∷ filter ends_here es) (filter ends_here es))
-    both true rest = ap (λ xs. label_of_part cut e ∷ xs) rest
+    both : (b : Bool) → map (λ (x : ShownLabel). x.label) (shown_labels es ls) ≡ map (label_of_part) (filter ends_here es)
+        → map (λ (x : ShownLabel). x.label) (cond b (shown_at e l ∷ shown_labels es ls) (shown_labels es ls))
+        ≡ map (label_of_part) (cond b (e ∷ filter ends_here es) (filter ends_here es))
+    both true rest = ap (λ xs. label_of_part e ∷ xs) rest
     both false rest = rest
 
-module _ (dropped : ℕ) (layout : Layout) (rows_layout : Layout) (code : rows_layout.code ≡ layout.code) (rows : List (List Cell)) where
-  abbrev cut : Bool
-  cut = rows_layout.label_lines
-
+module _ (dropped : ℕ) (layout : Layout) (rows : List (List Cell)) where
   abbrev IsClear : LineAnnotation → Type 0
   IsClear e = is_bar e.annotation_type ≡ false → dropped ≤ e.start.display
 
   abbrev Stands : PlacedLabel → Type 0
-  Stands l = shows_any l.pieces ≡ true → StandsIn rows_layout rows l
+  Stands l = shows_any l.pieces ≡ true → StandsIn layout rows l
 
   abbrev HasPieces : PlacedLabel → Type 0
-  HasPieces l = l.pieces ≡ label_pieces cut (label_text l.entry)
+  HasPieces l = l.pieces ≡ label_pieces layout l.cell (label_text l.entry)
 
   abbrev Shows : ShownLabel → Type 0
-  Shows l = shows_any l.label.pieces ≡ true → ShowsLabel layout dropped rows l
+  Shows l = shows_any (pieces_shown layout l) ≡ true → ShowsLabel layout dropped rows l
 
-  pieces_are : (e : LineAnnotation) (l : PlacedLabel) → l.entry ≡ shifted dropped e → HasPieces l → l.pieces ≡ label_pieces cut (normalized_chars e.label)
-  pieces_are e l entry has = has ∙ ap (λ (x : LineAnnotation). label_pieces cut (label_text x)) entry
+  pieces_are : (e : LineAnnotation) (l : PlacedLabel) → l.entry ≡ shifted dropped e → HasPieces l → l.pieces ≡ pieces_shown layout (shown_at e l)
+  pieces_are e l entry has = has ∙ ap (λ (x : LineAnnotation). label_pieces layout l.cell (label_text x)) entry
 
   one_label : (e : LineAnnotation) (l : PlacedLabel) → l.entry ≡ shifted dropped e → HasPieces l → IsClear e → ends_here e ≡ true
-      → Stands l → Shows (shown_at cut e l)
+      → Stands l → Shows (shown_at e l)
   one_label e l entry has clear ends stands some =
       let text = pieces_are e l entry has in
-      let there : StandsIn rows_layout rows l = stands (ap shows_any text ∙ some) in
+      let there : StandsIn layout rows l = stands (ap shows_any text ∙ some) in
       let right : dropped ≤ e.start.display = clear (no_bar (is_start_part e.annotation_type) (is_bar e.annotation_type) ends) in
       let start : l.entry.start.display ≡ e.start.display - dropped = ap (λ (x : LineAnnotation). x.start.display) entry in
       let end : l.entry.end.display ≡ e.end.display - dropped = ap (λ (x : LineAnnotation). x.end.display) entry in
@@ -138,8 +142,8 @@ module _ (dropped : ℕ) (layout : Layout) (rows_layout : Layout) (code : rows_l
             ∙ ap (λ (x : AnnotationKind). unlinked_cell (label_role x) (get_or (get_or l.pieces i []) n 0)) kind
             ∙ ap (λ (ps : List (List ℕ)). unlinked_cell (label_role e.kind) (get_or (get_or ps i []) n 0)) text;
         place = elim there.place [
-          | inl at ↦ inl (at.0, at.1 ∙ ap (λ m. rows_layout.code + max m 1 + 1) end ∙ ap (λ m. m + max (e.end.display - dropped) 1 + 1) code)
-          | inr at ↦ inr (at.0, omega (arith, at.1, start, right, code))
+          | inl at ↦ inl (at.0, at.1 ∙ ap (λ m. layout.code + max m 1 + 1) end)
+          | inr at ↦ inr (at.0, omega (arith, at.1, start, right))
         ];
       }
     where
@@ -149,7 +153,7 @@ module _ (dropped : ℕ) (layout : Layout) (rows_layout : Layout) (code : rows_l
       no_bar false false is = refl
 
   all_shown : (es : List LineAnnotation) (ls : List PlacedLabel) → map (λ (l : PlacedLabel). l.entry) ls ≡ map (shifted dropped) es → All HasPieces ls
-      → All IsClear es → All Stands ls → All Shows (shown_labels cut es ls)
+      → All IsClear es → All Stands ls → All Shows (shown_labels es ls)
   unfolding shown_labels
   all_shown [] ls entries has clear stand = All-nil Shows
   all_shown (e ∷ es) [] entries has clear stand = cc entries
@@ -159,65 +163,66 @@ module _ (dropped : ℕ) (layout : Layout) (rows_layout : Layout) (code : rows_l
       both (ends_here e) (one_label e l entry (All-head HasPieces l ls has) (All-head IsClear e es clear)) (All-head Stands l ls stand)
       (all_shown es ls further (All-tail HasPieces l ls has) (All-tail IsClear e es clear) (All-tail Stands l ls stand))
     where
-      both : (b : Bool) → (b ≡ true → Stands l → Shows (shown_at cut e l)) → Stands l → All Shows (shown_labels cut es ls)
-          → All Shows (cond b (shown_at cut e l ∷ shown_labels cut es ls) (shown_labels cut es ls))
-      both true own stands rest = All-cons Shows (shown_at cut e l) (shown_labels cut es ls) (own refl stands) rest
+      both : (b : Bool) → (b ≡ true → Stands l → Shows (shown_at e l)) → Stands l → All Shows (shown_labels es ls)
+          → All Shows (cond b (shown_at e l ∷ shown_labels es ls) (shown_labels es ls))
+      both true own stands rest = All-cons Shows (shown_at e l) (shown_labels es ls) (own refl stands) rest
       both false own stands rest = rest
 
   -- a stem leads to one of some labels, where no label of all these has the cell
   abbrev Led : List PlacedLabel → PlacedLabel → Type 0
-  Led all l = shows_any l.pieces ≡ true → IsLedTo rows_layout.decor all rows l
+  Led all l = shows_any l.pieces ≡ true → IsLedTo layout.decor all rows l
 
   abbrev Stemmed : List ShownLabel → ShownLabel → Type 0
-  Stemmed shown l = shows_any l.label.pieces ≡ true → HasStem rows_layout.decor shown rows l
+  Stemmed shown l = shows_any (pieces_shown layout l) ≡ true → HasStem layout.decor layout shown rows l
 
-  all_led : (all : List PlacedLabel) (shown : List ShownLabel) → ((r c : ℕ) → count_by (is_in_label r c) shown ≡ 0 → count_by (is_cell_of r c) all ≡ 0)
+  all_led : (all : List PlacedLabel) (shown : List ShownLabel) → ((r c : ℕ) → count_by (is_in_label layout r c) shown ≡ 0 → count_by (is_cell_of r c) all ≡ 0)
       → (es : List LineAnnotation) (ls : List PlacedLabel) → map (λ (l : PlacedLabel). l.entry) ls ≡ map (shifted dropped) es → All HasPieces ls
-      → All (Led all) ls → All (Stemmed shown) (shown_labels cut es ls)
+      → All (Led all) ls → All (Stemmed shown) (shown_labels es ls)
   unfolding shown_labels
   all_led all shown clear [] ls entries has led = All-nil (Stemmed shown)
   all_led all shown clear (e ∷ es) [] entries has led = cc entries
   all_led all shown clear (e ∷ es) (l ∷ ls) entries has led =
       let entry = head_same l.entry (shifted dropped e) (map (λ (x : PlacedLabel). x.entry) ls) (map (shifted dropped) es) entries in
       let further = tail_same l.entry (shifted dropped e) (map (λ (x : PlacedLabel). x.entry) ls) (map (shifted dropped) es) entries in
-      let own : Stemmed shown (shown_at cut e l) = λ some r under above none.
+      let own : Stemmed shown (shown_at e l) = λ some r under above none.
       All-head (Led all) l ls led (ap shows_any (pieces_are e l entry (All-head HasPieces l ls has)) ∙ some) r under above (clear r l.cell none) in
       both (ends_here e) own (all_led all shown clear es ls further (All-tail HasPieces l ls has) (All-tail (Led all) l ls led))
     where
-      both : (b : Bool) → Stemmed shown (shown_at cut e l) → All (Stemmed shown) (shown_labels cut es ls)
-          → All (Stemmed shown) (cond b (shown_at cut e l ∷ shown_labels cut es ls) (shown_labels cut es ls))
-      both true own rest = All-cons (Stemmed shown) (shown_at cut e l) (shown_labels cut es ls) own rest
+      both : (b : Bool) → Stemmed shown (shown_at e l) → All (Stemmed shown) (shown_labels es ls)
+          → All (Stemmed shown) (cond b (shown_at e l ∷ shown_labels es ls) (shown_labels es ls))
+      both true own rest = All-cons (Stemmed shown) (shown_at e l) (shown_labels es ls) own rest
       both false own rest = rest
 
   -- a cell is in no more of these than of all the entries' labels
   cells_few : (r c : ℕ) (es : List LineAnnotation) (ls : List PlacedLabel) → map (λ (l : PlacedLabel). l.entry) ls ≡ map (shifted dropped) es
-      → All HasPieces ls → count_by (is_in_label r c) (shown_labels cut es ls) ≤ count_by (is_cell_of r c) ls
+      → All HasPieces ls → count_by (is_in_label layout r c) (shown_labels es ls) ≤ count_by (is_cell_of r c) ls
   unfolding shown_labels
   cells_few r c [] ls entries has = omega arith
   cells_few r c (e ∷ es) [] entries has = omega arith
   cells_few r c (e ∷ es) (l ∷ ls) entries has =
       let entry = head_same l.entry (shifted dropped e) (map (λ (x : PlacedLabel). x.entry) ls) (map (shifted dropped) es) entries in
       let further = tail_same l.entry (shifted dropped e) (map (λ (x : PlacedLabel). x.entry) ls) (map (shifted dropped) es) entries in
-      let one : is_in_label r c (shown_at cut e l) ≡ is_cell_of r c l = ap (λ (ps : List (List ℕ)).
+      let one : is_in_label layout r c (shown_at e l) ≡ is_cell_of r c l = ap (λ (ps : List (List ℕ)).
       nat_le l.row r && (nat_le l.cell c && nat_lt c (l.cell + length (get_or ps (r - l.row) []))))
       (sym (pieces_are e l entry (All-head HasPieces l ls has))) in
       both (ends_here e) one (cells_few r c es ls further (All-tail HasPieces l ls has))
     where
-      both : (b : Bool) → is_in_label r c (shown_at cut e l) ≡ is_cell_of r c l
-          → count_by (is_in_label r c) (shown_labels cut es ls) ≤ count_by (is_cell_of r c) ls
-          → count_by (is_in_label r c) (cond b (shown_at cut e l ∷ shown_labels cut es ls) (shown_labels cut es ls)) ≤ count_by (is_cell_of r c) (l ∷ ls)
+      both : (b : Bool) → is_in_label layout r c (shown_at e l) ≡ is_cell_of r c l
+          → count_by (is_in_label layout r c) (shown_labels es ls) ≤ count_by (is_cell_of r c) ls
+          → count_by (is_in_label layout r c) (cond b (shown_at e l ∷ shown_labels es ls) (shown_labels es ls)) ≤ count_by (is_cell_of r c) (l ∷ ls)
       both true one rest =
-          let f : ShownLabel → ℕ = λ x. cond (is_in_label r c x) 1 0 in
+          let f : ShownLabel → ℕ = λ x. cond (is_in_label layout r c x) 1 0 in
           let g : PlacedLabel → ℕ = λ x. cond (is_cell_of r c x) 1 0 in
-          let same : f (shown_at cut e l) ≡ g l = ap (λ b. cond b 1 0) one in
-          omega (arith, rest, same, sum_by-cons f (shown_at cut e l) (shown_labels cut es ls), sum_by-cons g l ls)
+          let same : f (shown_at e l) ≡ g l = ap (λ b. cond b 1 0) one in
+          omega (arith, rest, same, sum_by-cons f (shown_at e l) (shown_labels es ls), sum_by-cons g l ls)
       both false one rest =
           let g : PlacedLabel → ℕ = λ x. cond (is_cell_of r c x) 1 0 in
           omega (arith, rest, sum_by-cons g l ls)
 
   -- nor in fewer, since no other entry has a label
   cells_all : (r c : ℕ) (es : List LineAnnotation) (ls : List PlacedLabel) → map (λ (l : PlacedLabel). l.entry) ls ≡ map (shifted dropped) es
-      → All IsLabelledAtEnd (map (shifted dropped) es) → All HasPieces ls → count_by (is_cell_of r c) ls ≤ count_by (is_in_label r c) (shown_labels cut es ls)
+      → All IsLabelledAtEnd (map (shifted dropped) es) → All HasPieces ls
+      → count_by (is_cell_of r c) ls ≤ count_by (is_in_label layout r c) (shown_labels es ls)
   unfolding shown_labels
   cells_all r c [] [] entries ends has = omega arith
   cells_all r c [] (l ∷ ls) entries ends has = cc entries
@@ -225,12 +230,12 @@ module _ (dropped : ℕ) (layout : Layout) (rows_layout : Layout) (code : rows_l
   cells_all r c (e ∷ es) (l ∷ ls) entries ends has =
       let entry = head_same l.entry (shifted dropped e) (map (λ (x : PlacedLabel). x.entry) ls) (map (shifted dropped) es) entries in
       let further = tail_same l.entry (shifted dropped e) (map (λ (x : PlacedLabel). x.entry) ls) (map (shifted dropped) es) entries in
-      let one : is_in_label r c (shown_at cut e l) ≡ is_cell_of r c l = ap (λ (ps : List (List ℕ)).
+      let one : is_in_label layout r c (shown_at e l) ≡ is_cell_of r c l = ap (λ (ps : List (List ℕ)).
       nat_le l.row r && (nat_le l.cell c && nat_lt c (l.cell + length (get_or ps (r - l.row) []))))
       (sym (pieces_are e l entry (All-head HasPieces l ls has))) in
       let none : (is_start_part e.annotation_type || is_bar e.annotation_type) ≡ true → is_cell_of r c l ≡ false =
       λ before. no_cell r c l.row l.cell (length (get_or l.pieces (r - l.row) []))
-      (no_piece (r - l.row) l.pieces (All-head HasPieces l ls has ∙ ap (label_pieces cut) (ap label_text entry
+      (no_piece l.cell (r - l.row) l.pieces (All-head HasPieces l ls has ∙ ap (label_pieces layout l.cell) (ap label_text entry
       ∙ All-head IsLabelledAtEnd (shifted dropped e) (map (shifted dropped) es) ends before))) in
       both (is_start_part e.annotation_type || is_bar e.annotation_type) one none
       (cells_all r c es ls further (All-tail IsLabelledAtEnd (shifted dropped e) (map (shifted dropped) es) ends) (All-tail HasPieces l ls has))
@@ -238,25 +243,21 @@ module _ (dropped : ℕ) (layout : Layout) (rows_layout : Layout) (code : rows_l
       no_cell : (r c row cell n : ℕ) → n ≡ 0 → (nat_le row r && (nat_le cell c && nat_lt c (cell + n))) ≡ false
       no_cell r c row cell n is = grind (arith, nat_tests, is)
 
-      no_piece : (i : ℕ) (ps : List (List ℕ)) → ps ≡ label_pieces cut [] → length (get_or ps i []) ≡ 0
-      no_piece i ps is = ap (λ (qs : List (List ℕ)). length (get_or qs i [])) (is ∙ empty cut) ∙ none i
+      no_piece : (cell i : ℕ) (ps : List (List ℕ)) → ps ≡ label_pieces layout cell [] → length (get_or ps i []) ≡ 0
+      no_piece cell i ps is = ap (λ (qs : List (List ℕ)). length (get_or qs i [])) (is ∙ label_pieces-nil layout cell) ∙ none i
         where
-          empty : (cut : Bool) → label_pieces cut [] ≡ [] ∷ []
-          empty true = refl
-          empty false = refl
-
           none : (i : ℕ) → length {A = ℕ} (get_or ([] ∷ []) i []) ≡ 0
           none zero = refl
           none (suc i) = refl
 
-      both : (b : Bool) → is_in_label r c (shown_at cut e l) ≡ is_cell_of r c l → (b ≡ true → is_cell_of r c l ≡ false)
-          → count_by (is_cell_of r c) ls ≤ count_by (is_in_label r c) (shown_labels cut es ls)
-          → count_by (is_cell_of r c) (l ∷ ls) ≤ count_by (is_in_label r c) (cond (not b) (shown_at cut e l ∷ shown_labels cut es ls) (shown_labels cut es ls))
+      both : (b : Bool) → is_in_label layout r c (shown_at e l) ≡ is_cell_of r c l → (b ≡ true → is_cell_of r c l ≡ false)
+          → count_by (is_cell_of r c) ls ≤ count_by (is_in_label layout r c) (shown_labels es ls)
+          → count_by (is_cell_of r c) (l ∷ ls) ≤ count_by (is_in_label layout r c) (cond (not b) (shown_at e l ∷ shown_labels es ls) (shown_labels es ls))
       both false one none rest =
-          let f : ShownLabel → ℕ = λ x. cond (is_in_label r c x) 1 0 in
+          let f : ShownLabel → ℕ = λ x. cond (is_in_label layout r c x) 1 0 in
           let g : PlacedLabel → ℕ = λ x. cond (is_cell_of r c x) 1 0 in
-          let same : f (shown_at cut e l) ≡ g l = ap (λ b. cond b 1 0) one in
-          omega (arith, rest, same, sum_by-cons f (shown_at cut e l) (shown_labels cut es ls), sum_by-cons g l ls)
+          let same : f (shown_at e l) ≡ g l = ap (λ b. cond b 1 0) one in
+          omega (arith, rest, same, sum_by-cons f (shown_at e l) (shown_labels es ls), sum_by-cons g l ls)
       both true one none rest =
           let g : PlacedLabel → ℕ = λ x. cond (is_cell_of r c x) 1 0 in
           let here : g l ≡ 0 = ap (λ b. cond b 1 0) (none refl) in
@@ -265,21 +266,21 @@ module _ (dropped : ℕ) (layout : Layout) (rows_layout : Layout) (code : rows_l
 -- ---- which spans these are
 
 -- of the entries of a span of several lines the last one alone is where it ends
-one_end : (cut : Bool) (s : Source) (k depth : ℕ) (again : Bool) (e : LineAnnotation)
-    → map (label_of_part cut) (filter ends_here (filter (λ (p : LineAnnotation). p.start.line == s.first + k) (span_parts s depth again e)))
-    ≡ map (label_of_end cut) (cond (e.end.line == s.first + k) (e ∷ []) [])
-one_end cut s k depth true e = both (e.end.line == s.first + k)
+one_end : (s : Source) (k depth : ℕ) (again : Bool) (e : LineAnnotation)
+    → map (label_of_part) (filter ends_here (filter (λ (p : LineAnnotation). p.start.line == s.first + k) (span_parts s depth again e)))
+    ≡ map (label_of_end) (cond (e.end.line == s.first + k) (e ∷ []) [])
+one_end s k depth true e = both (e.end.line == s.first + k)
   where
-    both : (b : Bool) → map (label_of_part cut) (filter ends_here (cond b (end_part e Singleline ∷ []) [])) ≡ map (label_of_end cut) (cond b (e ∷ []) [])
+    both : (b : Bool) → map (label_of_part) (filter ends_here (cond b (end_part e Singleline ∷ []) [])) ≡ map (label_of_end) (cond b (e ∷ []) [])
     both true = refl
     both false = refl
-one_end cut s k depth false e =
+one_end s k depth false e =
     let bars : List LineAnnotation = map (λ n. bar_part e depth (s.first + n)) (bar_lines s.text (e.start.line - s.first) (e.end.line - s.first)) in
     let rest : List LineAnnotation = bars ++ end_part e (MultilineEnd depth) ∷ [] in
-    ap (map (label_of_part cut)) (first (e.start.line == s.first + k) (filter on_line rest))
-    ∙ ap (λ ps. map (label_of_part cut) (filter ends_here ps)) (filter-append on_line bars (end_part e (MultilineEnd depth) ∷ []))
-    ∙ ap (map (label_of_part cut)) (filter-append ends_here (filter on_line bars) (filter on_line (end_part e (MultilineEnd depth) ∷ [])))
-    ∙ ap (λ ps. map (label_of_part cut) (ps ++ filter ends_here (filter on_line (end_part e (MultilineEnd depth) ∷ []))))
+    ap (map (label_of_part)) (first (e.start.line == s.first + k) (filter on_line rest))
+    ∙ ap (λ ps. map (label_of_part) (filter ends_here ps)) (filter-append on_line bars (end_part e (MultilineEnd depth) ∷ []))
+    ∙ ap (map (label_of_part)) (filter-append ends_here (filter on_line bars) (filter on_line (end_part e (MultilineEnd depth) ∷ [])))
+    ∙ ap (λ ps. map (label_of_part) (ps ++ filter ends_here (filter on_line (end_part e (MultilineEnd depth) ∷ []))))
     (filter-none ends_here (filter on_line bars)
     (All-filter on_line (λ p. ends_here p ≡ false)
     bars (All-map (λ p. ends_here p ≡ false) (λ n. bar_part e depth (s.first + n))
@@ -293,55 +294,69 @@ one_end cut s k depth false e =
     first false ps = refl
 
     both : (b : Bool)
-        → map (label_of_part cut) (filter ends_here (cond b (end_part e (MultilineEnd depth) ∷ []) [])) ≡ map (label_of_end cut) (cond b (e ∷ []) [])
+        → map (label_of_part) (filter ends_here (cond b (end_part e (MultilineEnd depth) ∷ []) [])) ≡ map (label_of_end) (cond b (e ∷ []) [])
     both true = refl
     both false = refl
 
-long_ends : (cut : Bool) (s : Source) (k : ℕ) (places : List LongExtent) (before es : List LineAnnotation)
-    → map (label_of_part cut) (filter ends_here (filter (λ (p : LineAnnotation). p.start.line == s.first + k) (long_parts s places before es)))
-    ≡ map (label_of_end cut) (filter (λ (e : LineAnnotation). e.end.line == s.first + k) (promoted_spans before es))
-long_ends cut s k places before [] = refl
-long_ends cut s k places before (e ∷ later) =
+long_ends : (s : Source) (k : ℕ) (places : List LongExtent) (before es : List LineAnnotation)
+    → map (label_of_part) (filter ends_here (filter (λ (p : LineAnnotation). p.start.line == s.first + k) (long_parts s places before es)))
+    ≡ map (label_of_end) (filter (λ (e : LineAnnotation). e.end.line == s.first + k) (promoted_spans before es))
+long_ends s k places before [] = refl
+long_ends s k places before (e ∷ later) =
     let on_line : LineAnnotation → Bool = λ (p : LineAnnotation). p.start.line == s.first + k in
     let own : List LineAnnotation = span_parts s (depth_among places (long_place e)) (stands_among e later) (promoted before e) in
     let others : List LineAnnotation = long_parts s places (before ++ e ∷ []) later in
     let ends : LineAnnotation → Bool = λ (x : LineAnnotation). x.end.line == s.first + k in
     let rest : List LineAnnotation = promoted_spans (before ++ e ∷ []) later in
-    ap (λ ps. map (label_of_part cut) (filter ends_here ps)) (filter-append on_line own others)
-    ∙ ap (map (label_of_part cut)) (filter-append ends_here (filter on_line own) (filter on_line others))
-    ∙ map-append (label_of_part cut) (filter ends_here (filter on_line own)) (filter ends_here (filter on_line others))
-    ∙ ap (λ xs. xs ++ map (label_of_part cut) (filter ends_here (filter on_line others)))
-    (one_end cut s k (depth_among places (long_place e)) (stands_among e later) (promoted before e))
-    ∙ ap (λ xs. map (label_of_end cut) (cond (ends (promoted before e)) (promoted before e ∷ []) []) ++ xs)
-    (long_ends cut s k places (before ++ e ∷ []) later) ∙ both (ends (promoted before e)) (filter ends rest)
+    ap (λ ps. map (label_of_part) (filter ends_here ps)) (filter-append on_line own others)
+    ∙ ap (map (label_of_part)) (filter-append ends_here (filter on_line own) (filter on_line others))
+    ∙ map-append (label_of_part) (filter ends_here (filter on_line own)) (filter ends_here (filter on_line others))
+    ∙ ap (λ xs. xs ++ map (label_of_part) (filter ends_here (filter on_line others)))
+    (one_end s k (depth_among places (long_place e)) (stands_among e later) (promoted before e))
+    ∙ ap (λ xs. map (label_of_end) (cond (ends (promoted before e)) (promoted before e ∷ []) []) ++ xs)
+    (long_ends s k places (before ++ e ∷ []) later) ∙ both (ends (promoted before e)) (filter ends rest)
   where
     both : (b : Bool) (xs : List LineAnnotation)
-        → map (label_of_end cut) (cond b (promoted before e ∷ []) []) ++ map (label_of_end cut) xs ≡ map (label_of_end cut) (cond b (promoted before e ∷ xs) xs)
+        → map (label_of_end) (cond b (promoted before e ∷ []) []) ++ map (label_of_end) xs ≡ map (label_of_end) (cond b (promoted before e ∷ xs) xs)
     both true xs = refl
     both false xs = refl
 
 -- a span on one line has its entry's label
-single_labels : (cut : Bool) (s : Source) (k : ℕ) (marked : List Annotation) → All (λ a. is_marked_on s.text k a ≡ true) marked
-    → map (label_of_part cut) (filter ends_here (map (single_part s) marked)) ≡ map (label_of_span cut s.text) marked
-single_labels cut s k [] own = refl
-single_labels cut s k (a ∷ marked) own =
+single_labels : (s : Source) (k : ℕ) (marked : List Annotation) → All (λ a. is_marked_on s.text k a ≡ true) marked
+    → map (label_of_part) (filter ends_here (map (single_part s) marked)) ≡ map (label_of_span s.text) marked
+single_labels s k [] own = refl
+single_labels s k (a ∷ marked) own =
     let O : Annotation → Type 0 = λ x. is_marked_on s.text k x ≡ true in
     let single : is_single_line s.text a ≡ true = grind (arith, common_steps, and_parts, All-head, O, a.kind, s.text) in
-    let rest = single_labels cut s k marked (All-tail O a marked own) in
-    let here : label_of_part cut (single_part s a) ≡ label_of_span cut s.text a =
-    ap (λ n. record { pieces = label_pieces cut (shown_label a); kind = a.kind; from = n; to = (entry_of s a).end.display }) (start_of_entry s a)
-    ∙ ap (λ n. record { pieces = label_pieces cut (shown_label a); kind = a.kind; from = start_column s.text a; to = n }) (end_of_entry s a single) in
-    ap (λ x. x ∷ map (label_of_part cut) (filter ends_here (map (single_part s) marked))) here ∙ ap (λ xs. label_of_span cut s.text a ∷ xs) rest
+    let rest = single_labels s k marked (All-tail O a marked own) in
+    let here : label_of_part (single_part s a) ≡ label_of_span s.text a =
+    ap (λ n. record { text = shown_label a; kind = a.kind; from = n; to = (entry_of s a).end.display }) (start_of_entry s a)
+    ∙ ap (λ n. record { text = shown_label a; kind = a.kind; from = start_column s.text a; to = n }) (end_of_entry s a single) in
+    ap (λ x. x ∷ map (label_of_part) (filter ends_here (map (single_part s) marked))) here ∙ ap (λ xs. label_of_span s.text a ∷ xs) rest
+
+-- ---- labels that are broken
+
+label_broken : (layout : Layout) → layout.label_lines ≡ true → (l : ShownLabel) → l.cell + 20 ≤ layout.label_end → IsBroken layout l
+label_broken layout cut l wide =
+    let room : ℕ = layout.label_end - l.cell in
+    let shown : List ℕ = wrapped room false l.label.text in
+    let lines : pieces_shown layout l ≡ slice_split (λ c. c == 10) shown = label_pieces-broken layout cut l.cell l.label.text wide in
+    let kept = wrapped-laws room false l.label.text in
+    record {
+      text = shown;
+      lines = lines;
+      kept = kept;
+      fits = subst (AreRowsWithin false room) (sym lines) (rows-within room false shown (kept.rows (omega (arith, wide))));
+    }
 
 -- ---- the labels of a line
 
 -- the labels of the spans that end on line k stand below it, whatever other entries the line has
-pub labels_shown : (sn : Snippet Annotation) (k dropped : ℕ) (layout : Layout) (rows_layout : Layout) (es : List LineAnnotation) (rows : List (List Cell))
-    → rows_layout.code ≡ layout.code → rows_layout.label_lines ≡ layout.label_lines → es ≡ parts_on (numbered_source sn) sn.markers.items k
-    → All (λ e. is_bar e.annotation_type ≡ false → dropped ≤ e.start.display) es → LabelsStand rows_layout (map (shifted dropped) es) rows
-    → ShowsLabels rows_layout.decor layout sn k dropped rows
-labels_shown sn k dropped layout rows_layout es rows code lines same clear stand =
-    let cut : Bool = rows_layout.label_lines in
+pub labels_shown : (sn : Snippet Annotation) (k dropped : ℕ) (layout : Layout) (es : List LineAnnotation) (rows : List (List Cell))
+    → es ≡ parts_on (numbered_source sn) sn.markers.items k
+    → All (λ e. is_bar e.annotation_type ≡ false → dropped ≤ e.start.display) es → LabelsStand layout (map (shifted dropped) es) rows
+    → ShowsLabels layout.decor layout sn k dropped rows
+labels_shown sn k dropped layout es rows same clear stand =
     let s : Source = numbered_source sn in
     let marks : List Annotation = sn.markers.items in
     let on_line : LineAnnotation → Bool = λ (p : LineAnnotation). p.start.line == s.first + k in
@@ -350,26 +365,25 @@ labels_shown sn k dropped layout rows_layout es rows code lines same clear stand
     let longs : List LineAnnotation = filter on_line (long_parts s (long_places s marks) [] (long_spans s marks)) in
     let parts : es ≡ singles ++ longs = same ∙ filter-append on_line (map (single_part s) (filter (is_short s.text) marks))
     (long_parts s (long_places s marks) [] (long_spans s marks)) ∙ ap (λ ps. ps ++ longs) (singles-on s marks k) in
-    let none_kept : (r c : ℕ) → count_by (is_in_label r c) (shown_labels cut es stand.labels) ≡ 0 → count_by (is_cell_of r c) stand.labels ≡ 0 = λ r c none.
+    let none_kept : (r c : ℕ) → count_by (is_in_label layout r c) (shown_labels es stand.labels) ≡ 0 → count_by (is_cell_of r c) stand.labels ≡ 0 = λ r c none.
     omega (
       arith,
       none,
-      cells_all dropped layout rows_layout code rows r c es stand.labels stand.are (labelled_at_end s marks k dropped es same)
+      cells_all dropped layout rows r c es stand.labels stand.are (labelled_at_end s marks k dropped es same)
           stand.pieces,
     ) in
     let long : length stand.labels ≡ length es = grind (arith, common_steps, length-map, shifted, stand.labels, stand.are) in
     record {
-      labels = shown_labels cut es stand.labels;
-      spans = labels_are cut es stand.labels long ∙ ap (λ ps. map (label_of_part cut) (filter ends_here ps)) parts
-          ∙ ap (map (label_of_part cut)) (filter-append ends_here singles longs)
-          ∙ map-append (label_of_part cut) (filter ends_here singles) (filter ends_here longs)
-          ∙ ap (λ xs. xs ++ map (label_of_part cut) (filter ends_here longs)) (single_labels cut s k marked (filter_passes (is_marked_on s.text k) marks))
-          ∙ ap (λ xs. map (label_of_span cut s.text) marked ++ xs) (long_ends cut s k (long_places s marks) [] (long_spans s marks))
-          ∙ ap (λ b. labels_ending_on b sn k) lines;
-      stand = all_shown dropped layout rows_layout code rows es stand.labels stand.are stand.pieces clear stand.stand;
-      led = all_led dropped layout rows_layout code rows stand.labels (shown_labels cut es stand.labels) none_kept es stand.labels stand.are stand.pieces
+      labels = shown_labels es stand.labels;
+      spans = labels_are es stand.labels long ∙ ap (λ ps. map (label_of_part) (filter ends_here ps)) parts
+          ∙ ap (map (label_of_part)) (filter-append ends_here singles longs)
+          ∙ map-append (label_of_part) (filter ends_here singles) (filter ends_here longs)
+          ∙ ap (λ xs. xs ++ map (label_of_part) (filter ends_here longs)) (single_labels s k marked (filter_passes (is_marked_on s.text k) marks))
+          ∙ ap (λ xs. map (label_of_span s.text) marked ++ xs) (long_ends s k (long_places s marks) [] (long_spans s marks));
+      stand = all_shown dropped layout rows es stand.labels stand.are stand.pieces clear stand.stand;
+      led = all_led dropped layout rows stand.labels (shown_labels es stand.labels) none_kept es stand.labels stand.are stand.pieces
           stand.led;
-      apart = λ r c. omega (arith, cells_few dropped layout rows_layout code rows r c es stand.labels stand.are stand.pieces, stand.apart r c);
-      others = λ r c right none.
-          stand.others r c (omega (arith, right, code)) (none_kept r c none);
+      apart = λ r c. omega (arith, cells_few dropped layout rows r c es stand.labels stand.are stand.pieces, stand.apart r c);
+      others = λ r c right none. stand.others r c right (none_kept r c none);
+      broken = λ cut k d within wide. label_broken layout cut (get_or (shown_labels es stand.labels) k d) wide;
     }

@@ -15,7 +15,7 @@ use Rattle.annotate_snippets.proofs.Common.{painting_order, stroke_role, row_cou
 use Rattle.annotate_snippets.proofs.Common.{corner_by, label_of, column_of, first_glyph, mark_end, connectors_of, corners_of, labels_of, is_whole_line}
 use Rattle.annotate_snippets.proofs.Common.{drawn_mark, drawn_strokes, marks_of, stems_of, label_write, stem_write, Write, glyph_at, painted, stretch_of}
 use Rattle.annotate_snippets.proofs.Common.{Layout, All-connector_of, All-stretch_of, All-label_of, entries_all, All-stem_of, All-stems_of, All-flat_map}
-use Rattle.annotate_snippets.proofs.Common.{painted-cell, label_pieces, PlacedEntry, Renderer, HasNoFeed, numbered_source, Elision, NamedRow, OfferedLine}
+use Rattle.annotate_snippets.proofs.Common.{painted-cell, PlacedEntry, Renderer, HasNoFeed, numbered_source, Elision, NamedRow, OfferedLine}
 use Rattle.annotate_snippets.proofs.Common.{Other, RemovedLine, RowName}
 use Rattle.annotate_snippets.proofs.Common.{SourceRow, cells_of, rows_below, AreRowsOf, IsRowOf, normalized_chars}
 use Rattle.std.proofs.Common.{chars}
@@ -25,6 +25,11 @@ use Rattle.annotate_snippets.proofs.DrawnRows.{AreRowsDrawn, IsLineDrawn, IsRowD
 use Rattle.annotate_snippets.proofs.OneLineTexts.{HoldsNoFeed, IsNoFeed, IsOneLineLabel, IsOneLineText}
 use Rattle.annotate_snippets.proofs.FeedLaws.{bare-plain, elided}
 use Rattle.annotate_snippets.proofs.HeadingFeedLaws.{parts_plain}
+use Rattle.snippet_grid.specs.Layout.{code_cell}
+use Rattle.snippet_labels.specs.Pieces.{broken_in, text_pieces}
+use Rattle.std.specs.Prelude.{if◌then◌else◌}
+use Rattle.snippet_labels.specs.Positions.{label_place, pieces_of}
+use Rattle.snippet_strokes.proofs.PieceWrites.{own_pieces, shown_text}
 use Rattle.annotate_snippets.proofs.LabelLemmas.{tail_same}
 use Rattle.annotate_snippets.proofs.PathFeedLaws.{alone, cells_plain, norm-plain}
 use Rattle.annotate_snippets.proofs.SourceFeedLaws.{placeholder_plain, source_one_line}
@@ -70,9 +75,9 @@ either_plain true x y one other = one
 either_plain false x y one other = other
 
 -- nor does a piece of a label without line feeds hold one
-pieces_plain : (cut : Bool) (text : List ℕ) → All IsNoFeed text → All (All IsNoFeed) (label_pieces cut text)
+pieces_plain : (cut : Bool) (text : List ℕ) → (cut ≡ false → All IsNoFeed text) → All (All IsNoFeed) (text_pieces cut text)
 pieces_plain true text plain = parts_plain text
-pieces_plain false text plain = All-cons (All IsNoFeed) text [] plain (All-nil (All IsNoFeed))
+pieces_plain false text plain = All-cons (All IsNoFeed) text [] (plain refl) (All-nil (All IsNoFeed))
 
 -- ---- what is written
 
@@ -134,7 +139,7 @@ module _ (layout : Layout) where
           (code_plain layout.decor primary).stems) (code_plain layout.decor primary).stems.stem)
 
   labels_plain : (row : ℕ) (es : List PlacedEntry)
-      → ((k : ℕ) (d : PlacedEntry) (n : ℕ) → k < length es → n < length (get_or es k d).label → IsPlainWrite (label_write layout row (get_or es k d) n))
+      → ((k : ℕ) (d : PlacedEntry) (n : ℕ) → k < length es → n < length (pieces_of (get_or es k d)) → IsPlainWrite (label_write layout row (get_or es k d) n))
       → All IsPlainWrite (labels_of layout row es)
   labels_plain row es plain =
       All-flat_map IsPlainWrite (label_of layout row) es (λ k d within.
@@ -159,7 +164,7 @@ module _ (layout : Layout) where
 
   -- no stroke of a line is a line feed, where no label holds one
   strokes_plain : (row count : ℕ) (placed order : List PlacedEntry)
-      → ((k : ℕ) (d : PlacedEntry) (n : ℕ) → k < length placed → n < length (get_or placed k d).label
+      → ((k : ℕ) (d : PlacedEntry) (n : ℕ) → k < length placed → n < length (pieces_of (get_or placed k d))
       → IsPlainWrite (label_write layout (row + 1) (get_or placed k d) n))
       → All IsPlainWrite (drawn_strokes layout row count placed order)
   strokes_plain row count placed order plain =
@@ -240,6 +245,12 @@ module _ (layout : Layout) (room : ℕ) (closes : Bool) where
   begun_plain : (count : ℕ) → All HasNoFeed (replicate count (separator_row layout.decor layout.gutter) ++ bare_row layout.decor layout.gutter closes ∷ [])
   begun_plain count = grind (arith, common_steps, All-replicate, bare-plain, All-append, All-cons, All-nil)
 
+  -- a label that isn't cut stays as it is
+  whole_plain : (e : PlacedEntry) → layout.label_lines ≡ false → All IsNoFeed (label_text e.entry) → All IsNoFeed (shown_text layout e)
+  whole_plain e whole plain =
+      subst (All IsNoFeed) (sym (ap (λ b. if b then broken_in (layout.label_end - code_cell layout (label_place e).1) (label_text e.entry)
+      else label_text e.entry) whole)) plain
+
   -- nor after that
   drawn_plain : (es : List LineAnnotation) (source : List Cell) (rows : List (List Cell)) (strokes : StrokesPainted layout room closes es source rows)
       → All (λ e. All IsNoFeed (label_text e)) es → All HasNoFeed (strokes.marks ∷ strokes.lower)
@@ -247,10 +258,11 @@ module _ (layout : Layout) (room : ℕ) (closes : Bool) where
       let placed = strokes.placed in
       let ws : List Write = drawn_strokes layout 0 (row_count placed + 1) placed (painting_order placed) in
       let begun : List (List Cell) = begun_rows layout closes (row_count placed) source in
-      let own : (k : ℕ) (d : PlacedEntry) (n : ℕ) → k < length placed → n < length (get_or placed k d).label
+      let own : (k : ℕ) (d : PlacedEntry) (n : ℕ) → k < length placed → n < length (pieces_of (get_or placed k d))
       → IsPlainWrite (label_write layout 1 (get_or placed k d) n) = λ k d n within inside.
-      subst (All (All IsNoFeed)) (sym (strokes.are.labels k d within)) (pieces_plain layout.label_lines (label_text (get_or placed k d).entry)
-      (entries_all (λ e. All IsNoFeed (label_text e)) es placed strokes.are.same plain k d within)) n [] inside in
+      subst (All (All IsNoFeed)) (sym (own_pieces layout es placed strokes.are k d within)) (pieces_plain layout.label_lines
+      (shown_text layout (get_or placed k d)) (λ whole. whole_plain (get_or placed k d) whole
+      (entries_all (λ e. All IsNoFeed (label_text e)) es placed strokes.are.same plain k d within))) n [] inside in
       let written : All IsPlainWrite ws = strokes_plain layout 0 (row_count placed + 1) placed (painting_order placed) own in
       from_cells (strokes.marks ∷ strokes.lower) (λ r c.
       subst (λ (all : List (List Cell)). HoldsNoFeed (cell_at all (suc r) c)) (sym strokes.painted_are)

@@ -22,6 +22,14 @@ use Rattle.annotate_snippets.proofs.MarkLemmas.{span_of_entry, IsEntryOf, mark_o
 use Rattle.annotate_snippets.proofs.MarkLemmas.{some_entry, shifted_mark, shifted_unmarked, shifted_after}
 use Rattle.annotate_snippets.proofs.PartsFacts.{stands_left, untouched, wide_on_line}
 use Rattle.annotate_snippets.proofs.WindowLemmas.{dropped-none}
+use Rattle.snippet_labels.specs.Pieces.{beside_column}
+use Rattle.std.specs.Prelude.{if◌then◌else◌}
+use Rattle.snippet_grid.specs.Layout.{code_cell}
+use Rattle.snippet_strokes.proofs.SeenRows.{first_piece}
+
+-- the label after a mark that doesn't end at column 0 begins one column after it
+beside_past : (n : ℕ) → 0 < n → (if n == 0 then 2 else n + 1) ≡ n + 1
+beside_past n some = grind (arith, nat_tests)
 
 -- a row that is as a bare one left of the bars is a row below a line
 pub row_below : (decor : DecorStyle) (layout : Layout) (closes plain : Bool) (es : List LineAnnotation) (rows : List (List Cell)) (i : ℕ)
@@ -240,7 +248,7 @@ module _ (r : Renderer) (layout : Layout) (s : Snippet Annotation)
         ap (λ n. is_uncut n layout (map (shifted shows.dropped) es)) room
         ∙ ap (λ ps. is_uncut (room_of r layout) layout (map (shifted shows.dropped) ps)) parts in
         let stand = rows_show.strokes.labels (same_entries ∙ uncut) (labelled_at_end (numbered_source s) s.markers.items k shows.dropped es parts) in
-        labels_shown s k shows.dropped layout layout es rows_show.below refl refl parts shows.clear stand
+        labels_shown s k shows.dropped layout es rows_show.below parts shows.clear stand
 
     -- where the line qualifies, its strokes are those of whole spans
     module _ (qualifies : qualifies_for_marks (room_of r layout) placeholder_width (cow_str_bytes s.source.text) s.markers.items k ≡ true) where
@@ -298,7 +306,7 @@ module _ (r : Renderer) (layout : Layout) (s : Snippet Annotation)
       marks_of_line =
           let row : List Cell = row_at rows_show.below 0 in
           let d : ℕ = shows.dropped in
-          let marks_are : ShowsMarks layout.label_lines layout.decor layout.code moved row = rows_show.strokes.marks plain in
+          let marks_are : ShowsMarks layout layout.decor layout.code moved row = rows_show.strokes.marks plain in
           let strokes_row = rows_show.strokes.are 0 marks_there in
           record {
             marks = λ p kind mark.
@@ -322,17 +330,17 @@ module _ (r : Renderer) (layout : Layout) (s : Snippet Annotation)
                 let is : IsEntryOf (numbered_source s) k a e = own.2 in
                 let right : d ≤ e.start.display = All-head (λ (x : LineAnnotation). d ≤ x.start.display) e []
                 (subst (All (λ (x : LineAnnotation). d ≤ x.start.display)) own.1 clear) in
+                let end : ℕ = layout.code + end_column (cow_str_bytes s.source.text) a - d in
+                let at : layout.code + (e.end.display - d) ≡ end = omega (arith, is.end, is.start, right) in
+                let begins : code_cell layout (beside_column (shifted d e)) ≡ end + 1 = ap (code_cell layout)
+                (beside_past (e.end.display - d) (omega (arith, is.end, is.start, right))) ∙ omega (arith, at) in
+                let text : first_piece layout (shifted d e) ≡ piece_of (end + 1) (shown_label a) = ap (λ c. piece_of c (label_text e)) begins
+                ∙ ap (piece_of (end + 1)) is.label in
                 let after = marks_are.lone (shifted d e) (ap (map (shifted d)) own.1) (omega (arith, is.start, is.end, right))
-                (omega (arith, label, ap (λ (text : List ℕ). length (piece_of text)) is.label)) in
-                subst (λ c. row_text (drop c row) ≡ 32 ∷ piece_of (shown_label a))
-                (let at : layout.code + (e.end.display - d) ≡ layout.code + end_column (cow_str_bytes s.source.text) a - d = omega (
-                  arith,
-                  is.end,
-                  is.start,
-                  right,
-                ) in at) (ap row_text after
-                ∙ ap (λ cs. 32 ∷ cs) (row_text-text_cells (label_role e.kind) (piece_of (label_text e)) ∙ ap piece_of is.label));
+                (omega (arith, label, ap length text)) in
+                subst (λ c. row_text (drop c row) ≡ 32 ∷ piece_of (end + 1) (shown_label a)) at
+                (ap row_text after ∙ ap (λ cs. 32 ∷ cs) (row_text-text_cells (label_role e.kind) (first_piece layout (shifted d e)) ∙ text));
           }
         where
-          piece_of : List ℕ → List ℕ
-          piece_of text = get_or (label_pieces layout.label_lines text) 0 []
+          piece_of : ℕ → List ℕ → List ℕ
+          piece_of cell text = get_or (label_pieces layout cell text) 0 []

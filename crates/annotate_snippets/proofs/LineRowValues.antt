@@ -6,25 +6,26 @@ use Rattle.annotate_snippets.proofs.Common.{positions, PlacedEntry, Bar, ends_of
 use Rattle.annotate_snippets.proofs.Common.{stroke_rows, line_positions_low, positions_sole, placed_at, are_starts, max, placed_of-at, stroke_rows-count}
 
 -- one entry whose label is not cut asks for one
-lone_count : (e : LineAnnotation) → row_count (placed_of false (e ∷ [])) ≡ 1
-lone_count e =
-    let bare : PlacedEntry = placed_at false (e, (0, 0)) in
+lone_count : (layout : Layout) (e : LineAnnotation) → row_count (placed_of (record layout { label_lines = false }) (e ∷ [])) ≡ 1
+lone_count layout e =
+    let uncut : Layout = record layout { label_lines = false } in
+    let bare : PlacedEntry = placed_at uncut (e, (0, 0)) in
     let Low : ℕ → Type 0 = λ q. q ≤ 0 in
     let first : All Low (positions 0 (bare ∷ [])) = subst (All Low) (sym (positions_sole bare)) (All-cons Low 0 [] (omega arith) (All-nil Low)) in
-    ap row_count (placed_of-at false (e ∷ []))
+    ap row_count (placed_of-at uncut (e ∷ []))
     ∙ counted (line_positions (bare ∷ [])) (look_counts 0 (bare ∷ [])) (line_positions_low 0 (bare ∷ []) first)
   where
     beside : (starts : Bool) → ◌≡◌ {A = ℕ} (cond starts 0 0) 0
     beside true = refl
     beside false = refl
 
-    counted : (ps ls : List ℕ) → All (λ q. q ≤ 0) ps → row_count (map (placed_at false) (zip (e ∷ []) (zip ps ls))) ≡ 1
+    counted : (ps ls : List ℕ) → All (λ q. q ≤ 0) ps → row_count (map (placed_at (record layout { label_lines = false })) (zip (e ∷ []) (zip ps ls))) ≡ 1
     counted [] ls low = refl
     counted (p ∷ ps) [] low = refl
     counted (p ∷ ps) (l ∷ ls) low =
         let none : p ≡ 0 = omega (arith, low 0 0 (omega arith)) in
-        ap (λ q. row_count (placed_at false (e, (q, l)) ∷ [])) none
-        ∙ ap (λ n. max 0 n + 1) (beside (are_starts (placed_at false (e, (0, l)) ∷ [])))
+        ap (λ q. row_count (placed_at (record layout { label_lines = false }) (e, (q, l)) ∷ [])) none
+        ∙ ap (λ n. max 0 n + 1) (beside (are_starts (placed_at (record layout { label_lines = false }) (e, (0, l)) ∷ [])))
 
 -- rows that are changed one by one are as many
 mapped_count : (f : List Cell → List Cell) (rows : List (List Cell)) (n : ℕ) → length rows ≡ n → length (map f rows) ≡ n
@@ -67,8 +68,8 @@ module _ (layout : Layout) (room : ℕ) (closes : Bool) (text : List ℕ) (dropp
   lone_line_rows uncut open_bars (e ∷ f ∷ es) one = absurd (omega (arith, one))
   lone_line_rows uncut open_bars (e ∷ []) one =
       let strokes : List (List Cell) = stroke_rows layout room closes (shifted dropped e ∷ []) source in
-      let count : row_count (placed_of layout.label_lines (shifted dropped e ∷ [])) ≡ 1 =
-      ap (λ cut. row_count (placed_of cut (shifted dropped e ∷ []))) uncut ∙ lone_count (shifted dropped e) in
+      let count : row_count (placed_of layout (shifted dropped e ∷ [])) ≡ 1 =
+      ap (λ cut. row_count (placed_of (record layout { label_lines = cut }) (shifted dropped e ∷ []))) uncut ∙ lone_count layout (shifted dropped e) in
       let two : length strokes ≡ 2 = omega (arith, stroke_rows-count layout room closes (shifted dropped e ∷ []) source, count) in
       let few : length (own_rows layout room closes text dropped (e ∷ []) source) ≤ 2 = few_either (is_whole_line text (e ∷ [])) _ strokes two in
       let same : length (line_rows layout room closes text dropped open_bars (e ∷ []) source)

@@ -22,7 +22,7 @@ use Rattle.annotate_snippets.proofs.ListLemmas.{Contains-head, Contains-tail, Co
 
 -- where their rows have their parts: one digit in the gutter, and the code from cell 4 on, as in `1 | code`
 abbrev pub layout : Layout
-layout = record { gutter = 1; code = 4; decor = Ascii; label_lines = false }
+layout = record { gutter = 1; code = 4; decor = Ascii; label_lines = false; label_end = 0 }
 
 -- a source row of line 1, with this code
 abbrev source_row : List ℕ → List Cell

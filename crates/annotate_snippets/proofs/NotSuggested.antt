@@ -19,9 +19,11 @@ unfolding suggestion_cells
 rows_alone layout around found s lines layout_is alone shown = grind (arith, around.next, around.start, alone.start, around.shared, layout.code, alone.own)
 
 -- with a gutter of one cell its rows stand as in ASCII
-narrow_layout : (layout : Layout) (s : Snippet Patch) → layout.gutter ≡ 1 → layout.decor ≡ Ascii → layout.label_lines ≡ false → s.line_numbering ≡ true
+narrow_layout : (layout : Layout) (s : Snippet Patch) → layout.gutter ≡ 1 → layout.decor ≡ Ascii → layout.label_lines ≡ false → layout.label_end ≡ 0
+    → s.line_numbering ≡ true
     → suggestion_layout plain_settings layout s ≡ ascii layout.code
-narrow_layout layout s narrow plain uncut numbered = grind (arith, layout.gutter, layout.code, layout.label_lines, s.line_numbering)
+narrow_layout layout s narrow plain uncut unbroken numbered =
+    grind (arith, layout.gutter, layout.code, layout.label_lines, layout.label_end, s.line_numbering)
 
 -- ---- a mark beside what it belongs to
 
@@ -30,12 +32,12 @@ narrow_layout layout s narrow plain uncut numbered = grind (arith, layout.gutter
 --     1 | foo(x)
 --       |      +
 marks_one_right : (v : Vec Patch Global) (layout : Layout) (around : ElementContext) (found : List Cell) (rows : List NamedRow) → layout.gutter ≡ 1
-    → layout.decor ≡ Ascii → layout.label_lines ≡ false → StandsAlone around
+    → layout.decor ≡ Ascii → layout.label_lines ≡ false → layout.label_end ≡ 0 → StandsAlone around
     → (shown : ShowsSuggestion plain_settings layout around found (text_put_in v) rows)
     → row_at (cells_of shown.after) 2 ≡ stroke ++ replicate 6 SPACE ++ text_cells Addition (codes "+") → ⊥
-marks_one_right v layout around found rows narrow plain uncut alone shown wrong =
+marks_one_right v layout around found rows narrow plain uncut unbroken alone shown wrong =
     let s : Snippet Patch = text_put_in v in
-    let all = rows_alone layout around found s (cells_of shown.after) (narrow_layout layout s narrow plain uncut refl) alone shown.cells
+    let all = rows_alone layout around found s (cells_of shown.after) (narrow_layout layout s narrow plain uncut unbroken refl) alone shown.cells
     ∙ put_in_cells layout.code v (not (is_end around.next)) in
     let At : List Cell → ℕ = λ row. (get_or row 8 SPACE).ch in
     let mark : ◌≡◌ {A = ℕ} 32 (added_mark_of Ascii) = sym (ap At wrong) ∙ ap (λ (rs : List (List Cell)). At (row_at rs 2)) all in
@@ -50,13 +52,13 @@ marks_one_right v layout around found rows narrow plain uncut alone shown wrong 
 --     2 | b
 --     3 + x
 kept_shown_as_changed : (v : Vec Patch Global) (layout : Layout) (around : ElementContext) (found : List Cell) (rows : List NamedRow) → layout.gutter ≡ 1
-    → layout.decor ≡ Ascii → layout.label_lines ≡ false
+    → layout.decor ≡ Ascii → layout.label_lines ≡ false → layout.label_end ≡ 0
     → StandsAlone around → (shown : ShowsSuggestion plain_settings layout around found (third_unfolded v) rows)
     → row_at (cells_of shown.after) 1 ≡ text_cells LineNumber (codes "1") ++ SPACE ∷ text_cells Addition (codes "~ ")
     ++ text_cells NoStyle (codes "a") → ⊥
-kept_shown_as_changed v layout around found rows narrow plain uncut alone shown wrong =
+kept_shown_as_changed v layout around found rows narrow plain uncut unbroken alone shown wrong =
     let s : Snippet Patch = third_unfolded v in
-    let all = rows_alone layout around found s (cells_of shown.after) (narrow_layout layout s narrow plain uncut refl) alone shown.cells
+    let all = rows_alone layout around found s (cells_of shown.after) (narrow_layout layout s narrow plain uncut unbroken refl) alone shown.cells
     ∙ unfolded_cells layout.code v (not (is_end around.next)) in
     let At : List Cell → ℕ = λ row. (get_or row 2 SPACE).ch in
     let sign : changed_mark_of Ascii ≡ separator_of Ascii = sym (ap At wrong) ∙ ap (λ (rs : List (List Cell)). At (row_at rs 1)) all in
@@ -67,12 +69,12 @@ kept_shown_as_changed v layout around found rows narrow plain uncut alone shown 
 --
 --     3 + x
 removal_for_addition : (v : Vec Patch Global) (layout : Layout) (around : ElementContext) (found : List Cell) (rows : List NamedRow) → layout.gutter ≡ 1
-    → layout.decor ≡ Ascii → layout.label_lines ≡ false → StandsAlone around
+    → layout.decor ≡ Ascii → layout.label_lines ≡ false → layout.label_end ≡ 0 → StandsAlone around
     → (shown : ShowsSuggestion plain_settings layout around found (third_unfolded v) rows)
     → (get_or (row_at (cells_of shown.after) 3) 4 SPACE).role ≡ Removal → ⊥
-removal_for_addition v layout around found rows narrow plain uncut alone shown wrong =
+removal_for_addition v layout around found rows narrow plain uncut unbroken alone shown wrong =
     let s : Snippet Patch = third_unfolded v in
-    let all = rows_alone layout around found s (cells_of shown.after) (narrow_layout layout s narrow plain uncut refl) alone shown.cells
+    let all = rows_alone layout around found s (cells_of shown.after) (narrow_layout layout s narrow plain uncut unbroken refl) alone shown.cells
     ∙ unfolded_cells layout.code v (not (is_end around.next)) in
     let Role : List (List Cell) → ElementStyle = λ rs. (get_or (row_at rs 3) 4 SPACE).role in
     let role : Removal ≡ Addition = sym wrong ∙ ap Role all in

@@ -1,5 +1,5 @@
 -- The gutter: how wide it is, and what stands in it beside a line.
-use Rattle.std.specs.Prelude.{ℕ, ◌+◌, ◌==◌, ◌&&◌, max, not, Bool, List, length, fold, if◌then◌else◌}
+use Rattle.std.specs.Prelude.{ℕ, ◌+◌, ◌==◌, ◌&&◌, ◌||◌, max, not, Bool, List, length, fold, if◌then◌else◌}
 use Rattle.std.specs.List.{flat_map}
 use Rattle.std.specs.Fmt.{decimal}
 pub use Rattle.snippet_parts.specs.Numbered.{numbered_source}
@@ -41,10 +41,17 @@ abbrev pub depth_of_element : Element → ℕ
 depth_of_element (Cause snippet) = deepest (numbered_source snippet) snippet.markers.items
 depth_of_element other = 0
 
--- the layout of a group: the gutter is the report's, and the glyphs, and whether labels are cut, are those of the settings. Its code begins
--- three cells after the gutter, and where bars stand between, as many more as the greatest number of those of an element, and one
+-- the layout of a group: the gutter is the report's, and the glyphs those of the settings. Its code begins three cells after the gutter, and
+-- where bars stand between, as many more as the greatest number of those of an element, and one. Labels are cut where the settings say so, and
+-- where texts are wrapped, which end with the terminal
 abbrev pub layout_of_group : Renderer → List Group → Group → Layout
 layout_of_group r groups g =
     let gutter = gutter_of_report r groups in
     let depth = fold (λ depth e. max (depth_of_element e) depth) 0 g.elements.items in
-    record { gutter = gutter; code = if depth == 0 then gutter + 3 else gutter + 3 + depth + 1; decor = r.decor_style; label_lines = r.label_lines }
+    record {
+      gutter = gutter;
+      code = if depth == 0 then gutter + 3 else gutter + 3 + depth + 1;
+      decor = r.decor_style;
+      label_lines = r.label_lines || r.wrap;
+      label_end = if r.wrap then r.term_width else 0;
+    }

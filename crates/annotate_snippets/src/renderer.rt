@@ -80,7 +80,7 @@ pub struct Renderer {
     pub context_before: usize,
     /// How many lines after each line that is shown for its spans are shown too.
     pub context_after: usize,
-    /// Whether lines of titles and messages that are wider than the terminal are broken at blanks.
+    /// Whether lines of titles, messages and labels that are wider than the terminal are broken at blanks.
     pub wrap: bool,
     /// Whether controls are masked that could change how a terminal shows the text around them.
     pub mask_controls: bool,

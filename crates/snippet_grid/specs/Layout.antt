@@ -3,12 +3,14 @@ use Rattle.std.specs.Prelude.{ℕ, ◌+◌, Bool}
 use Rattle.snippet_style.specs.declared.glyphs.DecorStyle.{DecorStyle}
 
 -- where the parts of a group's rows stand, in cells from 0: line numbers are right-aligned in the cells of the gutter, and the source's
--- column 0 stands at the cell `code`; the glyphs of its strokes; and whether a mark's label is cut at its line feeds
+-- column 0 stands at the cell `code`; the glyphs of its strokes; whether a mark's label is cut at its line feeds; and the cell before which
+-- the pieces of labels are to end, which are broken where they would not: 0 where none is
 pub record Layout : Type 0 where
   pub gutter : ℕ
   pub code : ℕ
   pub decor : DecorStyle
   pub label_lines : Bool
+  pub label_end : ℕ
 
 -- the cell of the separator, one right of the gutter
 abbrev pub separator_cell : Layout → ℕ

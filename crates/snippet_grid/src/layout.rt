@@ -28,6 +28,8 @@ pub struct Layout {
     pub decor: DecorStyle,
     /// Whether a mark's label is cut at its line feeds, so that each piece stands in a row of its own.
     pub label_lines: bool,
+    /// The cell before which the pieces of labels are to end, which are broken where they would not; 0 where none is.
+    pub label_end: usize,
 }
 
 impl Model for Layout {
@@ -41,7 +43,13 @@ impl Model for Layout {
 
     ghost invariant = { IsNarrow };
 
-    ghost inverse = { λ l. record { gutter = l.gutter; code = l.code; decor = l.decor; label_lines = l.label_lines } };
+    ghost inverse = { λ l. record {
+      gutter = l.gutter;
+      code = l.code;
+      decor = l.decor;
+      label_lines = l.label_lines;
+      label_end = l.label_end;
+    } };
 }
 
 impl Layout {

@@ -5,7 +5,7 @@ use Rattle.std.specs.Str.{chars}
 use Rattle.snippet_style.proofs.CellLemmas.{length-chars_le as length-chars}
 
 -- a text that fits is short once it is normalised
-pub norm_short : (bytes : List ℕ) → length bytes < 2 ^ 56 → length (norm (chars bytes)) < 2 ^ 60
+pub norm_short : (bytes : List ℕ) → length bytes < 2 ^ 56 → length (norm (chars bytes)) < 2 ^ 58
 norm_short bytes fits = omega (arith, length-norm (chars bytes), length-chars bytes)
 
 -- a text has no character where it has no byte

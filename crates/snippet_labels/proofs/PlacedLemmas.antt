@@ -5,7 +5,8 @@ use Rattle.snippet_labels.proofs.Common.{◌^◌, ◌==◌, cond, nat_lt, None, 
 use Rattle.snippet_labels.proofs.Common.{refl, sym, ap, ◌∙◌, subst, arith, All, zero, list_all, list_any, position, position_or_len, zip, lt-ltb}
 use Rattle.snippet_labels.proofs.Common.{map-map, append_assoc, append-nil, drop_more, drop_all, take_more, take_more_set, take_all, length-map}
 use Rattle.snippet_labels.proofs.Common.{map_push, get_or-map, list_all-map, IsPermutation, All-permutation, IsPermutation-map, ordered_by, are_starts, crosses}
-use Rattle.snippet_labels.proofs.Common.{position_at, position_after, positions, line_positions, ArePlaced, IsFromRight, HasItsLabel, asks, label_pieces}
+use Rattle.snippet_labels.proofs.Common.{position_at, position_after, positions, line_positions, ArePlaced, IsFromRight, HasItsLabel, asks, label_at}
+use Rattle.snippet_labels.proofs.Common.{label_of_entry, Layout}
 use Rattle.snippet_labels.proofs.Common.{unplaced, is_placed_before, look_counts, looked_after, placed_of, list_any-map, All-map, All-head, All-tail, fold}
 use Rattle.snippet_labels.proofs.Common.{max, shifted, rules}
 
@@ -35,13 +36,13 @@ abbrev pub flipped : List ℕ → List ℕ
 flipped ps = map (λ p. greatest ps - p) ps
 
 -- an entry with its label, at this position, for which so many were looked at
-abbrev pub placed_at : Bool → LineAnnotation × (ℕ × ℕ) → PlacedEntry
-placed_at cut found =
-    record { entry = found.0; label = label_pieces cut (label_text found.0); position = found.1.0; looked = found.1.1 }
+abbrev pub placed_at : Layout → LineAnnotation × (ℕ × ℕ) → PlacedEntry
+placed_at layout found =
+    record { entry = found.0; label = label_of_entry layout found.0; position = found.1.0; looked = found.1.1 }
 
 -- entries with their labels, none of which is placed yet
-abbrev pub labelled : Bool → List LineAnnotation → List PlacedEntry
-labelled cut es = map (λ e. placed_at cut (e, (0, 0))) es
+abbrev pub labelled : Layout → List LineAnnotation → List PlacedEntry
+labelled layout es = map (λ e. placed_at layout (e, (0, 0))) es
 
 -- the position of an entry whose label could stand after its mark: where a mark is in the way, and where none is
 pub position_at-crossed : (p : ℕ) (e : PlacedEntry) (others : List PlacedEntry) → p ≤ 0 → has_label e ≡ true → list_any (crosses e) others ≡ true
@@ -105,7 +106,7 @@ no_position p xs none = ap (λ b. cond b (Some (position_or_len p xs)) None) (sy
 -- entries changed in what the rule of positions doesn't look at have the same positions
 module _ (f : PlacedEntry → PlacedEntry)
     (has : (e : PlacedEntry) → has_label (f e) ≡ has_label e)
-    (high : (e : PlacedEntry) → length (f e).label ≡ length e.label)
+    (high : (p : ℕ) (e : PlacedEntry) → length (label_at p (f e).label) ≡ length (label_at p e.label))
     (crossing : (e : PlacedEntry) → (λ (g : PlacedEntry). crosses (f e) (f g)) ≡ crosses e)
     (crowding : (p : ℕ) (e : PlacedEntry) → (λ (g : PlacedEntry). crowds p (f e) (f g)) ≡ crowds p e)
     (starting : (λ (e : PlacedEntry). is_start (f e)) ≡ is_start) where
@@ -116,8 +117,8 @@ module _ (f : PlacedEntry → PlacedEntry)
 
   position_after-changed : (p : ℕ) (e : PlacedEntry) (others : List PlacedEntry) → position_after p (f e) (map f others) ≡ position_after p e others
   position_after-changed p e others =
-      ap (λ n. cond (list_any (crowds p (f e)) (map f others)) (p + n) p) (high e)
-      ∙ ap (λ b. cond b (p + length e.label) p) (list_any-map (crowds p (f e)) f others ∙ ap (λ q. list_any q others) (crowding p e))
+      ap (λ n. cond (list_any (crowds p (f e)) (map f others)) (p + n) p) (high p e)
+      ∙ ap (λ b. cond b (p + length (label_at p e.label)) p) (list_any-map (crowds p (f e)) f others ∙ ap (λ q. list_any q others) (crowding p e))
 
   positions-changed : (p : ℕ) (es : List PlacedEntry) → positions p (map f es) ≡ positions p es
   positions-changed p [] = refl
@@ -168,10 +169,10 @@ entries_kept es fs kept =
 
 -- so positions don't depend on positions
 line_positions-unplaced : (es : List PlacedEntry) → line_positions (map unplaced es) ≡ line_positions es
-line_positions-unplaced = line_positions-changed unplaced (λ e. refl) (λ e. refl) (λ e. refl) (λ p e. refl) refl
+line_positions-unplaced = line_positions-changed unplaced (λ e. refl) (λ p e. refl) (λ e. refl) (λ p e. refl) refl
 
 look_counts-unplaced : (es : List PlacedEntry) → look_counts 0 (map unplaced es) ≡ look_counts 0 es
-look_counts-unplaced = look_counts-changed unplaced (λ e. refl) (λ e. refl) (λ e. refl) (λ p e. refl) refl 0
+look_counts-unplaced = look_counts-changed unplaced (λ e. refl) (λ p e. refl) (λ e. refl) (λ p e. refl) refl 0
 
 pub look_counts_kept : (es fs : List PlacedEntry) → map unplaced es ≡ map unplaced fs → look_counts 0 es ≡ look_counts 0 fs
 look_counts_kept es fs kept = sym (look_counts-unplaced es) ∙ ap (look_counts 0) kept ∙ look_counts-unplaced fs
@@ -184,20 +185,20 @@ pub written_back : (xs ys : List PlacedEntry) (len : ℕ) → len ≡ length ys 
 written_back xs ys len is kept = grind (arith, length-map, drop_all, append-nil, take_all)
 
 -- entries that were put in an order and got the positions of it are placed
-pub ArePlaced-from : (cut : Bool) (es : List LineAnnotation) (labelled sorted placed : List PlacedEntry)
-    → map (λ (e : PlacedEntry). e.entry) labelled ≡ es → All (HasItsLabel cut) labelled → IsPermutation labelled sorted
+pub ArePlaced-from : (layout : Layout) (es : List LineAnnotation) (labelled sorted placed : List PlacedEntry)
+    → map (λ (e : PlacedEntry). e.entry) labelled ≡ es → All (HasItsLabel layout) labelled → IsPermutation labelled sorted
     → map (λ (e : PlacedEntry). e.entry) sorted ≡ ordered_by is_placed_before (map (λ (e : PlacedEntry). e.entry) labelled)
     → IsFromRight (map (λ (e : PlacedEntry). e.entry) sorted) → map (λ (e : PlacedEntry). e.position) placed ≡ line_positions sorted
-    → map (λ (e : PlacedEntry). e.looked) placed ≡ look_counts 0 sorted → map unplaced placed ≡ map unplaced sorted → ArePlaced cut es placed
-ArePlaced-from cut es labelled sorted placed entries labels same order ordered are counts kept =
+    → map (λ (e : PlacedEntry). e.looked) placed ≡ look_counts 0 sorted → map unplaced placed ≡ map unplaced sorted → ArePlaced layout es placed
+ArePlaced-from layout es labelled sorted placed entries labels same order ordered are counts kept =
     let f : PlacedEntry → LineAnnotation = λ e. e.entry in
     record {
       order = entries_kept placed sorted kept ∙ order ∙ ap (ordered_by is_placed_before) entries;
       same = subst (IsPermutation es) (sym (entries_kept placed sorted kept))
           (subst (λ xs. IsPermutation xs (map f sorted)) entries (IsPermutation-map f labelled sorted same));
       from_right = subst IsFromRight (sym (entries_kept placed sorted kept)) ordered;
-      labels = each_kept (HasItsLabel cut) placed sorted (λ e has. has) (λ e has. has) kept
-          (All-permutation (HasItsLabel cut) labelled sorted same labels);
+      labels = each_kept (HasItsLabel layout) placed sorted (λ e has. has) (λ e has. has) kept
+          (All-permutation (HasItsLabel layout) labelled sorted same labels);
       positions_are = are ∙ sym (line_positions_kept placed sorted kept);
       looked_are = counts ∙ sym (look_counts_kept placed sorted kept);
     }
@@ -241,7 +242,8 @@ pub position_after-front : (p : ℕ) (e : PlacedEntry) (others : List PlacedEntr
     → ((k : ℕ) (d : PlacedEntry) → n ≤ k → k < length others → asks (get_or others k d) ≡ false)
     → position_after p e (take n others) ≡ position_after p e others
 position_after-front p e others n none =
-    ap (λ b. cond b (p + length e.label) p) (any_front (crowds p e) n others (λ k d past within. uncrowding p e (get_or others k d) (none k d past within)))
+    ap (λ b. cond b (p + length (label_at p e.label)) p)
+    (any_front (crowds p e) n others (λ k d past within. uncrowding p e (get_or others k d) (none k d past within)))
 
 -- shifted entries end no farther right
 pub shifted_narrow : (dropped : ℕ) (es : List LineAnnotation) → All (λ e. e.end.display < 2 ^ 60) es
@@ -252,15 +254,15 @@ shifted_narrow dropped es narrow =
 -- ---- placed entries as a value
 
 -- they are made one by one, each from its entry and its place
-pub placed_of-at : (cut : Bool) (es : List LineAnnotation) → let ordered = ordered_by is_placed_before es in
-    placed_of cut es ≡ map (placed_at cut) (zip ordered (zip (line_positions (labelled cut ordered)) (look_counts 0 (labelled cut ordered))))
-placed_of-at cut es =
+pub placed_of-at : (layout : Layout) (es : List LineAnnotation) → let ordered = ordered_by is_placed_before es in
+    placed_of layout es ≡ map (placed_at layout) (zip ordered (zip (line_positions (labelled layout ordered)) (look_counts 0 (labelled layout ordered))))
+placed_of-at layout es =
     let ordered = ordered_by is_placed_before es in
-    each ordered (zip (line_positions (labelled cut ordered)) (look_counts 0 (labelled cut ordered)))
+    each ordered (zip (line_positions (labelled layout ordered)) (look_counts 0 (labelled layout ordered)))
   where
     each : (xs : List LineAnnotation) (at : List (ℕ × ℕ))
-        → map (λ (found : PlacedEntry × (ℕ × ℕ)). record found.0 { position = found.1.0; looked = found.1.1 }) (zip (labelled cut xs) at)
-        ≡ map (placed_at cut) (zip xs at)
+        → map (λ (found : PlacedEntry × (ℕ × ℕ)). record found.0 { position = found.1.0; looked = found.1.1 }) (zip (labelled layout xs) at)
+        ≡ map (placed_at layout) (zip xs at)
     each [] at = refl
     each (x ∷ xs) [] = refl
-    each (x ∷ xs) (p ∷ at) = ap (λ ys. placed_at cut (x, p) ∷ ys) (each xs at)
+    each (x ∷ xs) (p ∷ at) = ap (λ ys. placed_at layout (x, p) ∷ ys) (each xs at)

@@ -7,7 +7,7 @@ use Rattle.snippet_labels.proofs.Common.{IsFromRight, ◌-◌, cond, ◌++◌, d
 use Rattle.snippet_labels.proofs.Common.{cond-true, append_assoc, append-nil, drop_more, length-reverse, map_push, reverse-append, reverse-reverse, All-append}
 use Rattle.snippet_labels.proofs.Common.{All-cons, All-head, All-nil, All-tail, list_any_none, IsPermutation-reverse, put_in, range-pushed, are_starts, crosses}
 use Rattle.snippet_labels.proofs.Common.{has_label, line_positions, ArePlaced, FitsLeftOf, HasItsLabel, StandInRow, look_counts, looked_after}
-use Rattle.snippet_labels.proofs.Common.{position_after, position_at, positions, rules, takes_space}
+use Rattle.snippet_labels.proofs.Common.{position_after, position_at, positions, rules, takes_space, label_at, Layout}
 use Rattle.snippet_labels.proofs.PlacedLemmas.{no_position, crowds}
 
 entry_of : PlacedEntry → LineAnnotation
@@ -40,7 +40,7 @@ here_0 e left stand =
     ap (λ b. cond ((0 == 0) && (has_label e && b)) 1 0) (row_uncrossed e left stand) ∙ ap (λ b. cond b 1 0) (and-false (has_label e))
 
 after_0 : (column : ℕ) (e : PlacedEntry) (left : List PlacedEntry) → StandInRow column (e ∷ left) → position_after 0 e left ≡ 0
-after_0 column e left stand = ap (λ b. cond b (0 + length e.label) 0) (row_uncrowded column e left stand)
+after_0 column e left stand = ap (λ b. cond b (0 + length (label_at 0 e.label)) 0) (row_uncrowded column e left stand)
 
 -- so all stand at position 0
 positions_0 : (column : ℕ) (ps : List PlacedEntry) → StandInRow column ps → All (λ e. e.position ≡ 0) ps
@@ -169,11 +169,11 @@ counts_more n i some within =
     ∙ ap (λ m. reverse (range_with_len (i - 1) m)) (sym more)
 
 -- entries that are listed from the last to the first, and need one row, are placed
-pub ArePlaced-row : (cut : Bool) (es : List LineAnnotation) (column : ℕ) (ps : List PlacedEntry) → map (λ (e : PlacedEntry). e.entry) ps ≡ reverse es
-    → All (HasItsLabel cut) ps → All (λ e. e.position ≡ 0) ps
-    → map (λ (e : PlacedEntry). e.looked) ps ≡ reverse (range_with_len 0 (length es)) → StandInRow column ps → ArePlaced cut es ps
+pub ArePlaced-row : (layout : Layout) (es : List LineAnnotation) (column : ℕ) (ps : List PlacedEntry) → map (λ (e : PlacedEntry). e.entry) ps ≡ reverse es
+    → All (HasItsLabel layout) ps → All (λ e. e.position ≡ 0) ps
+    → map (λ (e : PlacedEntry). e.looked) ps ≡ reverse (range_with_len 0 (length es)) → StandInRow column ps → ArePlaced layout es ps
 unfolding entry_of
-ArePlaced-row cut es column ps are labels none looked stand =
+ArePlaced-row layout es column ps are labels none looked stand =
     let f : PlacedEntry → LineAnnotation = entry_of in
     let given : reverse (map f ps) ≡ es = ap reverse are ∙ reverse-reverse es in
     let count : length es ≡ length ps = sym (length-reverse es) ∙ ap length (sym are) ∙ length-map ps f in

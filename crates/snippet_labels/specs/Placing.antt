@@ -5,8 +5,8 @@ use Rattle.snippet_parts.specs.declared.entries.LineAnnotation.{LineAnnotation}
 use Rattle.snippet_style.specs.Bounds.{IsColumn}
 use Rattle.snippet_lines.specs.OrderedBy.{ordered_by}
 use Rattle.snippet_labels.specs.declared.positions.PlacedEntry.{PlacedEntry}
-use Rattle.snippet_text.specs.Normalized.{normalized_chars}
-use Rattle.snippet_labels.specs.Pieces.{label_pieces, label_width}
+use Rattle.snippet_grid.specs.Layout.{Layout}
+use Rattle.snippet_labels.specs.Pieces.{label_of_entry, label_width}
 use Rattle.snippet_labels.specs.Positions.{has_label, takes_space, look_counts, line_positions, is_placed_before}
 
 -- an entry has its place: it ends no farther left than it starts, where sums of columns have room
@@ -14,9 +14,9 @@ pub record HasPlace (e : LineAnnotation) : Type 0 where
   pub ordered : e.start.display ≤ e.end.display
   pub near : IsColumn e.end.display
 
--- the label holds the pieces of what its entry shows, cut at its line feeds or whole
-abbrev pub HasItsLabel : Bool → PlacedEntry → Type 0
-HasItsLabel cut e = e.label ≡ label_pieces cut (normalized_chars e.entry.label)
+-- the label is that of its entry
+abbrev pub HasItsLabel : Layout → PlacedEntry → Type 0
+HasItsLabel layout e = e.label ≡ label_of_entry layout e.entry
 
 -- whether an entry may need a row of its own at all: it has a label, or a line to a bar
 abbrev pub asks : PlacedEntry → Bool
@@ -63,10 +63,10 @@ IsFromRight es = (i j : ℕ) (d : LineAnnotation) → i ≤ j → j < length es 
 
 -- the entries of a line from right to left, and as they are given where they start at one character, each with its label, at the
 -- positions of that order, and with how many were looked at for it (`same` and `from_right` follow from `order`)
-pub record ArePlaced (cut : Bool) (es : List LineAnnotation) (placed : List PlacedEntry) : Type 0 where
+pub record ArePlaced (layout : Layout) (es : List LineAnnotation) (placed : List PlacedEntry) : Type 0 where
   pub order : map (λ e. e.entry) placed ≡ ordered_by is_placed_before es
   pub same : IsPermutation es (map (λ e. e.entry) placed)
   pub from_right : IsFromRight (map (λ e. e.entry) placed)
-  pub labels : All (HasItsLabel cut) placed
+  pub labels : All (HasItsLabel layout) placed
   pub positions_are : map (λ e. e.position) placed ≡ line_positions placed
   pub looked_are : map (λ e. e.looked) placed ≡ look_counts 0 placed

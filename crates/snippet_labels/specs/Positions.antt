@@ -9,13 +9,13 @@ use Rattle.snippet_parts.specs.declared.entries.LineAnnotationType.TheVariants.{
 use Rattle.snippet_lines.specs.OrderedBy.{ordered_by}
 use Rattle.snippet_parts.specs.Least.{greatest}
 use Rattle.snippet_labels.specs.declared.positions.PlacedEntry.{PlacedEntry}
-use Rattle.snippet_labels.specs.Pieces.{label_pieces, label_width, shows_any}
+use Rattle.snippet_grid.specs.Layout.{Layout}
+use Rattle.snippet_labels.specs.Pieces.{beside_column, label_at, label_of_entry, label_width, shows_any}
 use Rattle.snippet_labels.specs.PlacedEntries.{is_end_part}
-use Rattle.snippet_text.specs.Normalized.{normalized_chars}
 
 -- whether an entry has a label that shows anything
 abbrev pub has_label : PlacedEntry → Bool
-has_label e = shows_any e.label
+has_label e = shows_any e.label.beside || shows_any e.label.below
 
 -- whether an entry is the start or the end of a span of several lines, so that a line leads from its mark to a bar
 abbrev pub takes_space : PlacedEntry → Bool
@@ -63,9 +63,9 @@ reaches p e other =
 abbrev pub position_at : ℕ → PlacedEntry → List PlacedEntry → ℕ
 position_at p e others = if p == 0 && (has_label e && list_any (crosses e) others) then 1 else p
 
--- the position reached after it: where an entry after needs a row of its own, as many more as its label has pieces
+-- the position reached after it: where an entry after needs a row of its own, as many more as its label has pieces there
 abbrev pub position_after : ℕ → PlacedEntry → List PlacedEntry → ℕ
-position_after p e others = if list_any (λ other. blocks e other || reaches p e other) others then p + length e.label else p
+position_after p e others = if list_any (λ other. blocks e other || reaches p e other) others then p + length (label_at p e.label) else p
 
 -- how many of the entries after one are looked at, where this position is reached: all, or where its label may still stand beside
 -- the mark, those up to the first one that is in its way
@@ -97,19 +97,22 @@ line_positions es =
     let ps = positions 0 es in
     if are_starts es then map (λ p. greatest ps - p) ps else ps
 
--- where the label of an entry begins: how many rows below the row of the marks, and at which column; a mark that ends at
--- column 0 still takes that column. Each further piece stands below the one before it
+-- where the label of an entry begins: how many rows below the row of the marks, and at which column. Each further piece stands below the one
+-- before it
 abbrev pub label_place : PlacedEntry → ℕ × ℕ
-label_place e =
-    if e.position == 0 then (0, if e.entry.end.display == 0 then 2 else e.entry.end.display + 1) else (e.position + 1, e.entry.start.display)
+label_place e = if e.position == 0 then (0, beside_column e.entry) else (e.position + 1, e.entry.start.display)
+
+-- the pieces of its label as they stand there
+abbrev pub pieces_of : PlacedEntry → List (List ℕ)
+pieces_of e = label_at e.position e.label
 
 -- whether an entry is placed before another: it starts farther right, or at the same column and a greater character
 abbrev pub is_placed_before : LineAnnotation → LineAnnotation → Bool
 is_placed_before e f = nat_lt f.start.display e.start.display || (e.start.display == f.start.display && nat_lt f.start.char e.start.char)
 
--- the entries of a line from right to left, each with its label, which may be cut at its line feeds, at the positions of that order
-abbrev pub placed_of : Bool → List LineAnnotation → List PlacedEntry
-placed_of cut es =
+-- the entries of a line from right to left, each with its label, at the positions of that order
+abbrev pub placed_of : Layout → List LineAnnotation → List PlacedEntry
+placed_of layout es =
     let ordered = ordered_by is_placed_before es in
-    let bare : List PlacedEntry = map (λ e. record { entry = e; label = label_pieces cut (normalized_chars e.label); position = 0; looked = 0 }) ordered in
+    let bare : List PlacedEntry = map (λ e. record { entry = e; label = label_of_entry layout e; position = 0; looked = 0 }) ordered in
     map (λ found. record found.0 { position = found.1.0; looked = found.1.1 }) (zip bare (zip (line_positions bare) (look_counts 0 bare)))

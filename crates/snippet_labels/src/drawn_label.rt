@@ -1,93 +1,189 @@
 //! A label as it is drawn.
-ghost use Rattle.std.specs.Prelude.{◌≡◌, ◌+◌, ◌==◌, not, chars, encode_utf8_all, length, max};
+ghost use Rattle.std.specs.Prelude.{◌≡◌, ◌+◌, ◌-◌, ◌∷◌, ◌==◌, ◌||◌, [], IfOk, chars, encode_utf8_all, if◌then◌else◌};
+ghost use Rattle.std.specs.Prelude.{length, max, not};
 ghost use Rattle.std.specs.Cow.{cow_str_bytes};
 ghost use Rattle.std.specs.List.{slice_split};
-ghost use Rattle.snippet_labels.specs.LabelSize.{HasSize};
-ghost use Rattle.snippet_labels.specs.Pieces.{label_pieces, label_width, shows_any};
+ghost use Rattle.snippet_labels.specs.LabelSize.{HasSize, cut_pieces, lines_of};
+ghost use Rattle.snippet_labels.specs.Pieces as spec;
+ghost use Rattle.snippet_labels.specs.Pieces.{shows_any, text_pieces};
 ghost use Rattle.snippet_style.specs.Bounds.{HasNext, IsCount};
+ghost use Rattle.snippet_text.specs.Normalized.{norm};
 
+use snippet_grid::Layout;
+use snippet_shown::wrapped;
+use snippet_text::normalized;
+use std::alloc::{AllocError, Global};
 use std::borrow::CowStr;
 use std::marker::Model;
 
-/// The text of a label as it is drawn: normalised, and empty where there is none to show. It has one piece or, where it
-/// is cut at its line feeds, one for each of its lines.
+/// In fewer columns no label is broken.
+const LEAST_ROOM: usize = 20;
+
+/// A label as it is drawn: in pieces, each of which stands in a row of its own, as they stand after its mark and as
+/// they hang below it.
 #[derive(Debug, Drop)]
 pub struct DrawnLabel<'a> {
+    text: LabelText<'a>,
+}
+
+/// The text of a label, normalised.
+#[derive(Debug, Drop)]
+enum LabelText<'a> {
+    /// It has one piece, whichever way it stands.
+    Whole(CowStr<'a>),
+    /// It is cut at its line feeds.
+    Cut(Box<CutLabel<'a>>),
+}
+
+/// A label that is cut, as it stands after its mark and as it hangs below it: the two have not the same room.
+#[derive(Debug, Drop)]
+struct CutLabel<'a> {
+    beside: CutText<'a>,
+    below: CutText<'a>,
+}
+
+/// A text of which each line is a piece.
+#[derive(Debug, Drop)]
+struct CutText<'a> {
     text: CowStr<'a>,
-    is_cut: bool,
     size: LabelSize,
 }
 
-/// How large a label is.
+/// How large pieces are.
 #[derive(Clone, Copy, Debug)]
 struct LabelSize {
-    /// How many bytes its longest piece has.
+    /// How many bytes the longest has.
     width: usize,
-    /// How many pieces it has.
+    /// How many there are.
     height: usize,
 }
 
 impl<'a> Model for DrawnLabel<'a> {
-    ghost use Rattle.std.specs.Prelude.{ℕ, List, chars};
-    ghost use Rattle.std.specs.Cow.{cow_str_bytes};
-    ghost use Rattle.snippet_labels.specs.LabelSize.{HasSize};
-    ghost use Rattle.snippet_labels.specs.Pieces.{label_pieces};
+    ghost use Rattle.snippet_labels.specs.LabelSize.{AreSized, pieces_in};
+    ghost use Rattle.snippet_labels.specs.Pieces.{LabelPieces};
 
-    ghost Value = { List (List ℕ) };
+    ghost Value = { LabelPieces };
 
-    ghost view = { λ label. label_pieces label.is_cut (chars (cow_str_bytes label.text)) };
+    ghost view = { λ label. pieces_in label.text };
 
-    ghost invariant = { λ label. HasSize label.size (label_pieces label.is_cut (chars (cow_str_bytes label.text))) };
+    ghost invariant = { λ label. AreSized label.text };
 }
 
 impl<'a> DrawnLabel<'a> {
-    /// The label that shows this text, cut at its line feeds or whole.
-    pub fn new(text: CowStr<'a>, is_cut: bool) -> DrawnLabel<'a>
-        ensures value { result ≡ label_pieces is_cut (chars (cow_str_bytes text.entry)) }
+    /// A label of one piece.
+    pub(crate) fn whole(text: CowStr<'a>) -> DrawnLabel<'a>
+        ensures beside { result.beside ≡ chars (cow_str_bytes text.entry) ∷ [] }
+        ensures below { result.below ≡ chars (cow_str_bytes text.entry) ∷ [] }
     {
-        let size = label_size(text.as_str(), is_cut);
-        DrawnLabel { text, is_cut, size }
+        DrawnLabel {
+            text: LabelText::Whole(text),
+        }
     }
 
-    /// Its text, and whether that is cut at its line feeds.
-    pub fn text(&self) -> (&str, bool)
-        ensures pieces { label_pieces result.1 (chars result.0.now) ≡ self.now }
+    /// A label of this text that is cut at its line feeds, and broken where it has no room at this cell, at which it
+    /// begins after its mark, or at that one, at which it hangs below it.
+    ///
+    /// # Errors
+    ///
+    /// There is no memory for it.
+    pub(crate) fn cut(
+        alloc: Global,
+        layout: Layout,
+        beside: usize,
+        below: usize,
+        text: &'a str,
+    ) -> Result<DrawnLabel<'a>, AllocError>
+        ensures beside { IfOk result (λ label. label.beside
+            ≡ cut_pieces (layout.label_end - beside) (norm (chars text.now))) }
+        ensures below { IfOk result (λ label. label.below
+            ≡ cut_pieces (layout.label_end - below) (norm (chars text.now))) }
     {
-        (self.text.as_str(), self.is_cut)
+        let beside = cut_text(alloc, layout.label_end.saturating_sub(beside), text)?;
+        let below = cut_text(alloc, layout.label_end.saturating_sub(below), text)?;
+        let label = Box::new(alloc, CutLabel { beside, below })?;
+        Ok(DrawnLabel {
+            text: LabelText::Cut(label),
+        })
     }
 
-    /// How long it is: the bytes of its longest piece.
+    /// Its text where it stands at this position, and whether that is cut at its line feeds.
+    pub fn text(&self, position: usize) -> (&str, bool)
+        ensures pieces { text_pieces result.1 (chars result.0.now) ≡ spec.label_at position self.now }
+    {
+        match &self.text {
+            LabelText::Whole(text) => (text.as_str(), false),
+            LabelText::Cut(label) => (cut_at(position, label).text.as_str(), true),
+        }
+    }
+
+    /// How long it is: the bytes of its longest piece, whichever way it stands.
     pub fn width(&self) -> usize
-        ensures value { result ≡ label_width self.now }
+        ensures value { result ≡ spec.label_width self.now }
         ensures few { IsCount result }
     {
-        self.size.width
+        match &self.text {
+            LabelText::Whole(text) => text.as_str().len(),
+            LabelText::Cut(label) => label.beside.size.width.max(label.below.size.width),
+        }
     }
 
-    /// How many pieces it has, at least one.
-    pub fn height(&self) -> usize
-        ensures value { result ≡ length self.now }
+    /// How many pieces it has where it stands at this position, at least one.
+    pub fn height(&self, position: usize) -> usize
+        ensures value { result ≡ length (spec.label_at position self.now) }
     {
-        self.size.height
+        match &self.text {
+            LabelText::Whole(_) => 1,
+            LabelText::Cut(label) => cut_at(position, label).size.height,
+        }
     }
 
     /// Whether it shows nothing.
     pub fn is_empty(&self) -> bool
-        ensures value { result ≡ not (shows_any self.now) }
+        ensures value { result ≡ not (shows_any self.now.beside || shows_any self.now.below) }
     {
-        self.size.width == 0
+        self.width() == 0
     }
 }
 
-/// How large the label of a text is, which is cut at its line feeds or whole.
-fn label_size(text: &str, is_cut: bool) -> LabelSize
-    ensures size { HasSize result (label_pieces is_cut (chars text.now)) }
+/// The one of the two that stands at this position.
+fn cut_at<'a, 'b>(position: usize, label: &'b CutLabel<'a>) -> &'b CutText<'a>
+    ensures value { result.now ≡ (if position == 0 then label.now.beside else label.now.below) }
 {
-    let width = text.len();
-    if is_cut {
-        lines_size(text)
+    if position == 0 {
+        &label.beside
     } else {
-        LabelSize { width, height: 1 }
+        &label.below
+    }
+}
+
+/// A text, normalised and broken where its lines are wider than this room.
+///
+/// # Errors
+///
+/// There is no memory for it.
+fn cut_text<'a>(alloc: Global, room: usize, text: &'a str) -> Result<CutText<'a>, AllocError>
+    ensures lines { IfOk result (λ cut. lines_of cut ≡ cut_pieces room (norm (chars text.now))) }
+    ensures size { IfOk result (λ cut. HasSize cut.size (lines_of cut)) }
+{
+    let text = normalized(alloc, text)?;
+    let text = broken(alloc, room, text)?;
+    let size = lines_size(text.as_str());
+    Ok(CutText { text, size })
+}
+
+/// A text that is broken where its lines are wider than this room, if the room has 20 columns.
+///
+/// # Errors
+///
+/// There is no memory for it.
+fn broken<'a>(alloc: Global, room: usize, text: CowStr<'a>) -> Result<CowStr<'a>, AllocError>
+    ensures value { IfOk result (λ shown. chars (cow_str_bytes shown)
+        ≡ spec.broken_in room (chars (cow_str_bytes text.entry))) }
+{
+    if room < LEAST_ROOM {
+        Ok(text)
+    } else {
+        wrapped(alloc, room, false, text)
     }
 }
 

@@ -1,21 +1,21 @@
 //! The entries of a line, each with its label as it is drawn.
 ghost use Rattle.std.specs.Prelude.{◌≡◌, All, IfOk, length, map, reverse};
 ghost use Rattle.std.specs.List.{range_with_len};
-ghost use Rattle.snippet_labels.specs.Pieces.{label_pieces};
-ghost use Rattle.snippet_labels.specs.Placing.{HasItsLabel};
+ghost use Rattle.snippet_labels.specs.Pieces as spec;
+ghost use Rattle.snippet_labels.specs.Placing.{HasItsLabel, HasPlace};
 ghost use Rattle.snippet_labels.specs.PlacedEntries.{shifted};
-ghost use Rattle.snippet_text.specs.Normalized.{normalized_chars};
+ghost use Rattle.snippet_style.specs.Bounds.{IsAddable, IsColumn};
 
 use crate::drawn_label::DrawnLabel;
 use crate::positions::PlacedEntry;
+use snippet_grid::Layout;
 use snippet_parts::LineAnnotation;
 use snippet_text::normalized;
 use std::alloc::{AllocError, Global};
 use std::borrow::CowStr;
 
-/// The entries from the last that is given to the first, each with its label normalised, which may be cut at its line
-/// feeds. They are placed as those are that need one row: each at position 0, with all that were given before it looked
-/// at.
+/// The entries from the last that is given to the first, each with its label. They are placed as those are that need
+/// one row: each at position 0, with all that were given before it looked at.
 ///
 /// # Errors
 ///
@@ -23,22 +23,23 @@ use std::borrow::CowStr;
 pub(crate) fn labelled_entries<'a>(
     alloc: Global,
     dropped: usize,
-    is_cut: bool,
+    layout: Layout,
     entries: &[LineAnnotation<'a>],
 ) -> Result<Vec<PlacedEntry<'a>>, AllocError>
+    requires places { All HasPlace entries.now }
     ensures entries { IfOk result (λ labelled. map (λ e. e.entry) labelled.items
         ≡ reverse (map (shifted dropped) entries.now)) }
-    ensures labels { IfOk result (λ labelled. All (HasItsLabel is_cut) labelled.items) }
+    ensures labels { IfOk result (λ labelled. All (HasItsLabel layout) labelled.items) }
     ensures positions { IfOk result (λ labelled. All (λ e. e.position ≡ 0) labelled.items) }
     ensures looked { IfOk result (λ labelled. map (λ e. e.looked) labelled.items
         ≡ reverse (range_with_len 0 (length entries.now))) }
 {
     let mut labelled = Vec::with_capacity(alloc, entries.len())?;
     for i in (0..entries.len()).rev() {
-        let entry = &entries[i];
-        let label = shown_label(alloc, is_cut, entry)?;
+        let entry = shifted(&entries[i], dropped);
+        let label = drawn_label(alloc, layout, &entry)?;
         labelled.push(PlacedEntry {
-            entry: shifted(entry, dropped),
+            entry,
             label,
             position: 0,
             looked: i,
@@ -57,20 +58,41 @@ fn shifted<'a>(entry: &LineAnnotation<'a>, dropped: usize) -> LineAnnotation<'a>
     shifted
 }
 
-/// What an entry's label shows: its text, normalised and cut at its line feeds or whole, or nothing.
+/// The label of an entry: its text, or nothing.
 ///
 /// # Errors
 ///
 /// There is no memory for the text.
-fn shown_label<'a>(
+fn drawn_label<'a>(
     alloc: Global,
-    is_cut: bool,
+    layout: Layout,
     entry: &LineAnnotation<'a>,
 ) -> Result<DrawnLabel<'a>, AllocError>
-    ensures shows { IfOk result (λ label. label ≡ label_pieces is_cut (normalized_chars entry.now.label)) }
+    requires start { IsColumn entry.now.start.display }
+    requires end { IsColumn entry.now.end.display }
+    ensures value { IfOk result (λ label. label ≡ spec.label_of_entry layout entry.now) }
 {
-    match entry.label.text() {
-        Some(text) => Ok(DrawnLabel::new(normalized(alloc, text)?, is_cut)),
-        None => Ok(DrawnLabel::new(CowStr::Borrowed(""), is_cut)),
+    let Some(text) = entry.label.text() else {
+        return Ok(DrawnLabel::whole(CowStr::Borrowed("")));
+    };
+    if !layout.label_lines {
+        return Ok(DrawnLabel::whole(normalized(alloc, text)?));
+    }
+    let beside = layout.code_cell(beside_column(entry));
+    let below = layout.code_cell(entry.start.display);
+    DrawnLabel::cut(alloc, layout, beside, below, text)
+}
+
+/// The column at which an entry's label begins that stands after its mark: one after it. A mark that ends at column 0
+/// still takes that column.
+pub fn beside_column(entry: &LineAnnotation) -> usize
+    requires end { IsColumn entry.now.end.display }
+    ensures value { result ≡ spec.beside_column entry.now }
+    ensures near { IsAddable result }
+{
+    if entry.end.display == 0 {
+        2
+    } else {
+        entry.end.display + 1
     }
 }

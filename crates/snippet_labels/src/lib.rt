@@ -4,7 +4,10 @@
 
 pub mod drawn_label;
 mod labelled;
+mod pairs;
 pub mod positions;
 
 pub use drawn_label::DrawnLabel;
-pub use positions::{PlacedEntry, are_starts, overlap, placed_entries};
+pub use labelled::beside_column;
+pub use pairs::overlap;
+pub use positions::{PlacedEntry, are_starts, placed_entries};

@@ -7,20 +7,22 @@ ghost use Rattle.std.specs.List.{list_any, position};
 ghost use Rattle.snippet_labels.specs.Positions as spec;
 ghost use Rattle.snippet_labels.specs.declared.positions.PlacedEntry.{PlacedEntry};
 ghost use Rattle.snippet_labels.specs.Placing as placing;
-ghost use Rattle.snippet_labels.specs.Placing.{ArePlaced, AsksBefore, BeginLeftOf, FitsLeftOf};
+ghost use Rattle.snippet_labels.specs.Placing.{ArePlaced, AsksBefore, BeginLeftOf, FitsLeftOf, HasPlace};
 ghost use Rattle.snippet_labels.specs.Placing.{IsFromRight, StandInRow};
 ghost use Rattle.snippet_labels.specs.PlacedEntries.{shifted};
 ghost use Rattle.snippet_parts.specs.Least.{greatest};
-ghost use Rattle.snippet_style.specs.Bounds.{IsColumn, IsRowNumber, IsUsize};
+ghost use Rattle.snippet_style.specs.Bounds.{IsColumn, IsRowNumber};
 
 use crate::drawn_label::DrawnLabel;
 use crate::labelled::labelled_entries;
+use crate::pairs::{crosses, crowds};
+use snippet_grid::Layout;
 use snippet_parts::{LineAnnotation, LineAnnotationType};
 use std::alloc::{AllocError, Global};
 use std::cmp::Reverse;
 
 /// How many columns stand free after a label, before the next one in its row.
-const GAP: usize = 2;
+pub(crate) const GAP: usize = 2;
 
 /// There is memory for fewer rows, as a grid keeps a number for each.
 const MAX_ROWS: usize = 1 << 60;
@@ -30,7 +32,7 @@ const MAX_ROWS: usize = 1 << 60;
 pub struct PlacedEntry<'a> {
     /// The entry.
     pub entry: LineAnnotation<'a>,
-    /// Its label, normalised; empty where it has none to show.
+    /// Its label, which is empty where it has none to show.
     pub label: DrawnLabel<'a>,
     /// At 0 the label stands after its mark; at n it hangs from it, from the row n + 1 below the row of the marks on.
     /// The line from the mark of a start or an end to its bar stands in the row n below that of the marks.
@@ -75,7 +77,7 @@ impl<'a> PlacedEntry<'a> {
 }
 
 /// The entries of a line from right to left, each with the place of its label, where this many columns of the line are
-/// dropped on the left. Labels may be cut at their line feeds.
+/// dropped on the left.
 ///
 /// ```text
 ///       | --^^--         the label of the entry farthest right may stand after its mark, at position 0
@@ -95,14 +97,14 @@ impl<'a> PlacedEntry<'a> {
 pub fn placed_entries<'a>(
     alloc: Global,
     dropped: usize,
-    is_cut: bool,
+    layout: Layout,
     entries: &[LineAnnotation<'a>],
 ) -> Result<Vec<PlacedEntry<'a>>, AllocError>
-    requires columns { All (λ e. IsColumn e.end.display) entries.now }
-    ensures placed { IfOk result (λ placed. ArePlaced is_cut (map (shifted dropped) entries.now) placed.items) }
+    requires places { All HasPlace entries.now }
+    ensures placed { IfOk result (λ placed. ArePlaced layout (map (shifted dropped) entries.now) placed.items) }
     ensures low { IfOk result (λ placed. All (λ e. IsRowNumber e.position) placed.items) }
 {
-    let mut placed = labelled_entries(alloc, dropped, is_cut, entries)?;
+    let mut placed = labelled_entries(alloc, dropped, layout, entries)?;
     if stand_in_row(&placed) {
         return Ok(placed);
     }
@@ -404,7 +406,7 @@ fn position_after(
     ensures low { IfOk result IsRowNumber }
 {
     if is_crowded(position, entry, others) {
-        position_below(position, entry.label.height())
+        position_below(position, entry.label.height(position))
     } else {
         Ok(position)
     }
@@ -425,14 +427,6 @@ fn position_below(position: usize, height: usize) -> Result<usize, AllocError>
     }
 }
 
-/// Whether two marks overlap, unless they are one mark and only the first has a label.
-fn crosses(entry: &PlacedEntry, other: &PlacedEntry) -> bool
-    requires columns { IsColumn other.now.entry.end.display }
-    ensures value { result ≡ spec.crosses entry.now other.now }
-{
-    overlap(other, 0, entry) && (other.has_label() || !is_same_place(entry, other))
-}
-
 /// Whether an entry farther left needs its label in a row of its own, below that of this entry.
 fn is_crowded(position: usize, entry: &PlacedEntry, others: &[PlacedEntry]) -> bool
     requires columns { All (λ e. IsColumn e.entry.end.display) others.now }
@@ -440,65 +434,4 @@ fn is_crowded(position: usize, entry: &PlacedEntry, others: &[PlacedEntry]) -> b
         others.now }
 {
     others.iter().any(|other| crowds(position, entry, other))
-}
-
-/// Whether an entry farther left needs a row of its own: one of the two is a start or an end and the other is too, or
-/// has a label; or its label would reach into this entry, which has a label too, or stands in the first row and ends no
-/// earlier.
-fn crowds(position: usize, entry: &PlacedEntry, other: &PlacedEntry) -> bool
-    requires columns { IsColumn other.now.entry.end.display }
-    ensures value { result ≡ (spec.blocks entry.now other.now || spec.reaches position entry.now other.now) }
-{
-    blocks(entry, other) || reaches(position, entry, other)
-}
-
-/// Whether one of two entries is a start or an end, and the other is too, or has a label.
-fn blocks(entry: &PlacedEntry, other: &PlacedEntry) -> bool
-    ensures value { result ≡ spec.blocks entry.now other.now }
-{
-    (entry.takes_space() && (other.has_label() || other.takes_space()))
-        || (entry.has_label() && other.takes_space())
-}
-
-/// Whether the label of an entry farther left would reach into this entry, which has a label too, or stands in the
-/// first row and ends no earlier.
-fn reaches(position: usize, entry: &PlacedEntry, other: &PlacedEntry) -> bool
-    requires columns { IsColumn other.now.entry.end.display }
-    ensures value { result ≡ spec.reaches position entry.now other.now }
-{
-    other.has_label()
-        && overlap(other, other.label.width() + GAP, entry)
-        && (entry.has_label() || (position == 0 && ends_no_later(other, entry)))
-}
-
-/// Whether one of two entries starts in the columns of the other, those of the first being this many more.
-pub fn overlap(first: &PlacedEntry, more: usize, second: &PlacedEntry) -> bool
-    requires room { IsUsize (first.now.entry.end.display + more) }
-    ensures value { result ≡ spec.do_overlap first.now more second.now }
-{
-    let first_start = first.entry.start.display;
-    let first_end = first.entry.end.display + more;
-    let second_start = second.entry.start.display;
-    let second_end = second.entry.end.display;
-    (second_start <= first_start && first_start < second_end)
-        || (first_start <= second_start && second_start < first_end)
-}
-
-/// Whether two entries have the same start and the same end, in columns and in characters.
-fn is_same_place(first: &PlacedEntry, second: &PlacedEntry) -> bool
-    ensures value { result ≡ spec.is_same_place first.now second.now }
-{
-    first.entry.start.display == second.entry.start.display
-        && first.entry.start.char == second.entry.start.char
-        && first.entry.end.display == second.entry.end.display
-        && first.entry.end.char == second.entry.end.char
-}
-
-/// Whether an entry ends no later than another: at a lesser column, or at the same one and no greater character.
-fn ends_no_later(first: &PlacedEntry, second: &PlacedEntry) -> bool
-    ensures value { result ≡ spec.ends_no_later first.now second.now }
-{
-    let first = first.entry.end;
-    let second = second.entry.end;
-    first.display < second.display || (first.display == second.display && first.char <= second.char)
 }

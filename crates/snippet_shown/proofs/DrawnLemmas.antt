@@ -162,7 +162,7 @@ All-map_back : {X Y : Type 0} (P : Y → Type 0) (f : X → Y) (xs : List X) →
 All-map_back P f [] all = All-nil (λ x. P (f x))
 All-map_back P f (x ∷ xs) all = All-cons (λ x. P (f x)) x xs (All-head P (f x) (map f xs) all) (All-map_back P f xs (All-tail P (f x) (map f xs) all))
 
-rows-within : (room : ℕ) (trusted : Bool) (cs : List ℕ) → AreWithin room (lines_in (letters_of trusted cs)) → AreRowsWithin trusted room (lines_of cs)
+pub rows-within : (room : ℕ) (trusted : Bool) (cs : List ℕ) → AreWithin room (lines_in (letters_of trusted cs)) → AreRowsWithin trusted room (lines_of cs)
 rows-within room trusted cs within =
     let own = lines-letters cs (first_place trusted) in
     let all : letter_lines (first_place trusted) (lines_of cs) ≡ map (letters_of trusted) (lines_of cs) =

@@ -2,7 +2,8 @@
 use Rattle.snippet_shown.proofs.Common.{◌≡◌, ◌∙◌, ℕ, ◌+◌, ◌-◌, ◌<◌, ◌≤◌, nat_lt, Bool, true, false, List, [], ◌∷◌, ◌++◌, ◌⊎◌, All, inl, inr, refl, sym, ap}
 use Rattle.snippet_shown.proofs.Common.{subst, arith, chars, if◌then◌else◌, Contains, nat_tests, All-cons, All-contains_itself, All-head, All-map, All-nil}
 use Rattle.snippet_shown.proofs.Common.{All-tail, All-weaker, Letter, first_place, letters, letters_of, place_after, row_start, rows, shown_letters, wrapped}
-use Rattle.snippet_shown.proofs.Common.{lines_fit, IsAmong, IsRewrapped, Place, Row, Indentation}
+use Rattle.snippet_shown.proofs.Common.{lines_fit, IsAmong, IsRewrapped, Place, Row, Indentation, Step, shown_at, shown_by, step, length, length-map, suc}
+use Rattle.std.proofs.lemmas.List.{length-append}
 use Rattle.snippet_shown.proofs.GreedyLemmas.{rows-end}
 use Rattle.snippet_shown.proofs.LawLemmas.{among_own, next_columns, next_within, rows-all, rows-fit, rows-kept, rows-same}
 use Rattle.snippet_shown.proofs.LineLemmas.{fit-within, rows-lines, within-fit}
@@ -89,3 +90,36 @@ wrapped-chars room trusted cs =
     let ls = letters_of trusted cs in
     let own = letters-all (IsOf cs) cs (first_place trusted) (All-weaker (Contains cs) (IsOf cs) (λ c is. inr is) cs (All-contains_itself cs)) in
     All-map (IsOf cs) (λ (l : Letter). l.char) (shown_letters room ls) (chars_either room cs ls (nat_lt room 4) own)
+
+-- ---- how many characters
+
+shown_short : (breaks keeps : Bool) (l : Letter) → length (shown_by breaks keeps l) ≤ 2
+shown_short true true l = omega arith
+shown_short true false l = omega arith
+shown_short false true l = omega arith
+shown_short false false l = omega arith
+
+rows_short : (room : ℕ) (row : Row) (ls : List Letter) → length (rows room row ls) ≤ length ls + length ls
+rows_short room row [] = omega arith
+rows_short room row (l ∷ ls) =
+    let next : Step = step room row l ls in
+    omega (arith, shown_short next.breaks next.keeps l, rows_short room next.row ls, length-append (shown_at next l) (rows room next.row ls))
+
+letters_long : (place : Place) (cs : List ℕ) → length (letters place cs) ≡ length cs
+letters_long place [] = refl
+letters_long place (c ∷ cs) = ap suc (letters_long (place_after place c) cs)
+
+-- a text that is wrapped has at most twice as many characters
+pub wrapped-length : (room : ℕ) (trusted : Bool) (cs : List ℕ) → length (wrapped room trusted cs) ≤ length cs + length cs
+wrapped-length room trusted cs =
+    omega (
+      arith,
+      length-map (shown_letters room (letters_of trusted cs)) (λ (l : Letter). l.char),
+      either (letters_of trusted cs) (nat_lt room 4),
+      letters_long (first_place trusted) cs,
+    )
+  where
+    either : (ls : List Letter) (small : Bool)
+        → (let shown : List Letter = if small then ls else rows room (row_start room ls) ls in length shown ≤ length ls + length ls)
+    either ls true = omega arith
+    either ls false = rows_short room (row_start room ls) ls

@@ -143,8 +143,8 @@ IsStrokeRow-drawn : (layout : Layout) (plain : Bool) (es : List LineAnnotation) 
     → BarsDrawn layout old new → IsStrokeRow layout plain es closes new
 IsStrokeRow-drawn layout plain es closes old new is drawn = search (rules, drawn_right)
 
-ShowsMarks-drawn : (layout : Layout) (es : List LineAnnotation) (old new : List Cell) → ShowsMarks layout.label_lines layout.decor layout.code es old
-    → BarsDrawn layout old new → ShowsMarks layout.label_lines layout.decor layout.code es new
+ShowsMarks-drawn : (layout : Layout) (es : List LineAnnotation) (old new : List Cell) → ShowsMarks layout layout.decor layout.code es old
+    → BarsDrawn layout old new → ShowsMarks layout layout.decor layout.code es new
 ShowsMarks-drawn layout es old new shows drawn =
     let same : (p : ℕ) → slice_index_or new (layout.code + p) SPACE ≡ slice_index_or old (layout.code + p) SPACE = λ p.
     drawn_right layout old new drawn (layout.code + p) (omega arith) in
@@ -181,15 +181,15 @@ AreStrokes-drawn layout room es closes old new is count drawn =
               ap (λ cells. slice_index_or cells c SPACE) (later ∙ sym before)
         ]
 
-    marks : ShowsMarks layout.label_lines layout.decor layout.code es (row_at old 0)
-        → ShowsMarks layout.label_lines layout.decor layout.code es (row_at new 0)
+    marks : ShowsMarks layout layout.decor layout.code es (row_at old 0)
+        → ShowsMarks layout layout.decor layout.code es (row_at new 0)
     marks shows =
         elim (cases_lt 0 (length old)) [
           | inl some ↦ ShowsMarks-drawn layout es (row_at old 0) (row_at new 0) shows (drawn 0 some)
           | inr none ↦
               let before : row_at old 0 ≡ [] = get_or_past old 0 [] none in
               let later : row_at new 0 ≡ [] = get_or_past new 0 [] (omega (arith, none, count)) in
-              subst (ShowsMarks layout.label_lines layout.decor layout.code es) (before ∙ sym later) shows
+              subst (ShowsMarks layout layout.decor layout.code es) (before ∙ sym later) shows
         ]
 
 -- so are all rows of a line, where bars are drawn in each

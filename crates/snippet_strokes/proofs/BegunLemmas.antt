@@ -18,6 +18,10 @@ use Rattle.snippet_labels.proofs.PlacedLemmas.{line_positions_low}
 use Rattle.snippet_strokes.proofs.PositionLemmas.{HasRows-row_count, row_count_some, of_positions, positions_sole}
 use Rattle.snippet_strokes.proofs.PaintOrder.{IsPermutation-painting_order}
 use Rattle.snippet_strokes.proofs.PaintedMarks.{CoversOver, AreMarked, IsPaintedAt, mark_cell}
+use Rattle.snippet_labels.proofs.PieceLemmas.{label_pieces-nil}
+use Rattle.snippet_strokes.proofs.Common.{LabelPieces, beside_column, code_cell}
+use Rattle.snippet_labels.specs.Positions.{pieces_of}
+use Rattle.snippet_strokes.proofs.Common.{◌||◌}
 
 -- The marks of entries that stand for whole spans.
 -- the cell of a mark is one that a mark of that kind may have
@@ -132,9 +136,10 @@ wide_entries-permutation room decor es fs same =
     sum_by-IsPermutation (λ e. cond (is_wide_entry room (length (placeholder_of decor)) e) 1 0) es fs same
 
 -- and in the order of painting
-pub wide_entries-order : (cut : Bool) (room : ℕ) (decor : DecorStyle) (es : List LineAnnotation) (placed : List PlacedEntry) → ArePlaced cut es placed
+pub wide_entries-order : (layout : Layout) (room : ℕ) (decor : DecorStyle) (es : List LineAnnotation) (placed : List PlacedEntry) → ArePlaced layout es placed
     → wide_entries room decor (map (λ (e : PlacedEntry). e.entry) (painting_order placed)) ≡ wide_entries room decor es
-wide_entries-order cut room decor es placed are = search (rules, wide_entries-permutation, IsPermutation-trans, IsPermutation-map, IsPermutation-painting_order)
+wide_entries-order layout room decor es placed are =
+    search (rules, wide_entries-permutation, IsPermutation-trans, IsPermutation-map, IsPermutation-painting_order)
 
 -- a row of which stretches gave their place to the placeholder: left of the code it stays
 pub cut_left : (layout : Layout) (wide : ℕ) (whole row : List Cell) → IsCut layout wide whole row → (c : ℕ) → c < layout.code
@@ -173,7 +178,7 @@ rows_begun old begun sep end count some begins = grind (arith, length_push, leng
 
 -- and each entry has the rows that it needs, as long as no row is added or taken
 pub rows_ready : (placed : List PlacedEntry) (old begun : List (List Cell)) (sep end : List Cell) (count row long : ℕ)
-    → All (λ e. 0 < length e.label) placed → count ≡ row_count placed → row ≡ length old
+    → All (λ e. 0 < length (pieces_of e)) placed → count ≡ row_count placed → row ≡ length old
     → begun ≡ old ++ replicate (count - 1) sep ++ end ∷ [] → long ≡ length begun → All (HasRows row long) placed
 rows_ready placed old begun sep end count row long some is last begins same =
     HasRows-row_count row long placed some (omega (arith, same, rows_begun old begun sep end count (omega (arith, is, row_count_some placed)) begins, last, is))
@@ -226,7 +231,7 @@ mark_shown layout es placed row old new plain same marked p kind mark =
     (subst (IsMarkCell layout.decor top.entry.kind) (sym shows.holds) (IsMarkCell-mark_cell layout top (layout.code + p) (spaceless top top_plain)))
 
 -- The entries of a line as they are placed: the one entry of a line, and lines that take one row.
-module _ (cut : Bool) (es : List LineAnnotation) (placed : List PlacedEntry) (is : ArePlaced cut es placed) where
+module _ (layout : Layout) (es : List LineAnnotation) (placed : List PlacedEntry) (is : ArePlaced layout es placed) where
   abbrev f : PlacedEntry → LineAnnotation
   f e = e.entry
 
@@ -235,11 +240,12 @@ module _ (cut : Bool) (es : List LineAnnotation) (placed : List PlacedEntry) (is
   unlabelled none =
       λ k d within.
       let own : label_text (get_or placed k d).entry ≡ [] = entries_all (λ e. label_text e ≡ []) es placed is.same none k d within in
-      ap shows_any (is.labels k d within ∙ ap (label_pieces cut) own) ∙ empty cut
-    where
-      empty : (cut : Bool) → shows_any (label_pieces cut []) ≡ false
-      empty true = refl
-      empty false = refl
+      let e : LineAnnotation = (get_or placed k d).entry in
+      let nothing : (cell : ℕ) → shows_any (label_pieces layout cell (label_text e)) ≡ false = λ cell.
+      ap (λ text. shows_any (label_pieces layout cell text)) own ∙ ap shows_any (label_pieces-nil layout cell) in
+      ap (λ (l : LabelPieces). shows_any l.beside || shows_any l.below) (is.labels k d within)
+      ∙ ap (λ b. b || shows_any (label_pieces layout (code_cell layout e.start.display) (label_text e))) (nothing (code_cell layout (beside_column e)))
+      ∙ nothing (code_cell layout e.start.display)
 
   -- where positions are 0 in their order, so are those of the line
   highest : All (λ q. q ≤ 0) (positions 0 placed) → All (λ (x : PlacedEntry). x.position ≤ 0) placed

@@ -19,9 +19,11 @@ pub use Rattle.snippet_labels.proofs.PlacedLemmas.{is_start}
 pub use Rattle.snippet_labels.proofs.PlacedLemmas.{line_positions-changed, look_counts-changed}
 pub use Rattle.snippet_labels.proofs.RowLemmas.{sorted_same, stable_same}
 pub use Rattle.snippet_labels.specs.PlacedEntries.{shifted, label_role, is_end_part, entry_width}
-pub use Rattle.snippet_labels.specs.Pieces.{label_pieces, label_width, shows_any}
+pub use Rattle.snippet_labels.specs.Pieces.{LabelPieces, beside_column, broken, label_at, label_of_entry, label_pieces, label_width, pieces_width, shows_any}
+pub use Rattle.snippet_labels.specs.Pieces.{text_pieces}
 pub use Rattle.snippet_labels.specs.Placing.{ArePlaced, HasPlace, HasItsLabel, unplaced, IsFromRight, StandsLeft}
-pub use Rattle.snippet_labels.specs.Positions.{has_label, has_stem, label_place, is_start_part, takes_space, placed_of, line_positions, do_overlap, position_at}
+pub use Rattle.snippet_labels.specs.Positions.{has_label, has_stem, label_place, pieces_of, is_start_part, takes_space, placed_of, line_positions, do_overlap}
+pub use Rattle.snippet_labels.specs.Positions.{position_at}
 pub use Rattle.snippet_labels.specs.Positions.{position_after, positions, look_counts, is_placed_before, crosses, are_starts}
 pub use Rattle.snippet_labels.specs.declared.positions.PlacedEntry.{PlacedEntry}
 pub use Rattle.snippet_lines.proofs.NumberLemmas.{shown_number_unlisted, chars-shown_number}

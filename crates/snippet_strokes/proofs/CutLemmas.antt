@@ -247,7 +247,7 @@ map_alike f g (x ∷ xs) same = ap (λ y. y ∷ map f xs) (same x) ∙ ap (λ ys
 -- the rows of the strokes of a line, of which stretches are cut
 abbrev pub rows_of_strokes : Layout → ℕ → Bool → List LineAnnotation → List Cell → List (List Cell)
 rows_of_strokes layout room closes es source =
-    let placed = placed_of layout.label_lines es in
+    let placed = placed_of layout es in
     let order = painting_order placed in
     let whole = painted (drawn_strokes layout 0 (row_count placed + 1) placed order) (begun_rows layout closes (row_count placed) source) in
     map (cut_row layout.decor (cuts_of layout room order (overlapped placed))) (take 2 whole) ++ drop 2 whole

@@ -66,7 +66,7 @@ module _ (layout : Layout) (bar : Bar) (room : layout.gutter + 2 + bar.depth < l
       (All-map (IsItsPart part) (shifted dropped) es known) in
       let its = All-contains (λ (f : PlacedEntry). IsItsPart part f.entry) placed last.one kinds last.among last.passes in
       let lower = All-contains (HasRows 1 (1 + row_count placed)) placed last.one (HasRows-row_count 1 (1 + row_count placed) placed
-      (labels_some layout.label_lines moved placed drawn.are) refl) last.among in
+      (labels_some layout moved placed drawn.are) refl) last.among in
       let left = last_stands layout bar room count placed order begun last.before last.one last.after last.split last.none in
       record {
         entry = last.one;

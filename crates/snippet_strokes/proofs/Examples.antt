@@ -28,7 +28,7 @@ ties_as_given : ordered_by is_placed_before (entry Context 1 2 ∷ entry Primary
 ties_as_given = refl
 
 abbrev placed : List ℕ → AnnotationKind → ℕ → ℕ → PlacedEntry
-placed label kind from to = record { entry = entry kind from to; label = label ∷ []; position = 0; looked = 0 }
+placed label kind from to = record { entry = entry kind from to; label = record { beside = label ∷ []; below = label ∷ [] }; position = 0; looked = 0 }
 
 -- the widest mark is painted first, and of one width those for context before a primary one; all others as they are placed
 widest_first : (label : List ℕ)
@@ -48,7 +48,8 @@ letter_of_none = refl
 
 -- an entry of these columns, for the place of whose label so many of those after it are looked at
 abbrev looking : List ℕ → ℕ → ℕ → ℕ → PlacedEntry
-looking label looked from to = record { entry = entry Primary from to; label = label ∷ []; position = 0; looked = looked }
+looking label looked from to =
+    record { entry = entry Primary from to; label = record { beside = label ∷ []; below = label ∷ [] }; position = 0; looked = looked }
 
 -- of three marks, from right to left, where all are looked at for each: the two farthest right count for no one, and the third overlaps itself
 -- `          ^^^^^`
@@ -70,7 +71,7 @@ looked_at_no_more label = refl
 
 -- a third of the room stays at each end of what is cut, and five columns at least
 abbrev pub layout : Layout
-layout = record { decor = Ascii; gutter = 1; code = 6; label_lines = false }
+layout = record { decor = Ascii; gutter = 1; code = 6; label_lines = false; label_end = 0 }
 
 third_stays : (label : List ℕ) → cut_of layout 24 (looking label 0 0 60, false) ≡ record { from = 14; to = 58 } ∷ []
 third_stays label = refl

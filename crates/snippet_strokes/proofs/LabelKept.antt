@@ -6,7 +6,12 @@ use Rattle.snippet_strokes.proofs.Common.{crosses, position_at, position_after, 
 use Rattle.snippet_strokes.proofs.Common.{Cell, SPACE, cell_at, cases_eq, mark_end, HasPlace, ArePlaced, crowds, label_width, rules}
 use Rattle.snippet_strokes.proofs.PositionLemmas.{length-positions}
 use Rattle.snippet_strokes.proofs.PaintedMarks.{AreMarked, IsPaintedAt, StandsWhole}
-use Rattle.snippet_strokes.proofs.PieceWrites.{has_piece, labels_some, piece_chars_le}
+use Rattle.snippet_strokes.proofs.PieceWrites.{has_piece, labels_some, label_chars_le}
+use Rattle.snippet_strokes.proofs.PieceWrites.{labels_some_at}
+use Rattle.snippet_strokes.proofs.Common.{label_at}
+use Rattle.snippet_labels.specs.Positions.{pieces_of}
+use Rattle.snippet_strokes.proofs.Common.{◌==◌}
+use Rattle.snippet_labels.specs.Positions.{blocks}
 
 -- a position is no lower than the one reached, and so no lower than those before it
 at_least : (p : ℕ) (e : PlacedEntry) (others : List PlacedEntry) → p ≤ position_at p e others
@@ -41,7 +46,7 @@ any_false p (x ∷ xs) none =
 
 -- two entries aren't crowded if the second stands no lower than the label of the first has pieces
 pub uncrowded : (p : ℕ) (es : List PlacedEntry) (i j : ℕ) (d d2 : PlacedEntry) → i < j → j < length es
-    → get_or (positions p es) j 0 < get_or (positions p es) i 0 + length (get_or es i d).label
+    → get_or (positions p es) j 0 < get_or (positions p es) i 0 + length (label_at (get_or (positions p es) i 0) (get_or es i d).label)
     → crowds (get_or (positions p es) i 0) (get_or es i d) (get_or es j d2) ≡ false
 uncrowded p [] i j d d2 before within same = absurd (omega (arith, within))
 uncrowded p (e ∷ others) zero zero d d2 before within same = absurd (omega (arith, before))
@@ -90,9 +95,9 @@ pub apart : (fs fe es ee more : ℕ) → ((nat_le es fs && nat_lt fs ee) || (nat
 apart fs fe es ee more is left = grind (arith, nat_tests)
 
 -- where an entry has a label the positions aren't flipped
-pub labelled_positions : (cut : Bool) (given : List LineAnnotation) (es : List PlacedEntry) (k : ℕ) (d : PlacedEntry) → ArePlaced cut given es
+pub labelled_positions : (layout : Layout) (given : List LineAnnotation) (es : List PlacedEntry) (k : ℕ) (d : PlacedEntry) → ArePlaced layout given es
     → k < length es → has_label (get_or es k d) ≡ true → map (λ (e : PlacedEntry). e.position) es ≡ positions 0 es
-labelled_positions cut given es k d placed within has = grind (arith, list_all_at)
+labelled_positions layout given es k d placed within has = grind (arith, list_all_at)
 
 -- where positions aren't flipped, that of an entry is found by its place
 pub position_of : (es : List PlacedEntry) (k : ℕ) (d : PlacedEntry) → map (λ (e : PlacedEntry). e.position) es ≡ positions 0 es → k < length es
@@ -101,9 +106,9 @@ position_of es k d are within =
     sym (get_or-map (λ (e : PlacedEntry). e.position) es k d 0 within) ∙ ap (λ ps. get_or ps k 0) are
 
 -- a later entry starts no farther right
-pub stands_left : (cut : Bool) (given : List LineAnnotation) (es : List PlacedEntry) (i j : ℕ) (d d2 : PlacedEntry) → ArePlaced cut given es → i < j
+pub stands_left : (layout : Layout) (given : List LineAnnotation) (es : List PlacedEntry) (i j : ℕ) (d d2 : PlacedEntry) → ArePlaced layout given es → i < j
     → j < length es → (get_or es j d2).entry.start.display ≤ (get_or es i d).entry.start.display
-stands_left cut given es i j d d2 placed before within =
+stands_left layout given es i j d d2 placed before within =
     let f : PlacedEntry → LineAnnotation = λ e. e.entry in
     let first : get_or (map f es) i d.entry ≡ (get_or es i d).entry = get_or-map f es i d d.entry (omega (arith, before, within)) in
     let second : get_or (map f es) j d.entry ≡ (get_or es j d2).entry = get_or-map f es j d2 d.entry within in
@@ -119,34 +124,44 @@ clear_left : (e f : PlacedEntry) → crosses e f ≡ false → HasPlace e.entry 
 clear_left e f uncrossed place left = search rules
 
 clear_right : (e f : PlacedEntry) → crowds 0 f e ≡ false → has_label e ≡ true → e.entry.start.display ≤ f.entry.start.display → IsClear e f
-clear_right e f uncrowded has left = search rules
+clear_right e f uncrowded has left = record {
+  clear = by_parts (blocks f e) (has_label e) (has_label f) f.entry.start.display f.entry.end.display e.entry.start.display e.entry.end.display
+      e.entry.end.char f.entry.end.char (label_width e.label + 2) uncrowded has left;
+}
+  where
+    by_parts : (block own other : Bool) (fs fe es ee ec fc more : ℕ)
+        → (block || ((own && ((nat_le fs es && nat_lt es fe) || (nat_le es fs && nat_lt fs (ee + more))))
+        && (other || ((0 == 0) && (nat_lt ee fe || (ee == fe && nat_le ec fc)))))) ≡ false
+        → own ≡ true → es ≤ fs → (fe ≤ ee) ⊎ (ee + more ≤ fs)
+    by_parts block own other fs fe es ee ec fc more is has left = grind (arith, nat_tests)
 
 mark_end_le : (f : PlacedEntry) → mark_end f ≤ f.entry.end.display + 1
 mark_end_le f = search rules
 
-pub unpainted : (e f : PlacedEntry) (n : ℕ) → StandsAfter e → IsClear e f → n < length (get_or e.label 0 []) → IsPaintedAt f ((label_place e).1 + n) → ⊥
+pub unpainted : (e f : PlacedEntry) (n : ℕ) → StandsAfter e → IsClear e f → n < length (get_or (pieces_of e) 0 []) → IsPaintedAt f ((label_place e).1 + n) → ⊥
 unpainted e f n at clear inside there =
-    let few : length (get_or e.label 0 []) ≤ label_width e.label = piece_chars_le e.label 0 in
+    let few : length (get_or (pieces_of e) 0 []) ≤ label_width e.label = label_chars_le e 0 in
     elim clear.clear [
       | inl ends ↦ omega (arith, ends, at.from, there.1, mark_end_le f)
       | inr right ↦ omega (arith, right, at.to, there.0, few, inside)
     ]
 
-pub all_clear : (cut : Bool) (given : List LineAnnotation) (es : List PlacedEntry) (i : ℕ) (d : PlacedEntry) → ArePlaced cut given es
+pub all_clear : (layout : Layout) (given : List LineAnnotation) (es : List PlacedEntry) (i : ℕ) (d : PlacedEntry) → ArePlaced layout given es
     → All (λ e. HasPlace e.entry) es → i < length es → has_label (get_or es i d) ≡ true → (get_or es i d).position ≡ 0
     → All (IsClear (get_or es i d)) es
-all_clear cut given es i d placed places within has zero_here j d2 fits =
-    let are = labelled_positions cut given es i d placed within has in
+all_clear layout given es i d placed places within has zero_here j d2 fits =
+    let are = labelled_positions layout given es i d placed within has in
     let zero_there : get_or (positions 0 es) i 0 ≡ 0 = sym (position_of es i d are within) ∙ zero_here in
     elim (cases_lt i j) [
       | inl left ↦ clear_left (get_or es i d) (get_or es j d2) (uncrossed 0 es i j d d2 left fits zero_there has) (places i d within)
-          (stands_left cut given es i j d d2 placed left fits)
+          (stands_left layout given es i j d d2 placed left fits)
       | inr not_left ↦ elim (cases_lt j i) [
         | inl right ↦
             let low : get_or (positions 0 es) j 0 ≡ 0 = omega (arith, zero_there, ascending 0 es j i right within) in
             clear_right (get_or es i d) (get_or es j d2) (subst (λ p. crowds p (get_or es j d2) (get_or es i d) ≡ false) low
-            (uncrowded 0 es j i d2 d right within (omega (arith, zero_there, low, labels_some cut given es placed j d2 fits)))) has
-            (stands_left cut given es j i d2 d placed right within)
+            (uncrowded 0 es j i d2 d right within
+            (omega (arith, zero_there, low, labels_some_at layout given es placed (get_or (positions 0 es) j 0) j d2 fits)))) has
+            (stands_left layout given es j i d2 d placed right within)
         | inr not_right ↦
             let own : j ≡ i = omega (arith, not_left, not_right) in
             let same : get_or es j d2 ≡ get_or es i d = ap (λ k. get_or es k d2) own ∙ get_or_default es i d2 d within in
@@ -160,10 +175,10 @@ all_clear cut given es i d placed places within has zero_here j d2 fits =
     get_or_default (x ∷ xs) (suc k) a b inside = get_or_default xs k a b (omega (arith, inside))
 
 -- marks, painted later, leave each label as it stands
-pub labels_kept : (cut : Bool) (layout : Layout) (row : ℕ) (given : List LineAnnotation) (es : List PlacedEntry) (old new : List (List Cell))
-    → ArePlaced cut given es → All (λ e. HasPlace e.entry) es → AreMarked layout es row old new → All (StandsWhole layout row old) es
+pub labels_kept : (layout : Layout) (row : ℕ) (given : List LineAnnotation) (es : List PlacedEntry) (old new : List (List Cell))
+    → ArePlaced layout given es → All (λ e. HasPlace e.entry) es → AreMarked layout es row old new → All (StandsWhole layout row old) es
     → All (StandsWhole layout row new) es
-labels_kept cut layout row given es old new placed places marked stand k d within m n inside =
+labels_kept layout row given es old new placed places marked stand k d within m n inside =
     let e : PlacedEntry = get_or es k d in
     let r : ℕ = row + (label_place e).0 + m in
     let before = stand k d within m n inside in
@@ -173,10 +188,10 @@ labels_kept cut layout row given es old new placed places marked stand k d withi
             let first : m ≡ 0 = omega (arith, here) in
             let p : ℕ = (label_place e).1 + n in
             let there : layout.code + (label_place e).1 + n ≡ layout.code + p = omega arith in
-            let begun : n < length (get_or e.label 0 []) = subst (λ j. n < length (get_or e.label j [])) first inside in
+            let begun : n < length (get_or (pieces_of e) 0 []) = subst (λ j. n < length (get_or (pieces_of e) j [])) first inside in
             let clear : All (λ (f : PlacedEntry). IsPaintedAt f p → ⊥) es = All-weaker (IsClear e) (λ (f : PlacedEntry). IsPaintedAt f p → ⊥) (λ f is.
             unpainted e f n at is begun) es
-            (all_clear cut given es k d placed places within (has_piece e m (omega (arith, inside))) at.position) in
+            (all_clear layout given es k d placed places within (has_piece e m (omega (arith, inside))) at.position) in
             ap (λ i. cell_at new i (layout.code + (label_place e).1 + n)) here ∙ ap (cell_at new row) there
             ∙ marked.painted.unmarked p (All-permutation (λ (f : PlacedEntry). IsPaintedAt f p → ⊥) es marked.order marked.same clear)
             ∙ sym (ap (cell_at old row) there) ∙ sym (ap (λ i. cell_at old i (layout.code + (label_place e).1 + n)) here) ∙ before

@@ -18,6 +18,9 @@ use Rattle.snippet_strokes.proofs.LabelKept.{label_parts}
 use Rattle.snippet_strokes.proofs.SeenRows.{are_plain, AreSeen, HasNoBars, IsStrokeRow}
 use Rattle.snippet_strokes.proofs.DrawLemmas.{bar_space}
 use Rattle.snippet_strokes.proofs.RowLemmas.{bare_row_right, free_bare_row}
+use Rattle.snippet_labels.proofs.PieceLemmas.{label_pieces-nil, pieces_are}
+use Rattle.snippet_labels.specs.Positions.{pieces_of}
+use Rattle.snippet_strokes.proofs.PieceWrites.{label_shows}
 
 -- ---- what a rule gives for things in another order
 
@@ -90,7 +93,7 @@ one_passes q (x ∷ xs) apart =
 -- the label of an entry that has its place
 abbrev pub placed_label : Layout → PlacedEntry → PlacedLabel
 placed_label layout e =
-    record { entry = e.entry; pieces = e.label; row = (label_place e).0; cell = layout.code + (label_place e).1 }
+    record { entry = e.entry; pieces = (pieces_of e); row = (label_place e).0; cell = layout.code + (label_place e).1 }
 
 -- where a label begins
 stands-at : (layout : Layout) (e : PlacedEntry)
@@ -102,7 +105,7 @@ stands-at layout e = search rules
 reached : (layout : Layout) (e : PlacedEntry) (r c : ℕ) → is_cell_of r c (placed_label layout e) ≡ true
     → Reaches r c (label_write layout 0 e (r - (label_place e).0))
 reached layout e r c is =
-    let parts = in_cell (label_place e).0 (layout.code + (label_place e).1) (length (get_or e.label (r - (label_place e).0) [])) is in
+    let parts = in_cell (label_place e).0 (layout.code + (label_place e).1) (length (get_or (pieces_of e) (r - (label_place e).0) [])) is in
     record { row = omega (arith, parts.0); from = parts.1; to = parts.2 }
   where
     in_cell : (row cell n : ℕ) → (nat_le row r && (nat_le cell c && nat_lt c (cell + n))) ≡ true → (row ≤ r) × (cell ≤ c) × (c < cell + n)
@@ -114,8 +117,8 @@ has_cell : (layout : Layout) (row r c n : ℕ) (e : PlacedEntry) → Reaches (ro
 has_cell layout row r c n e there =
     let first : ℕ = (label_place e).0 in
     let same : r - first ≡ n = omega (arith, there.row) in
-    let long : length (get_or e.label n []) ≡ length (get_or e.label (r - first) []) = ap (λ k. length (get_or e.label k [])) (sym same) in
-    in_cell first (layout.code + (label_place e).1) (length (get_or e.label (r - first) [])) (omega (arith, there.row)) there.from
+    let long : length (get_or (pieces_of e) n []) ≡ length (get_or (pieces_of e) (r - first) []) = ap (λ k. length (get_or (pieces_of e) k [])) (sym same) in
+    in_cell first (layout.code + (label_place e).1) (length (get_or (pieces_of e) (r - first) [])) (omega (arith, there.row)) there.from
     (omega (arith, there.to, long))
   where
     in_cell : (row cell n : ℕ) → row ≤ r → cell ≤ c → c < cell + n → (nat_le row r && (nat_le cell c && nat_lt c (cell + n))) ≡ true
@@ -134,7 +137,7 @@ HasStrokesBeside layout row placed rows =
 
 -- labels that stand whole in the rows from `row` on stand so in those rows alone, for each entry as it is given
 pub LabelsStand-placed : (layout : Layout) (row : ℕ) (es : List LineAnnotation) (placed : List PlacedEntry) (rows below : List (List Cell))
-    → ArePlaced layout.label_lines es placed → All (λ (e : PlacedEntry). HasPlace e.entry) placed → All (StandsWhole layout row rows) placed
+    → ArePlaced layout es placed → All (λ (e : PlacedEntry). HasPlace e.entry) placed → All (StandsWhole layout row rows) placed
     → HasStrokesBeside layout row placed rows → All (IsHung layout row placed rows) placed
     → ((r c : ℕ) → cell_at below r c ≡ cell_at rows (row + r) c) → LabelsStand layout es below
 LabelsStand-placed layout row es placed rows below is places stands beside hung same =
@@ -142,8 +145,7 @@ LabelsStand-placed layout row es placed rows below is places stands beside hung 
     let moved : Reordered f placed es = reordered f placed es (IsPermutation-sym es (map f placed) is.same) in
     let order : List PlacedEntry = moved.order in
     let g : PlacedEntry → PlacedLabel = placed_label layout in
-    let cut : Bool = layout.label_lines in
-    let has : All (HasItsLabel cut) order = All-permutation (HasItsLabel cut) placed order moved.same is.labels in
+    let has : All (HasItsLabel layout) order = All-permutation (HasItsLabel layout) placed order moved.same is.labels in
     let stand : All (StandsWhole layout row rows) order = All-permutation (StandsWhole layout row rows) placed order moved.same stands in
     let leads : All (IsHung layout row placed rows) order = All-permutation (IsHung layout row placed rows) placed order moved.same hung in
     let counted : (r c : ℕ) → count_by (λ e. is_cell_of r c (g e)) placed ≡ count_by (is_cell_of r c) (map g order) = λ r c.
@@ -151,7 +153,8 @@ LabelsStand-placed layout row es placed rows below is places stands beside hung 
     record {
       labels = map g order;
       are = entries order ∙ moved.are;
-      pieces = All-map (λ (l : PlacedLabel). l.pieces ≡ label_pieces cut (label_text l.entry)) g order has;
+      pieces = All-map (λ (l : PlacedLabel). l.pieces ≡ label_pieces layout l.cell (label_text l.entry)) g order
+          (λ k d within. pieces_are layout (get_or order k d) (has k d within));
       stand = All-map (λ (l : PlacedLabel). shows_any l.pieces ≡ true → StandsIn layout below l) g order (λ k d within some.
           let e : PlacedEntry = get_or order k d in
           record {
@@ -169,7 +172,7 @@ LabelsStand-placed layout row es placed rows below is places stands beside hung 
                 let here : layout.code + e.entry.start.display ≡ c = omega (arith, at.column) in
                 let clear : BesideLabels layout row (row + r) c placed = beside_labels layout row r c placed (counted r c ∙ none) in
                 subst (λ n. IsStemCell layout.decor (cell_at rows (row + r) n)) here
-                (leads k d within some r under (omega (arith, above, at.row))
+                (leads k d within (label_shows e some) r under (omega (arith, above, at.row))
                 (subst (λ n. BesideLabels layout row (row + r) n placed) (sym here) clear))
           ] in
           subst (IsStemCell layout.decor) (sym (same r c)) stem);
@@ -178,7 +181,7 @@ LabelsStand-placed layout row es placed rows below is places stands beside hung 
           let few : count_by q placed ≤ 1 = one_passes q placed (λ i j d d2 before within one other.
           let here = reached layout (get_or placed i d) r c one in
           let there = reached layout (get_or placed j d2) r c other in
-          placed_apart cut layout 0 es placed i j d d2 is places before within (r - (label_place (get_or placed i d)).0)
+          placed_apart layout 0 es placed i j d d2 is places before within (r - (label_place (get_or placed i d)).0)
           (r - (label_place (get_or placed j d2)).0) r c here there) in
           let kept : count_by q order ≡ count_by q placed = sum_by-IsPermutation (λ e. cond (q e) 1 0) placed order moved.same in
           omega (arith, few, kept, count-map (is_cell_of r c) g order);
@@ -194,16 +197,15 @@ LabelsStand-placed layout row es placed rows below is places stands beside hung 
 pub LabelsStand-none : (layout : Layout) (es : List LineAnnotation) (rows : List (List Cell)) → All (λ e. label_text e ≡ []) es
     → ((r c : ℕ) → layout.code ≤ c → cell_at rows r c ≡ SPACE) → LabelsStand layout es rows
 LabelsStand-none layout es rows none blank =
-    let cut : Bool = layout.label_lines in
-    let g : LineAnnotation → PlacedLabel = λ e. record { entry = e; pieces = label_pieces cut (label_text e); row = 0; cell = 0 } in
-    let empty_pieces : (k : ℕ) (d : LineAnnotation) → k < length es → label_pieces cut (label_text (get_or es k d)) ≡ [] ∷ [] = λ k d within.
-    ap (label_pieces cut) (none k d within) ∙ no_text cut in
+    let g : LineAnnotation → PlacedLabel = λ e. record { entry = e; pieces = label_pieces layout 0 (label_text e); row = 0; cell = 0 } in
+    let empty_pieces : (k : ℕ) (d : LineAnnotation) → k < length es → label_pieces layout 0 (label_text (get_or es k d)) ≡ [] ∷ [] = λ k d within.
+    ap (label_pieces layout 0) (none k d within) ∙ label_pieces-nil layout 0 in
     let nothing : (k : ℕ) (d : LineAnnotation) → k < length es → shows_any (g (get_or es k d)).pieces ≡ true → ⊥ = λ k d within some.
     false≢true (sym (ap shows_any (empty_pieces k d within)) ∙ some) in
     record {
       labels = map g es;
-      are = entries cut es;
-      pieces = All-map (λ (l : PlacedLabel). l.pieces ≡ label_pieces cut (label_text l.entry)) g es (λ k d within. refl);
+      are = entries es;
+      pieces = All-map (λ (l : PlacedLabel). l.pieces ≡ label_pieces layout l.cell (label_text l.entry)) g es (λ k d within. refl);
       stand = All-map (λ (l : PlacedLabel). shows_any l.pieces ≡ true → StandsIn layout rows l) g es (λ k d within some. absurd (nothing k d within some));
       led = All-map (λ (l : PlacedLabel). shows_any l.pieces ≡ true → IsLedTo layout.decor (map g es) rows l) g es (λ k d within some.
           absurd (nothing k d within some));
@@ -214,14 +216,10 @@ LabelsStand-none layout es rows none blank =
       others = λ r c right _. inl (blank r c right);
     }
   where
-    no_text : (cut : Bool) → label_pieces cut [] ≡ [] ∷ []
-    no_text true = refl
-    no_text false = refl
-
-    entries : (cut : Bool) (xs : List LineAnnotation)
-        → map (λ (l : PlacedLabel). l.entry) (map (λ e. record { entry = e; pieces = label_pieces cut (label_text e); row = 0; cell = 0 }) xs) ≡ xs
-    entries cut [] = refl
-    entries cut (x ∷ xs) = ap (λ es. x ∷ es) (entries cut xs)
+    entries : (xs : List LineAnnotation)
+        → map (λ (l : PlacedLabel). l.entry) (map (λ e. record { entry = e; pieces = label_pieces layout 0 (label_text e); row = 0; cell = 0 }) xs) ≡ xs
+    entries [] = refl
+    entries (x ∷ xs) = ap (λ es. x ∷ es) (entries xs)
 
     no_cell : (r c : ℕ) (ps : List (List ℕ)) → ps ≡ [] ∷ [] → (nat_le 0 r && (nat_le 0 c && nat_lt c (0 + length (get_or ps (r - 0) [])))) ≡ false
     no_cell r c ps is = ap (λ qs. nat_le 0 r && (nat_le 0 c && nat_lt c (0 + length (get_or qs (r - 0) [])))) is ∙ beyond r

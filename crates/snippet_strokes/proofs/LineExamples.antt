@@ -19,7 +19,7 @@ entry kind from to label part = record {
 
 -- numbers of one digit, and the code in this cell
 abbrev layout_to : ℕ → Layout
-layout_to code = record { gutter = 1; code = code; decor = Ascii; label_lines = false }
+layout_to code = record { gutter = 1; code = code; decor = Ascii; label_lines = false; label_end = 0 }
 
 abbrev text : List ℕ
 text = codes "ab cd"

@@ -40,7 +40,7 @@ module _ (layout : Layout) (room : ℕ) (closes : Bool) (source : List Cell) whe
       → rows ≡ stroke_rows layout room closes es source
   stroke_rows_are es rows is =
       let cut = cut_row layout.decor (cuts_of layout room (painting_order is.placed) (overlapped is.placed)) in
-      is.rows_are ∙ ap (λ whole. map cut (take 2 whole) ++ drop 2 whole) is.painted_are ∙ ap rows_at (placed_are layout.label_lines es is.placed is.are)
+      is.rows_are ∙ ap (λ whole. map cut (take 2 whole) ++ drop 2 whole) is.painted_are ∙ ap rows_at (placed_are layout es is.placed is.are)
       ∙ sym (stroke_rows-cut layout room closes es source)
 
 -- ---- the source row
@@ -78,17 +78,17 @@ two_more (x ∷ y ∷ rows) some = refl
 pub stroke_rows_are_painted : (layout : Layout) (room : ℕ) (closes : Bool) (es : List LineAnnotation) (source : List Cell)
     → StrokesPainted layout room closes es source (stroke_rows layout room closes es source)
 stroke_rows_are_painted layout room closes es source =
-    let placed : List PlacedEntry = placed_of layout.label_lines es in
+    let placed : List PlacedEntry = placed_of layout es in
     let order : List PlacedEntry = painting_order placed in
     let count : ℕ = row_count placed in
     let whole : List (List Cell) = painted (drawn_strokes layout 0 (count + 1) placed order) (begun_rows layout closes count source) in
-    let some = labels_some layout.label_lines es placed (placed_of_are layout.label_lines es) in
+    let some = labels_some layout es placed (placed_of_are layout es) in
     let long : length whole ≡ count + 1 = painted_rows-count layout closes placed order source some in
     let parts = two_more whole (omega (arith, long, row_count_some placed)) in
     let cut : List Cell → List Cell = cut_row layout.decor (cuts_of layout room order (overlapped placed)) in
     record {
       placed = placed;
-      are = placed_of_are layout.label_lines es;
+      are = placed_of_are layout es;
       top = get_or whole 0 [];
       marks = get_or whole 1 [];
       lower = drop 2 whole;
@@ -190,7 +190,7 @@ rows_cut layout room closes es source rows is =
     let order = painting_order is.placed in
     let change : List Cell → List Cell = cut_row layout.decor (cuts_of layout room order (overlapped is.placed)) in
     let cut : (row : List Cell) → IsCut layout (wide_entries room layout.decor es) row (change row) = λ row.
-    subst (λ n. IsCut layout n row (change row)) (wide_entries-order layout.label_lines room layout.decor es is.placed is.are)
+    subst (λ n. IsCut layout n row (change row)) (wide_entries-order layout room layout.decor es is.placed is.are)
     (IsCut-cuts layout room order (overlapped is.placed) row) in
     record {
       source_now = change is.top;
@@ -200,13 +200,13 @@ rows_cut layout room closes es source rows is =
       marks_cut = cut is.marks;
       kept = λ uncut. uncut_row layout room (cut_pairs is.placed) is.marks
           (subst (λ placed. list_all (λ pair. not (is_cut room layout.decor pair)) (cut_pairs placed) ≡ true)
-          (sym (placed_are layout.label_lines es is.placed is.are)) uncut);
+          (sym (placed_are layout es is.placed is.are)) uncut);
     }
 
 -- the strokes of a line, painted and then cut, are its rows
 module _ (layout : Layout) (room : ℕ) (closes : Bool) (es : List LineAnnotation) (placed : List PlacedEntry) (flags : List Bool) (above : List (List Cell))
     (source : List Cell) (old new final : List (List Cell)) (row : ℕ)
-    (are : ArePlaced layout.label_lines es placed)
+    (are : ArePlaced layout es placed)
     (old_is : old ≡ above ++ source ∷ [])
     (row_is : row ≡ length above)
     (long : length new ≡ length old + row_count placed)

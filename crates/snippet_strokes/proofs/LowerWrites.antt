@@ -7,6 +7,7 @@ use Rattle.snippet_strokes.proofs.Common.{column_of, foot_glyph, connectors_of, 
 use Rattle.snippet_strokes.proofs.Common.{labels_of, stems_of, Write, glyph_at, painted, stretch_of, rules}
 use Rattle.snippet_strokes.proofs.CellLemmas.{bar_writes, corner_by, drawn_strokes, marks_of, stem_write, written_by}
 use Rattle.snippet_strokes.proofs.PieceWrites.{pieces_at-lowered}
+use Rattle.snippet_labels.specs.Positions.{pieces_of}
 
 -- a write so many rows farther down
 abbrev pub lowered : ℕ → Write → Write
@@ -136,8 +137,8 @@ module _ (layout : Layout) (n : ℕ) where
   labels-lowered row es =
       flat_map-lowered n (label_of layout (n + row)) (label_of layout row) (λ e.
       let first : n + row + (label_place e).0 ≡ n + (row + (label_place e).0) = omega arith in
-      ap (λ r. pieces_at r (layout.code + (label_place e).1) (label_role e.entry.kind) e.label) first
-      ∙ pieces_at-lowered n (row + (label_place e).0) (layout.code + (label_place e).1) (label_role e.entry.kind) e.label) es
+      ap (λ r. pieces_at r (layout.code + (label_place e).1) (label_role e.entry.kind) (pieces_of e)) first
+      ∙ pieces_at-lowered n (row + (label_place e).0) (layout.code + (label_place e).1) (label_role e.entry.kind) (pieces_of e)) es
 
   marks-lowered : (row : ℕ) (es : List PlacedEntry) → marks_of layout (n + row) es ≡ map (lowered n) (marks_of layout row es)
   marks-lowered row es = grind (arith, flat_map-lowered, stretch-lowered)

@@ -4,6 +4,7 @@ use Rattle.std.specs.Prelude.{slice_index_or}
 use Rattle.snippet_strokes.proofs.Common.{if◌then◌else◌, LineAnnotation, strokes_of, underline_role, cell_at, row_at, Cell, unlinked_cell, Layout}
 use Rattle.snippet_strokes.proofs.Common.{code_cell, IsFreeCell, PlacedEntry, entry_width, label_role, is_primary, label_place}
 use Rattle.snippet_strokes.proofs.Common.{first_glyph, mark_end}
+use Rattle.snippet_labels.specs.Positions.{pieces_of}
 
 -- the later entry may be painted over the earlier one: it is narrower, or as wide, and then primary if the earlier one is
 pub record CoversOver (earlier later : LineAnnotation) : Type 0 where
@@ -67,5 +68,5 @@ pub record AreMarked (layout : Layout) (placed : List PlacedEntry) (row : ℕ) (
 -- the label of an entry stands whole at its place, piece below piece, in the role of labels of its kind
 abbrev pub StandsWhole : Layout → ℕ → List (List Cell) → PlacedEntry → Type 0
 StandsWhole layout row rows e =
-    (n k : ℕ) → k < length (slice_index_or e.label n []) → cell_at rows (row + (label_place e).0 + n) (code_cell layout (label_place e).1 + k)
-    ≡ unlinked_cell (label_role e.entry.kind) (slice_index_or (slice_index_or e.label n []) k 0)
+    (n k : ℕ) → k < length (slice_index_or (pieces_of e) n []) → cell_at rows (row + (label_place e).0 + n) (code_cell layout (label_place e).1 + k)
+    ≡ unlinked_cell (label_role e.entry.kind) (slice_index_or (slice_index_or (pieces_of e) n []) k 0)

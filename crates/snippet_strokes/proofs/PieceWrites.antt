@@ -3,8 +3,10 @@ use Rattle.snippet_strokes.proofs.Common.{◌≡◌, ℕ, zero, suc, ◌+◌, �
 use Rattle.snippet_strokes.proofs.Common.{length, map, take, drop, get_or, refl, sym, ap, subst, ◌∙◌, arith, All, All-append, All-cons, All-head, All-nil}
 use Rattle.snippet_strokes.proofs.Common.{All-tail}
 use Rattle.snippet_strokes.proofs.Common.{append_assoc, drop_more, nat_tests, take-append-drop, Layout, code_cell, PlacedEntry, ElementStyle, label_role}
-use Rattle.snippet_strokes.proofs.Common.{has_label, label_of, label_pieces, label_place, label_width, piece_at, pieces_at, shows_any, Write, ArePlaced}
-use Rattle.snippet_strokes.proofs.Common.{LineAnnotation, is_listed, label_text}
+use Rattle.snippet_strokes.proofs.Common.{has_label, label_of, label_place, pieces_width, piece_at, pieces_at, shows_any, Write, ArePlaced}
+use Rattle.snippet_strokes.proofs.Common.{LineAnnotation, is_listed, label_text, pieces_of, rules, if◌then◌else◌}
+use Rattle.snippet_labels.proofs.PieceLemmas.{broken-all, pieces_are}
+use Rattle.snippet_labels.specs.Pieces.{beside_column, broken, label_at, label_of_entry, label_pieces, label_width, text_pieces}
 use Rattle.std.proofs.Common.{encode_utf8_all}
 use Rattle.std.proofs.lemmas.List.Splits.{length-slice_split, slice_split-cons_no, slice_split-cons_yes}
 use Rattle.std.proofs.lemmas.List.Sums.{count_by-le-length}
@@ -57,11 +59,11 @@ All-pieces_at P row cell role (p ∷ ps) each =
 -- the write of a piece of a label
 abbrev pub label_write : Layout → ℕ → PlacedEntry → ℕ → Write
 label_write layout row e n =
-    record { row = row + (label_place e).0 + n; cell = code_cell layout (label_place e).1; text = get_or e.label n []; role = label_role e.entry.kind }
+    record { row = row + (label_place e).0 + n; cell = code_cell layout (label_place e).1; text = get_or (pieces_of e) n []; role = label_role e.entry.kind }
 
 -- pieces that are written where a label stands are the label's
 pub label_as_pieces : (layout : Layout) (row : ℕ) (e : PlacedEntry) (place : ℕ × ℕ) (cell : ℕ) (role : ElementStyle) (pieces : List (List ℕ))
-    → place ≡ label_place e → cell ≡ code_cell layout place.1 → role ≡ label_role e.entry.kind → pieces ≡ e.label
+    → place ≡ label_place e → cell ≡ code_cell layout place.1 → role ≡ label_role e.entry.kind → pieces ≡ pieces_of e
     → pieces_at (row + place.0) cell role pieces ≡ label_of layout row e
 label_as_pieces layout row e place cell role pieces is_place is_cell is_role are =
     ap (λ c. pieces_at (row + place.0) c role pieces) is_cell
@@ -71,16 +73,16 @@ label_as_pieces layout row e place cell role pieces is_place is_cell is_role are
 
 -- what holds of the writes of the pieces of a label holds of those of all
 pub All-label_of : (P : Write → Type 0) (layout : Layout) (row : ℕ) (e : PlacedEntry)
-    → ((n : ℕ) → n < length e.label → 0 < length (get_or e.label n []) → P (label_write layout row e n)) → All P (label_of layout row e)
-All-label_of P layout row e each = All-pieces_at P (row + (label_place e).0) (code_cell layout (label_place e).1) (label_role e.entry.kind) e.label each
+    → ((n : ℕ) → n < length (pieces_of e) → 0 < length (get_or (pieces_of e) n []) → P (label_write layout row e n)) → All P (label_of layout row e)
+All-label_of P layout row e each = All-pieces_at P (row + (label_place e).0) (code_cell layout (label_place e).1) (label_role e.entry.kind) (pieces_of e) each
 
 -- the writes of a label before and after that of one of its pieces
-pub label_parts_of : (layout : Layout) (row : ℕ) (e : PlacedEntry) (n : ℕ) → n < length e.label → 0 < length (get_or e.label n [])
-    → label_of layout row e ≡ pieces_at (row + (label_place e).0) (code_cell layout (label_place e).1) (label_role e.entry.kind) (take n e.label)
+pub label_parts_of : (layout : Layout) (row : ℕ) (e : PlacedEntry) (n : ℕ) → n < length (pieces_of e) → 0 < length (get_or (pieces_of e) n [])
+    → label_of layout row e ≡ pieces_at (row + (label_place e).0) (code_cell layout (label_place e).1) (label_role e.entry.kind) (take n (pieces_of e))
     ++ label_write layout row e n
-    ∷ pieces_at (row + (label_place e).0 + n + 1) (code_cell layout (label_place e).1) (label_role e.entry.kind) (drop (n + 1) e.label)
+    ∷ pieces_at (row + (label_place e).0 + n + 1) (code_cell layout (label_place e).1) (label_role e.entry.kind) (drop (n + 1) (pieces_of e))
 label_parts_of layout row e n within some =
-    let ps : List (List ℕ) = e.label in
+    let ps : List (List ℕ) = pieces_of e in
     let first : ℕ = row + (label_place e).0 in
     let cell : ℕ = code_cell layout (label_place e).1 in
     let role : ElementStyle = label_role e.entry.kind in
@@ -102,8 +104,13 @@ label_parts_of layout row e n within some =
 
 -- a label that shows nothing has no writes
 pub label_of-none : (layout : Layout) (row : ℕ) (e : PlacedEntry) → has_label e ≡ false → label_of layout row e ≡ []
-label_of-none layout row e none = nothing (row + (label_place e).0) e.label none
+label_of-none layout row e none = nothing (row + (label_place e).0) (pieces_of e) (no_pieces (e.position == 0) none)
   where
+    no_pieces : (b : Bool) → (shows_any e.label.beside || shows_any e.label.below) ≡ false
+        → (let pieces : List (List ℕ) = if b then e.label.beside else e.label.below in shows_any pieces ≡ false)
+    no_pieces true none = search rules
+    no_pieces false none = search rules
+
     nothing : (r : ℕ) (ps : List (List ℕ)) → shows_any ps ≡ false
         → pieces_at r (code_cell layout (label_place e).1) (label_role e.entry.kind) ps ≡ []
     nothing r [] empty = refl
@@ -118,9 +125,21 @@ label_of-none layout row e none = nothing (row + (label_place e).0) e.label none
         both true b is = (refl, is)
         both false b is = cc is
 
--- an entry of which a piece has a character has a label
-pub has_piece : (e : PlacedEntry) (n : ℕ) → 0 < length (get_or e.label n []) → has_label e ≡ true
-has_piece e n some = any e.label n some
+-- an entry whose pieces show anything has a label
+pub label_shows : (e : PlacedEntry) → shows_any (pieces_of e) ≡ true → has_label e ≡ true
+label_shows e shows = of_either (e.position == 0) shows
+  where
+    of_either : (b : Bool) → (let pieces : List (List ℕ) = if b then e.label.beside else e.label.below in shows_any pieces ≡ true) → has_label e ≡ true
+    of_either true shows = ap (λ a. a || shows_any e.label.below) shows
+    of_either false shows = either (shows_any e.label.beside) shows
+      where
+        either : (a : Bool) → shows_any e.label.below ≡ true → (a || shows_any e.label.below) ≡ true
+        either true is = refl
+        either false is = is
+
+-- so has one of which a piece has a character
+pub has_piece : (e : PlacedEntry) (n : ℕ) → 0 < length (get_or (pieces_of e) n []) → has_label e ≡ true
+has_piece e n some = label_shows e (any (pieces_of e) n some)
   where
     any : (ps : List (List ℕ)) (n : ℕ) → 0 < length (get_or ps n []) → shows_any ps ≡ true
     any [] n some = absurd (omega (arith, some))
@@ -134,7 +153,7 @@ piece_within (p ∷ ps) zero some = omega arith
 piece_within (p ∷ ps) (suc n) some = omega (arith, piece_within ps n some)
 
 -- a piece has no more characters than the longest has bytes
-pub piece_chars_le : (ps : List (List ℕ)) (n : ℕ) → length (get_or ps n []) ≤ label_width ps
+pub piece_chars_le : (ps : List (List ℕ)) (n : ℕ) → length (get_or ps n []) ≤ pieces_width ps
 piece_chars_le [] n = omega arith
 piece_chars_le (p ∷ ps) zero = omega (
   arith,
@@ -146,6 +165,14 @@ piece_chars_le (p ∷ ps) (suc n) = omega (
   greatest-cons (length (encode_utf8_all p)) (map (λ (q : List ℕ). length (encode_utf8_all q)) ps),
   piece_chars_le ps n,
 )
+
+-- nor more than the label is long
+pub label_chars_le : (e : PlacedEntry) (n : ℕ) → length (get_or (pieces_of e) n []) ≤ label_width e.label
+label_chars_le e n = either (e.position == 0)
+  where
+    either : (b : Bool) → (let pieces : List (List ℕ) = if b then e.label.beside else e.label.below in length (get_or pieces n []) ≤ label_width e.label)
+    either true = omega (arith, piece_chars_le e.label.beside n)
+    either false = omega (arith, piece_chars_le e.label.below n)
 
 -- ---- how large the pieces of a text are
 
@@ -172,22 +199,46 @@ pieces_short [] = All-cons (λ (p : List ℕ). length p ≤ 0) [] [] (omega arit
 pieces_short (c ∷ cs) = short_more c cs (pieces_short cs)
 
 -- no piece of a label is longer than its text, and there are not many more than it has characters
-pub pieces_fit : (cut : Bool) (text : List ℕ) → All (λ p. length p ≤ length text) (label_pieces cut text)
+pub pieces_fit : (cut : Bool) (text : List ℕ) → All (λ p. length p ≤ length text) (text_pieces cut text)
 pieces_fit true text = pieces_short text
 pieces_fit false text = All-cons (λ (p : List ℕ). length p ≤ length text) text [] (omega arith) (All-nil (λ (p : List ℕ). length p ≤ length text))
 
-pub pieces_few : (cut : Bool) (text : List ℕ) → length (label_pieces cut text) ≤ length text + 1
+pub pieces_few : (cut : Bool) (text : List ℕ) → length (text_pieces cut text) ≤ length text + 1
 pieces_few true text = omega (arith, length-slice_split (λ c. c == 10) text, count_by-le-length (λ c. c == 10) text)
 pieces_few false text = omega arith
 
 -- at least one
-pub pieces_some : (cut : Bool) (text : List ℕ) → 0 < length (label_pieces cut text)
+pub pieces_some : (cut : Bool) (text : List ℕ) → 0 < length (text_pieces cut text)
 pieces_some true text = omega (arith, length-slice_split (λ c. c == 10) text)
 pieces_some false text = omega arith
 
--- so each placed entry has a piece
-pub labels_some : (cut : Bool) (es : List LineAnnotation) (placed : List PlacedEntry) → ArePlaced cut es placed → All (λ e. 0 < length e.label) placed
-labels_some cut es placed is k d within = omega (arith, ap length (is.labels k d within), pieces_some cut (label_text (get_or placed k d).entry))
+-- the text of the label of an entry, as it is broken where it stands
+abbrev pub shown_text : Layout → PlacedEntry → List ℕ
+shown_text layout e = broken layout (code_cell layout (label_place e).1) (label_text e.entry)
+
+-- the pieces of a placed entry are those of that text
+pub own_pieces : (layout : Layout) (es : List LineAnnotation) (placed : List PlacedEntry) → ArePlaced layout es placed
+    → All (λ e. pieces_of e ≡ text_pieces layout.label_lines (shown_text layout e)) placed
+own_pieces layout es placed is k d within = pieces_are layout (get_or placed k d) (is.labels k d within)
+
+-- so each placed entry has a piece, whichever way it stands
+pub labels_some_at : (layout : Layout) (es : List LineAnnotation) (placed : List PlacedEntry) → ArePlaced layout es placed → (position : ℕ)
+    → All (λ e. 0 < length (label_at position e.label)) placed
+labels_some_at layout es placed is position k d within =
+    let e : LineAnnotation = (get_or placed k d).entry in
+    subst (λ label. 0 < length (label_at position label)) (sym (is.labels k d within)) (either e (position == 0))
+  where
+    some : (cell : ℕ) (text : List ℕ) → 0 < length (label_pieces layout cell text)
+    some cell text = pieces_some layout.label_lines (broken layout cell text)
+
+    either : (e : LineAnnotation) (b : Bool)
+        → (let pieces : List (List ℕ) = if b then (label_of_entry layout e).beside else (label_of_entry layout e).below in 0 < length pieces)
+    either e true = some (code_cell layout (beside_column e)) (label_text e)
+    either e false = some (code_cell layout e.start.display) (label_text e)
+
+pub labels_some : (layout : Layout) (es : List LineAnnotation) (placed : List PlacedEntry) → ArePlaced layout es placed
+    → All (λ e. 0 < length (pieces_of e)) placed
+labels_some layout es placed is k d within = labels_some_at layout es placed is (get_or placed k d).position k d within
 
 -- ---- the characters of pieces
 
@@ -214,11 +265,14 @@ pieces_all P [] all = All-cons (All P) [] [] (All-nil P) (All-nil (All P))
 pieces_all P (c ∷ cs) all = free_more P c cs (All-head P c cs all) (pieces_all P cs (All-tail P c cs all))
 
 -- so it is with the pieces of labels
-pub labels_free : (cut : Bool) (es : List LineAnnotation) (placed : List PlacedEntry) → ArePlaced cut es placed → All (λ e. AreFree e.label) placed
-labels_free cut es placed is k d within =
-    subst AreFree (sym (is.labels k d within)) (of_text cut (label_text (get_or placed k d).entry) (free_label_text (get_or placed k d).entry))
+pub labels_free : (layout : Layout) (es : List LineAnnotation) (placed : List PlacedEntry) → ArePlaced layout es placed
+    → All (λ e. AreFree (pieces_of e)) placed
+labels_free layout es placed is k d within =
+    let e : PlacedEntry = get_or placed k d in
+    subst AreFree (sym (own_pieces layout es placed is k d within)) (of_text layout.label_lines (shown_text layout e)
+    (broken-all (λ c. is_listed c ≡ false) layout (code_cell layout (label_place e).1) (label_text e.entry) refl (free_label_text e.entry)))
   where
-    of_text : (cut : Bool) (text : List ℕ) → All (λ c. is_listed c ≡ false) text → AreFree (label_pieces cut text)
+    of_text : (cut : Bool) (text : List ℕ) → All (λ c. is_listed c ≡ false) text → AreFree (text_pieces cut text)
     of_text true text free = pieces_all (λ c. is_listed c ≡ false) text free
     of_text false text free = All-cons (All (λ c. is_listed c ≡ false)) text [] free (All-nil (All (λ c. is_listed c ≡ false)))
 

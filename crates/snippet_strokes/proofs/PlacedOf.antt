@@ -8,6 +8,7 @@ use Rattle.snippet_strokes.proofs.Common.{placed_of, position_after, position_at
 use Rattle.snippet_strokes.proofs.Common.{PlacedEntry, labelled, placed_at, ArePlaced-from, placed_of-at, rules}
 use Rattle.snippet_strokes.proofs.PositionLemmas.{length-line_positions}
 use Rattle.snippet_strokes.proofs.PaintOrder.{IsPermutation-ordered_by}
+use Rattle.snippet_strokes.proofs.Common.{Layout}
 
 -- ---- the order from right to left
 
@@ -51,63 +52,63 @@ from_right (e ∷ es) falls (suc i) (suc j) d before within = from_right es fall
 
 -- ---- the places
 
-entries-labelled : (cut : Bool) (es : List LineAnnotation) → map (λ (e : PlacedEntry). e.entry) (labelled cut es) ≡ es
-entries-labelled cut [] = refl
-entries-labelled cut (e ∷ es) = ap (λ xs. e ∷ xs) (entries-labelled cut es)
+entries-labelled : (layout : Layout) (es : List LineAnnotation) → map (λ (e : PlacedEntry). e.entry) (labelled layout es) ≡ es
+entries-labelled layout [] = refl
+entries-labelled layout (e ∷ es) = ap (λ xs. e ∷ xs) (entries-labelled layout es)
 
-labels-labelled : (cut : Bool) (es : List LineAnnotation) → All (HasItsLabel cut) (labelled cut es)
-labels-labelled cut [] = All-nil (HasItsLabel cut)
-labels-labelled cut (e ∷ es) = All-cons (HasItsLabel cut) (placed_at cut (e, (0, 0))) (labelled cut es) refl (labels-labelled cut es)
+labels-labelled : (layout : Layout) (es : List LineAnnotation) → All (HasItsLabel layout) (labelled layout es)
+labels-labelled layout [] = All-nil (HasItsLabel layout)
+labels-labelled layout (e ∷ es) = All-cons (HasItsLabel layout) (placed_at layout (e, (0, 0))) (labelled layout es) refl (labels-labelled layout es)
 
 length-look_counts : (p : ℕ) (es : List PlacedEntry) → length (look_counts p es) ≡ length es
 length-look_counts p [] = refl
 length-look_counts p (e ∷ es) = omega (arith, length-look_counts (position_after (position_at p e es) e es) es)
 
 -- entries at places that are as many
-abbrev at_places : Bool → List LineAnnotation → List ℕ → List ℕ → List PlacedEntry
-at_places cut es ps ns = map (placed_at cut) (zip es (zip ps ns))
+abbrev at_places : Layout → List LineAnnotation → List ℕ → List ℕ → List PlacedEntry
+at_places layout es ps ns = map (placed_at layout) (zip es (zip ps ns))
 
-positions-at_places : (cut : Bool) (es : List LineAnnotation) (ps ns : List ℕ) → length ps ≡ length es → length ns ≡ length es
-    → map (λ (e : PlacedEntry). e.position) (at_places cut es ps ns) ≡ ps
-positions-at_places cut [] [] ns long_ps long_ns = refl
-positions-at_places cut [] (p ∷ ps) ns long_ps long_ns = absurd (omega (arith, long_ps))
-positions-at_places cut (e ∷ es) [] ns long_ps long_ns = absurd (omega (arith, long_ps))
-positions-at_places cut (e ∷ es) (p ∷ ps) [] long_ps long_ns = absurd (omega (arith, long_ns))
-positions-at_places cut (e ∷ es) (p ∷ ps) (n ∷ ns) long_ps long_ns =
-    ap (λ xs. p ∷ xs) (positions-at_places cut es ps ns (omega (arith, long_ps)) (omega (arith, long_ns)))
+positions-at_places : (layout : Layout) (es : List LineAnnotation) (ps ns : List ℕ) → length ps ≡ length es → length ns ≡ length es
+    → map (λ (e : PlacedEntry). e.position) (at_places layout es ps ns) ≡ ps
+positions-at_places layout [] [] ns long_ps long_ns = refl
+positions-at_places layout [] (p ∷ ps) ns long_ps long_ns = absurd (omega (arith, long_ps))
+positions-at_places layout (e ∷ es) [] ns long_ps long_ns = absurd (omega (arith, long_ps))
+positions-at_places layout (e ∷ es) (p ∷ ps) [] long_ps long_ns = absurd (omega (arith, long_ns))
+positions-at_places layout (e ∷ es) (p ∷ ps) (n ∷ ns) long_ps long_ns =
+    ap (λ xs. p ∷ xs) (positions-at_places layout es ps ns (omega (arith, long_ps)) (omega (arith, long_ns)))
 
-counts-at_places : (cut : Bool) (es : List LineAnnotation) (ps ns : List ℕ) → length ps ≡ length es → length ns ≡ length es
-    → map (λ (e : PlacedEntry). e.looked) (at_places cut es ps ns) ≡ ns
-counts-at_places cut [] ps [] long_ps long_ns = refl
-counts-at_places cut [] ps (n ∷ ns) long_ps long_ns = absurd (omega (arith, long_ns))
-counts-at_places cut (e ∷ es) [] ns long_ps long_ns = absurd (omega (arith, long_ps))
-counts-at_places cut (e ∷ es) (p ∷ ps) [] long_ps long_ns = absurd (omega (arith, long_ns))
-counts-at_places cut (e ∷ es) (p ∷ ps) (n ∷ ns) long_ps long_ns =
-    ap (λ xs. n ∷ xs) (counts-at_places cut es ps ns (omega (arith, long_ps)) (omega (arith, long_ns)))
+counts-at_places : (layout : Layout) (es : List LineAnnotation) (ps ns : List ℕ) → length ps ≡ length es → length ns ≡ length es
+    → map (λ (e : PlacedEntry). e.looked) (at_places layout es ps ns) ≡ ns
+counts-at_places layout [] ps [] long_ps long_ns = refl
+counts-at_places layout [] ps (n ∷ ns) long_ps long_ns = absurd (omega (arith, long_ns))
+counts-at_places layout (e ∷ es) [] ns long_ps long_ns = absurd (omega (arith, long_ps))
+counts-at_places layout (e ∷ es) (p ∷ ps) [] long_ps long_ns = absurd (omega (arith, long_ns))
+counts-at_places layout (e ∷ es) (p ∷ ps) (n ∷ ns) long_ps long_ns =
+    ap (λ xs. n ∷ xs) (counts-at_places layout es ps ns (omega (arith, long_ps)) (omega (arith, long_ns)))
 
-unplaced-at_places : (cut : Bool) (es : List LineAnnotation) (ps ns : List ℕ) → length ps ≡ length es → length ns ≡ length es
-    → map unplaced (at_places cut es ps ns) ≡ map unplaced (labelled cut es)
-unplaced-at_places cut [] ps ns long_ps long_ns = refl
-unplaced-at_places cut (e ∷ es) [] ns long_ps long_ns = absurd (omega (arith, long_ps))
-unplaced-at_places cut (e ∷ es) (p ∷ ps) [] long_ps long_ns = absurd (omega (arith, long_ns))
-unplaced-at_places cut (e ∷ es) (p ∷ ps) (n ∷ ns) long_ps long_ns =
-    ap (λ xs. unplaced (placed_at cut (e, (p, n))) ∷ xs) (unplaced-at_places cut es ps ns (omega (arith, long_ps)) (omega (arith, long_ns)))
+unplaced-at_places : (layout : Layout) (es : List LineAnnotation) (ps ns : List ℕ) → length ps ≡ length es → length ns ≡ length es
+    → map unplaced (at_places layout es ps ns) ≡ map unplaced (labelled layout es)
+unplaced-at_places layout [] ps ns long_ps long_ns = refl
+unplaced-at_places layout (e ∷ es) [] ns long_ps long_ns = absurd (omega (arith, long_ps))
+unplaced-at_places layout (e ∷ es) (p ∷ ps) [] long_ps long_ns = absurd (omega (arith, long_ns))
+unplaced-at_places layout (e ∷ es) (p ∷ ps) (n ∷ ns) long_ps long_ns =
+    ap (λ xs. unplaced (placed_at layout (e, (p, n))) ∷ xs) (unplaced-at_places layout es ps ns (omega (arith, long_ps)) (omega (arith, long_ns)))
 
 -- the entries of a line, placed as the rule says
-pub placed_of_are : (cut : Bool) (es : List LineAnnotation) → ArePlaced cut es (placed_of cut es)
-placed_of_are cut es =
+pub placed_of_are : (layout : Layout) (es : List LineAnnotation) → ArePlaced layout es (placed_of layout es)
+placed_of_are layout es =
     let entry : PlacedEntry → LineAnnotation = λ e. e.entry in
     let ordered : List LineAnnotation = ordered_by is_placed_before es in
-    let sorted : List PlacedEntry = labelled cut ordered in
+    let sorted : List PlacedEntry = labelled layout ordered in
     let ps : List ℕ = line_positions sorted in
     let ns : List ℕ = look_counts 0 sorted in
-    let all : length sorted ≡ length ordered = length-map ordered (λ e. placed_at cut (e, (0, 0))) in
+    let all : length sorted ≡ length ordered = length-map ordered (λ e. placed_at layout (e, (0, 0))) in
     let long_ps : length ps ≡ length ordered = length-line_positions sorted ∙ all in
     let long_ns : length ns ≡ length ordered = length-look_counts 0 sorted ∙ all in
-    subst (ArePlaced cut es) (sym (placed_of-at cut es))
-    (ArePlaced-from cut es (labelled cut es) sorted (at_places cut ordered ps ns) (entries-labelled cut es) (labels-labelled cut es)
-    (IsPermutation-map (λ e. placed_at cut (e, (0, 0))) es ordered (IsPermutation-ordered_by is_placed_before es))
-    (entries-labelled cut ordered ∙ ap (ordered_by is_placed_before) (sym (entries-labelled cut es)))
-    (subst IsFromRight (sym (entries-labelled cut ordered)) (from_right ordered (Falls-ordered_by es)))
-    (positions-at_places cut ordered ps ns long_ps long_ns) (counts-at_places cut ordered ps ns long_ps long_ns)
-    (unplaced-at_places cut ordered ps ns long_ps long_ns))
+    subst (ArePlaced layout es) (sym (placed_of-at layout es))
+    (ArePlaced-from layout es (labelled layout es) sorted (at_places layout ordered ps ns) (entries-labelled layout es) (labels-labelled layout es)
+    (IsPermutation-map (λ e. placed_at layout (e, (0, 0))) es ordered (IsPermutation-ordered_by is_placed_before es))
+    (entries-labelled layout ordered ∙ ap (ordered_by is_placed_before) (sym (entries-labelled layout es)))
+    (subst IsFromRight (sym (entries-labelled layout ordered)) (from_right ordered (Falls-ordered_by es)))
+    (positions-at_places layout ordered ps ns long_ps long_ns) (counts-at_places layout ordered ps ns long_ps long_ns)
+    (unplaced-at_places layout ordered ps ns long_ps long_ns))

@@ -7,6 +7,8 @@ use Rattle.snippet_strokes.proofs.Common.{crosses, position_at, position_after, 
 use Rattle.snippet_strokes.proofs.Common.{greatest, rows_below, is_start, is_start_part, cases_lt, inl, inr, nat_tests, not, false≢true, ArePlaced, HasPlace}
 use Rattle.snippet_strokes.proofs.Common.{crowds, rules}
 use Rattle.snippet_parts.proofs.RawDepthLemmas.{greatest-cons}
+use Rattle.snippet_strokes.proofs.Common.{Layout, label_at}
+use Rattle.snippet_labels.specs.Positions.{pieces_of}
 
 -- there are as many positions as entries
 pub length-positions : (p : ℕ) (es : List PlacedEntry) → length (positions p es) ≡ length es
@@ -31,7 +33,7 @@ positions-unlabelled p (e ∷ others) none flat =
     let here : position_at p e others ≡ p = at_bare p e others own in
     let uncrowded : list_any (crowds p e) others ≡ false = list_any_none (crowds p e) others (λ k d within.
     crowds_bare p e (get_or others k d) own own_flat (rest k d within) (rest_flat k d within)) in
-    let after : position_after p e others ≡ p = ap (λ t. cond t (p + length e.label) p) uncrowded in
+    let after : position_after p e others ≡ p = ap (λ t. cond t (p + length (label_at p e.label)) p) uncrowded in
     All-cons (λ q. q ≡ p) (position_at p e others) _ here (subst (λ q.
     All (λ x. x ≡ p) (positions (position_after q e others) others)) (sym here)
     (subst (λ q. All (λ x. x ≡ p) (positions q others)) (sym after) (positions-unlabelled p others rest rest_flat)))
@@ -86,7 +88,7 @@ pub stemless_beside : (e : PlacedEntry) → e.position ≡ 0 → has_stem e ≡ 
 stemless_beside e beside = ap (λ n. nat_lt 0 n && (has_label e || takes_space e)) beside
 
 -- the rows down to the last piece of each label are among those that are begun
-pub HasRows-row_count : (row n : ℕ) (es : List PlacedEntry) → All (λ e. 0 < length e.label) es → n ≡ row + row_count es → All (HasRows row n) es
+pub HasRows-row_count : (row n : ℕ) (es : List PlacedEntry) → All (λ e. 0 < length (pieces_of e)) es → n ≡ row + row_count es → All (HasRows row n) es
 HasRows-row_count row n es some is k d within =
     let e : PlacedEntry = get_or es k d in
     let needs = rows_at_most (are_starts es) es k d within in
@@ -109,7 +111,8 @@ HasRows-row_count row n es some is k d within =
         not_true true true is = cc is
         not_true false b is = cc is
 
-    deep : (e : PlacedEntry) → 0 < length e.label → (e.position ≤ rows_below false e) × ((label_place e).0 + length e.label ≤ rows_below false e + 1)
+    deep : (e : PlacedEntry) → 0 < length (pieces_of e)
+        → (e.position ≤ rows_below false e) × ((label_place e).0 + length (pieces_of e) ≤ rows_below false e + 1)
     deep e some = elim (cases_lt 0 e.position) [
       | inl hangs ↦ grind (arith, nat_tests, hangs, label_place)
       | inr beside ↦ grind (arith, nat_tests, beside, some, label_place)
@@ -125,7 +128,7 @@ look_counts_low p n [] low = All-nil (λ q. q ≤ n)
 look_counts_low p n (e ∷ others) low =
     grind (arith, All-cons, ltb-true, look_counts_low (position_after (position_at p e others) e others) n others (omega (arith, low)))
 
-pub looked_of_placed : (cut : Bool) (es : List LineAnnotation) (placed : List PlacedEntry) → ArePlaced cut es placed
+pub looked_of_placed : (layout : Layout) (es : List LineAnnotation) (placed : List PlacedEntry) → ArePlaced layout es placed
     → All (λ e. e.looked ≤ length placed) placed
-looked_of_placed cut es placed is =
+looked_of_placed layout es placed is =
     of_numbers (λ e. e.looked) (λ q. q ≤ length placed) placed (look_counts 0 placed) is.looked_are (look_counts_low 0 (length placed) placed (omega arith))

@@ -34,7 +34,7 @@ IsLedTo decor labels rows l =
 pub record LabelsStand (layout : Layout) (es : List LineAnnotation) (rows : List (List Cell)) : Type 0 where
   pub labels : List PlacedLabel
   pub are : map (λ (l : PlacedLabel). l.entry) labels ≡ es
-  pub pieces : All (λ l. l.pieces ≡ label_pieces layout.label_lines (label_text l.entry)) labels
+  pub pieces : All (λ l. l.pieces ≡ label_pieces layout l.cell (label_text l.entry)) labels
   pub stand : All (λ l. shows_any l.pieces ≡ true → StandsIn layout rows l) labels
   pub led : All (λ l. shows_any l.pieces ≡ true → IsLedTo layout.decor labels rows l) labels
   pub apart : (r c : ℕ) → count_by (is_cell_of r c) labels ≤ 1

@@ -6,6 +6,7 @@ use Rattle.snippet_strokes.proofs.Common.{placeholder_of, slice_index_or, AreRep
 use Rattle.snippet_strokes.proofs.Common.{label_pieces, space_cell, IsMarkCell, IsBarCell, is_mark_role, label_role, label_text, IsFree, bare_row, is_uncut}
 use Rattle.snippet_strokes.proofs.SeenLabels.{IsLabelledAtEnd, LabelsStand}
 use Rattle.snippet_strokes.proofs.DrawnCells.{StandsFrom}
+use Rattle.snippet_strokes.proofs.Common.{beside_column, code_cell}
 
 -- Entries that stand for whole spans, and the marks that they leave below columns.
 -- how many entries of a line are wide, in a room of so many columns
@@ -40,19 +41,19 @@ pub record IsEntryMark (es : List LineAnnotation) (p : ℕ) (kind : AnnotationKi
   pub primary_wins : is_primary kind ≡ false → (other : LineAnnotation) → Contains es other → EntryCovers other p → other.kind ≡ Primary
       → entry_width entry < entry_width other
 
--- the first piece of the label of an entry
-abbrev pub first_piece : Bool → LineAnnotation → List ℕ
-first_piece cut e = slice_index_or (label_pieces cut (label_text e)) 0 []
+-- the first piece of the label of an entry, as it stands after its mark
+abbrev pub first_piece : Layout → LineAnnotation → List ℕ
+first_piece layout e = slice_index_or (label_pieces layout (code_cell layout (beside_column e)) (label_text e)) 0 []
 
 -- below each column that has a mark the row holds it, and below each column that no entry covers no cell is in the role of
 -- marks. Where no entry has a label that shows anything, a space stands there; after the mark of a line's one entry stand
 -- a space and the first piece of its label, and nothing more
-pub record ShowsMarks (cut : Bool) (decor : DecorStyle) (code : ℕ) (es : List LineAnnotation) (row : List Cell) : Type 0 where
+pub record ShowsMarks (layout : Layout) (decor : DecorStyle) (code : ℕ) (es : List LineAnnotation) (row : List Cell) : Type 0 where
   pub marks : (p : ℕ) (kind : AnnotationKind) → IsEntryMark es p kind → IsMarkCell decor kind (slice_index_or row (code + p) SPACE)
   pub unmarked : (p : ℕ) → All (λ e. EntryCovers e p → ⊥) es → is_mark_role (slice_index_or row (code + p) SPACE).role ≡ false
   pub spaces : All (λ e. label_text e ≡ []) es → (p : ℕ) → All (λ e. EntryCovers e p → ⊥) es → slice_index_or row (code + p) SPACE ≡ SPACE
-  pub lone : (e : LineAnnotation) → es ≡ e ∷ [] → e.start.display < e.end.display → 0 < length (first_piece cut e)
-      → drop (code + e.end.display) row ≡ SPACE ∷ text_cells (label_role e.kind) (first_piece cut e)
+  pub lone : (e : LineAnnotation) → es ≡ e ∷ [] → e.start.display < e.end.display → 0 < length (first_piece layout e)
+      → drop (code + e.end.display) row ≡ SPACE ∷ text_cells (label_role e.kind) (first_piece layout e)
 
 -- a row of strokes: left of the bars it is as a separator row, or as the closing row where the window closes; where bars
 -- stand it holds nothing but parts of them; on a plain line spaces stand between them and the first entry; and it holds no
@@ -67,7 +68,7 @@ pub record IsStrokeRow (layout : Layout) (plain : Bool) (es : List LineAnnotatio
 -- Where no entry is cut, no label is lost
 pub record AreStrokes (layout : Layout) (room : ℕ) (es : List LineAnnotation) (closes : Bool) (rows : List (List Cell)) : Type 0 where
   pub some : are_plain room layout.decor es ≡ true → 0 < length es → 0 < length rows
-  pub marks : are_plain room layout.decor es ≡ true → ShowsMarks layout.label_lines layout.decor layout.code es (row_at rows 0)
+  pub marks : are_plain room layout.decor es ≡ true → ShowsMarks layout layout.decor layout.code es (row_at rows 0)
   pub labels : is_uncut room layout es ≡ true → All IsLabelledAtEnd es → LabelsStand layout es rows
   pub are : (k : ℕ) → k < length rows → IsStrokeRow layout (are_plain room layout.decor es) es (closes && k + 1 == length rows) (row_at rows k)
 

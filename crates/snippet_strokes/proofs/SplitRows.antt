@@ -208,14 +208,14 @@ module _ (layout : Layout) where
 -- as many rows as are begun are enough
 pub enough_begun : {row count : ℕ} {placed : List PlacedEntry} (layout : Layout) (dropped : ℕ) (entries : List LineAnnotation)
     (old begun : List (List Cell)) (sep end : List Cell) → AreDrawable layout entries
-    → ArePlaced layout.label_lines (map (shifted dropped) entries) placed → count ≡ row_count placed → length old ≡ row + 1
+    → ArePlaced layout (map (shifted dropped) entries) placed → count ≡ row_count placed → length old ≡ row + 1
     → begun ≡ old ++ replicate (count - 1) sep ++ end ∷ [] → length begun ≤ 2 ^ 60 → AreEnough layout row (length begun) placed
 enough_begun {row} {count} {placed} layout dropped entries old begun sep end drawable are is last begins small =
     record {
       marks = omega (arith, is, row_count_some placed, last, rows_begun old begun sep end count (omega (arith, is, row_count_some placed)) begins);
       small = small;
       rows = rows_ready placed old begun sep end count (row + 1) (length begun)
-          (labels_some layout.label_lines (map (shifted dropped) entries) placed are) is (sym last) begins refl;
+          (labels_some layout (map (shifted dropped) entries) placed are) is (sym last) begins refl;
       ready = all_ready layout dropped entries placed drawable are;
     }
 
@@ -286,7 +286,7 @@ painted_seen layout room closes es source rows place places bar_cells bare_bars 
     let labelled = painted (labels_of layout 1 placed) stemmed in
     let marked = painted (marks_of layout 1 order) labelled in
     let many : length joined ≡ length begun = (DrawsFrom-connectors layout 1 placed begun (HasRows-row_count 1 (length begun) placed
-    (labels_some layout.label_lines es placed is.are) long)).count in
+    (labels_some layout es placed is.are) long)).count in
     let under = under_painted layout 0 (length joined) (length begun) placed begun joined barred stemmed labelled many refl refl refl refl in
     let all : painted (drawn_strokes layout 0 (row_count placed + 1) placed order) begun ≡ marked =
     grind (arith, common_steps, placed, order, begun, long, marks_painted, labelled, marked, under) in

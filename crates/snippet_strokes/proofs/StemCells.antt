@@ -25,6 +25,7 @@ use Rattle.snippet_strokes.proofs.StrokeCells.{BesideLabels}
 use Rattle.snippet_strokes.proofs.CutWords.{cuts_of}
 use Rattle.snippet_strokes.proofs.PositionLemmas.{HasRows-row_count, row_count_some}
 use Rattle.snippet_strokes.proofs.CutLemmas.{stroke_rows-cut}
+use Rattle.snippet_labels.specs.Positions.{pieces_of}
 
 -- ---- glyphs
 
@@ -213,7 +214,7 @@ module _ (layout : Layout) (count : ℕ) where
           (All-cons Inside foot [] (omega (arith, mark)) (All-nil Inside))
       by_part (MultilineLine depth) = All-nil Inside
 
-  label_inside : (e : PlacedEntry) → HasRows 1 count e → (n : ℕ) → n < length e.label → 0 < length (get_or e.label n [])
+  label_inside : (e : PlacedEntry) → HasRows 1 count e → (n : ℕ) → n < length (pieces_of e) → 0 < length (get_or (pieces_of e) n [])
       → 1 + (label_place e).0 + n < count
   label_inside e rows n within some = omega (arith, rows.label (has_piece e n some), within)
 
@@ -242,7 +243,7 @@ module _ (layout : Layout) (count : ℕ) where
 
 -- the rows over which strokes are painted stay as many
 pub painted_rows-count : (layout : Layout) (closes : Bool) (placed order : List PlacedEntry) (source : List Cell)
-    → All (λ e. 0 < length e.label) placed
+    → All (λ e. 0 < length (pieces_of e)) placed
     → length (painted (drawn_strokes layout 0 (row_count placed + 1) placed order) (begun_rows layout closes (row_count placed) source)) ≡ row_count placed + 1
 painted_rows-count layout closes placed order source pieces =
     let count : ℕ = row_count placed in
@@ -257,16 +258,16 @@ painted_rows-count layout closes placed order source pieces =
 
 -- so there are as many rows of strokes as the entries ask for, and the source row
 pub stroke_rows-count : (layout : Layout) (room : ℕ) (closes : Bool) (es : List LineAnnotation) (source : List Cell)
-    → length (stroke_rows layout room closes es source) ≡ row_count (placed_of layout.label_lines es) + 1
+    → length (stroke_rows layout room closes es source) ≡ row_count (placed_of layout es) + 1
 stroke_rows-count layout room closes es source =
-    let placed : List PlacedEntry = placed_of layout.label_lines es in
+    let placed : List PlacedEntry = placed_of layout es in
     let order : List PlacedEntry = painting_order placed in
     let whole : List (List Cell) = painted (drawn_strokes layout 0 (row_count placed + 1) placed order) (begun_rows layout closes (row_count placed) source) in
     let cut : List Cell → List Cell = cut_row layout.decor (cuts_of layout room order (overlapped placed)) in
     ap length (stroke_rows-cut layout room closes es source)
     ∙ length-append (map cut (take 2 whole)) (drop 2 whole) ∙ ap (λ n. n + length (drop 2 whole)) (length-map (take 2 whole) cut)
     ∙ sym (length-append (take 2 whole) (drop 2 whole)) ∙ ap length (take-append-drop 2 whole) ∙ painted_rows-count layout closes placed order source
-    (labels_some layout.label_lines es placed (placed_of_are layout.label_lines es))
+    (labels_some layout es placed (placed_of_are layout es))
 
 -- The text that the cells of a window print.
 -- the characters of cells that were written

@@ -11,7 +11,7 @@ use Rattle.snippet_strokes.proofs.Common.{LineAnnotationType, Singleline, Multil
 use Rattle.snippet_strokes.proofs.Common.{connector_of, corner_of, foot_glyph, connectors_of, corners_of, HasBarCell, HasBarCellAt, stem_of, stems_of}
 use Rattle.snippet_strokes.proofs.Common.{common_steps, nat_tests, rules}
 use Rattle.snippet_strokes.proofs.CellLemmas.{drawn_mark, marks_of, bar_writes, corner_by, drawn_strokes}
-use Rattle.snippet_strokes.proofs.PieceWrites.{All-label_of, All-pieces_at, has_piece, label_parts_of, label_write, piece_chars_le, piece_within}
+use Rattle.snippet_strokes.proofs.PieceWrites.{All-label_of, All-pieces_at, has_piece, label_parts_of, label_write, label_chars_le, piece_within}
 use Rattle.snippet_strokes.proofs.PaintedMarks.{AreMarked, Painted, Paints, mark_cell, StandsWhole}
 use Rattle.snippet_strokes.proofs.LineLemmas.{text_cells-replicate}
 use Rattle.snippet_strokes.proofs.PaintOrder.{IsPaintingOrder-painting_order, IsPermutation-painting_order}
@@ -23,6 +23,8 @@ use Rattle.snippet_strokes.proofs.LabelKept.{ascending, label_parts, labelled_po
 use Rattle.snippet_strokes.proofs.MarkStrokeLemmas.{of_first}
 use Rattle.snippet_strokes.proofs.StrokeGlyphs.{code_among, of_foot}
 use Rattle.snippet_strokes.proofs.BarWrites.{All-column_of, All-connector_of, All-stretch_of, All-stem_of, All-stems_of}
+use Rattle.snippet_strokes.proofs.Common.{label_at}
+use Rattle.snippet_labels.specs.Positions.{pieces_of}
 
 -- ---- glyphs
 
@@ -161,13 +163,13 @@ pub uncrowded_apart : (p : ℕ) (e f : PlacedEntry) → crowds p e f ≡ false �
 uncrowded_apart p e f crowded has_e has_f left = search rules
 
 -- the labels of two entries, the second of them farther left, share no cell
-pub labels_apart : (layout : Layout) (row : ℕ) (e f : PlacedEntry) (n m : ℕ) → HasPlace e.entry → HasPlace f.entry → n < length e.label
+pub labels_apart : (layout : Layout) (row : ℕ) (e f : PlacedEntry) (n m : ℕ) → HasPlace e.entry → HasPlace f.entry → n < length (pieces_of e)
     → has_label e ≡ true → has_label f ≡ true → f.entry.start.display ≤ e.entry.start.display → e.position ≤ f.position
-    → (f.position < e.position + length e.label → crowds e.position e f ≡ false) → (r c : ℕ)
+    → (f.position < e.position + length (pieces_of e) → crowds e.position e f ≡ false) → (r c : ℕ)
     → Reaches r c (label_write layout row e n) → Reaches r c (label_write layout row f m) → ⊥
 labels_apart layout row e f n m place_e place_f within has_e has_f left below clear r c there_e there_f =
-    let few : length (get_or f.label m []) ≤ label_width f.label = piece_chars_le f.label m in
-    elim (cases_lt f.position (e.position + length e.label)) [
+    let few : length (get_or (pieces_of f) m []) ≤ label_width f.label = label_chars_le f m in
+    elim (cases_lt f.position (e.position + length (pieces_of e))) [
       | inl close ↦
           let apart = uncrowded_apart e.position e f (clear close) has_e has_f left in
           elim (label_parts e) [
@@ -193,55 +195,57 @@ labels_apart layout row e f n m place_e place_f within has_e has_f left below cl
     ]
 
 -- the labels of two entries of a line share no cell
-pub placed_apart : (cut : Bool) (layout : Layout) (row : ℕ) (given : List LineAnnotation) (es : List PlacedEntry) (i j : ℕ) (d d2 : PlacedEntry)
-    → ArePlaced cut given es → All (λ e. HasPlace e.entry) es → i < j → j < length es → (n m r c : ℕ)
+pub placed_apart : (layout : Layout) (row : ℕ) (given : List LineAnnotation) (es : List PlacedEntry) (i j : ℕ) (d d2 : PlacedEntry)
+    → ArePlaced layout given es → All (λ e. HasPlace e.entry) es → i < j → j < length es → (n m r c : ℕ)
     → Reaches r c (label_write layout row (get_or es i d) n) → Reaches r c (label_write layout row (get_or es j d2) m) → ⊥
-placed_apart cut layout row given es i j d d2 placed places before within n m r c here there =
+placed_apart layout row given es i j d d2 placed places before within n m r c here there =
     let e : PlacedEntry = get_or es i d in
     let f : PlacedEntry = get_or es j d2 in
     let inside : i < length es = omega (arith, before, within) in
-    let some_e : 0 < length (get_or e.label n []) = omega (arith, here.from, here.to) in
-    let some_f : 0 < length (get_or f.label m []) = omega (arith, there.from, there.to) in
+    let some_e : 0 < length (get_or (pieces_of e) n []) = omega (arith, here.from, here.to) in
+    let some_f : 0 < length (get_or (pieces_of f) m []) = omega (arith, there.from, there.to) in
     let has : has_label e ≡ true = has_piece e n some_e in
-    let are = labelled_positions cut given es i d placed inside has in
+    let are = labelled_positions layout given es i d placed inside has in
     let at_e = position_of es i d are inside in
     let at_f = position_of es j d2 are within in
-    labels_apart layout row e f n m (places i d inside) (places j d2 within) (piece_within e.label n some_e)
-    has (has_piece f m some_f) (stands_left cut given es i j d d2 placed before within) (omega (arith, at_e, at_f, ascending 0 es i j before within))
-    (λ close. subst (λ p. crowds p e f ≡ false) (sym at_e) (uncrowded 0 es i j d d2 before within (omega (arith, close, at_e, at_f)))) r c here there
+    labels_apart layout row e f n m (places i d inside) (places j d2 within) (piece_within (pieces_of e) n some_e)
+    has (has_piece f m some_f) (stands_left layout given es i j d d2 placed before within) (omega (arith, at_e, at_f, ascending 0 es i j before within))
+    (λ close. subst (λ p. crowds p e f ≡ false) (sym at_e) (uncrowded 0 es i j d d2 before within
+    (omega (arith, at_f, subst (λ p. f.position < p + length (label_at p e.label)) at_e close)))) r c here there
 
 -- each label stands whole once all are written
-pub labels_stand : (cut : Bool) (layout : Layout) (row : ℕ) (given : List LineAnnotation) (es : List PlacedEntry) (rows : List (List Cell))
-    → ArePlaced cut given es → All (λ e. HasPlace e.entry) es → All (StandsWhole layout row (painted (labels_of layout row es) rows)) es
-labels_stand cut layout row given es rows placed places k d within i n inside =
+pub labels_stand : (layout : Layout) (row : ℕ) (given : List LineAnnotation) (es : List PlacedEntry) (rows : List (List Cell))
+    → ArePlaced layout given es → All (λ e. HasPlace e.entry) es → All (StandsWhole layout row (painted (labels_of layout row es) rows)) es
+labels_stand layout row given es rows placed places k d within i n inside =
     let f : PlacedEntry → List Write = label_of layout row in
     let e : PlacedEntry = get_or es k d in
     let w : Write = label_write layout row e i in
-    let some : 0 < length (get_or e.label i []) = omega (arith, inside) in
+    let some : 0 < length (get_or (pieces_of e) i []) = omega (arith, inside) in
     let after = drop (k + 1) es in
     let r = row + (label_place e).0 + i in
     let c = layout.code + (label_place e).1 + n in
     let N : Write → Type 0 = λ v. Reaches r c v → ⊥ in
     let here : Reaches r c w = record { row = refl; from = omega arith; to = omega (arith, inside) } in
     let split : es ≡ take k es ++ e ∷ after = sym (take-append-drop k es) ∙ ap (λ xs. take k es ++ xs) (drop_more es k d within) in
-    let ahead : List Write = pieces_at (row + (label_place e).0) (code_cell layout (label_place e).1) (label_role e.entry.kind) (take i e.label) in
-    let below : List Write = pieces_at (r + 1) (code_cell layout (label_place e).1) (label_role e.entry.kind) (drop (i + 1) e.label) in
+    let ahead : List Write = pieces_at (row + (label_place e).0) (code_cell layout (label_place e).1) (label_role e.entry.kind) (take i (pieces_of e)) in
+    let below : List Write = pieces_at (r + 1) (code_cell layout (label_place e).1) (label_role e.entry.kind) (drop (i + 1) (pieces_of e)) in
     let front : List Write = labels_of layout row (take k es) in
     let back : List Write = labels_of layout row after in
     let parts : labels_of layout row es ≡ (front ++ ahead) ++ w ∷ (below ++ back) = ap (flat_map f) split
     ∙ flat_map-append f (take k es) (e ∷ after)
-    ∙ ap (λ ws. front ++ (ws ++ back)) (label_parts_of layout row e i (piece_within e.label i some) some)
+    ∙ ap (λ ws. front ++ (ws ++ back)) (label_parts_of layout row e i (piece_within (pieces_of e) i some) some)
     ∙ ap (λ ws. front ++ ws) (append_assoc ahead (w ∷ below) back) ∙ sym (append_assoc front ahead (w ∷ (below ++ back))) in
-    let lower : All N below = All-pieces_at N (r + 1) (code_cell layout (label_place e).1) (label_role e.entry.kind) (drop (i + 1) e.label) (λ m _ _ there.
+    let lower : All N below =
+    All-pieces_at N (r + 1) (code_cell layout (label_place e).1) (label_role e.entry.kind) (drop (i + 1) (pieces_of e)) (λ m _ _ there.
     absurd (omega (arith, there.row))) in
     let beside : All N back = All-flat_map N f after (λ m d2 fits.
     let j : ℕ = k + 1 + m in
     let later : j < length es = omega (arith, fits, length-drop (k + 1) es) in
     let same : get_or after m d2 ≡ get_or es j d2 = get_or-drop (k + 1) es m d2 in
     subst (λ (x : PlacedEntry). All N (f x)) (sym same) (All-label_of N layout row (get_or es j d2) (λ p _ _ there.
-    placed_apart cut layout row given es k j d d2 placed places (omega arith) later i p r c here there))) in
+    placed_apart layout row given es k j d d2 placed places (omega arith) later i p r c here there))) in
     ap (λ ws. cell_at (painted ws rows) r c) parts ∙ painted-last (front ++ ahead) (below ++ back) w rows r c here (All-append N below back lower beside)
-    ∙ ap (λ m. unlinked_cell (label_role e.entry.kind) (get_or (get_or e.label i []) m 0)) (omega arith)
+    ∙ ap (λ m. unlinked_cell (label_role e.entry.kind) (get_or (get_or (pieces_of e) i []) m 0)) (omega arith)
 
 -- The writes of marks paint them, each over those before it.
 -- a mark that takes some cells paints the first, and then the rest

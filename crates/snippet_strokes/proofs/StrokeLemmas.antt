@@ -28,11 +28,13 @@ use Rattle.snippet_strokes.proofs.EntryBarLaws.{marks_painted, under_painted}
 use Rattle.snippet_strokes.proofs.SourceBars.{source_beside}
 use Rattle.snippet_strokes.proofs.PositionLemmas.{HasRows-row_count, row_count_some, stemless_bare, stemless_beside}
 use Rattle.snippet_strokes.proofs.RowLemmas.{bare_row_short, bare_row_right, free_bare_row}
+use Rattle.snippet_strokes.proofs.Common.{LabelPieces, label_at}
+use Rattle.snippet_labels.specs.Positions.{pieces_of}
 
 module _ (layout : Layout) (room : ℕ) (closes : Bool) (es : List LineAnnotation) (placed : List PlacedEntry) (above_rows : List (List Cell))
     (plain_row : List Cell) (begun joined barred stemmed labelled new : List (List Cell))
     (place : layout.gutter + 3 ≤ layout.code)
-    (is : ArePlaced layout.label_lines es placed)
+    (is : ArePlaced layout es placed)
     (places : All (λ (e : PlacedEntry). HasPlace e.entry) placed)
     (bar_cells : All (λ (e : PlacedEntry). HasBarCell layout e.entry) placed)
     (bare_bars : HasNoBars layout plain_row)
@@ -77,7 +79,7 @@ module _ (layout : Layout) (room : ℕ) (closes : Bool) (es : List LineAnnotatio
 
   -- each entry has the rows that it needs, as long as no row is added
   enough : (rows : List (List Cell)) → length rows ≡ length begun → All (HasRows row (length rows)) placed
-  enough rows same = HasRows-row_count row (length rows) placed (labels_some layout.label_lines es placed is) (omega (arith, same, long_begun))
+  enough rows same = HasRows-row_count row (length rows) placed (labels_some layout es placed is) (omega (arith, same, long_begun))
 
   -- ---- what each list of strokes draws
 
@@ -106,7 +108,7 @@ module _ (layout : Layout) (room : ℕ) (closes : Bool) (es : List LineAnnotatio
   labels from stand =
       let same : length stemmed ≡ length begun = (stems 0 (λ k d within. omega arith)).count ∙ bars.draws.count ∙ lines.count in
       subst (DrawsFrom row from stemmed) (sym labels_are) (DrawsFrom-labels layout row from placed stemmed places (enough stemmed same) stand
-      (labels_free layout.label_lines es placed is))
+      (labels_free layout es placed is))
 
   label_starts : MarksStarts layout.code [] stemmed labelled
   label_starts = subst (MarksStarts layout.code [] stemmed) (sym labels_are) (labels_unmarked layout row placed stemmed)
@@ -114,9 +116,9 @@ module _ (layout : Layout) (room : ℕ) (closes : Bool) (es : List LineAnnotatio
   no_labels : All (λ e. has_label e ≡ false) placed → labelled ≡ stemmed
   no_labels none = labels_are ∙ ap (λ ws. painted ws stemmed) (labels_none layout row placed none)
 
-  lone_label : (e : PlacedEntry) → placed ≡ e ∷ [] → e.position ≡ 0 → 0 < e.entry.end.display → 0 < length (get_or e.label 0 [])
+  lone_label : (e : PlacedEntry) → placed ≡ e ∷ [] → e.position ≡ 0 → 0 < e.entry.end.display → 0 < length (get_or (pieces_of e) 0 [])
       → row_at labelled row
-      ≡ written SPACE (row_at stemmed row) (layout.code + e.entry.end.display + 1) (text_cells (label_role e.entry.kind) (get_or e.label 0 []))
+      ≡ written SPACE (row_at stemmed row) (layout.code + e.entry.end.display + 1) (text_cells (label_role e.entry.kind) (get_or (pieces_of e) 0 []))
   lone_label e one beside some has =
       ap (λ rows. row_at rows row) (labels_are ∙ ap (λ xs. painted (labels_of layout row xs) stemmed) one)
       ∙ label_lone layout row e stemmed beside some has
@@ -127,8 +129,8 @@ module _ (layout : Layout) (room : ℕ) (closes : Bool) (es : List LineAnnotatio
   -- each label stands whole once all are written, and once the marks are painted
   stands : All (StandsWhole layout row new) placed
   stands =
-      labels_kept layout.label_lines layout row es placed labelled new is places marked
-      (subst (λ rows. All (StandsWhole layout row rows) placed) (sym labels_are) (labels_stand layout.label_lines layout row es placed stemmed is places))
+      labels_kept layout row es placed labelled new is places marked
+      (subst (λ rows. All (StandsWhole layout row rows) placed) (sym labels_are) (labels_stand layout row es placed stemmed is places))
 
   -- all strokes, as one list
   new_is : new ≡ painted (drawn_strokes layout (length above_rows) (length begun) placed (painting_order placed)) begun
@@ -249,7 +251,7 @@ module _ (layout : Layout) (room : ℕ) (closes : Bool) (es : List LineAnnotatio
 
   unhung : plain ≡ true → All (λ e. label_text e ≡ []) es → labelled ≡ begun
   unhung flat none =
-      let bare : All (λ e. has_label e ≡ false) placed = unlabelled layout.label_lines es placed is none in
+      let bare : All (λ e. has_label e ≡ false) placed = unlabelled layout es placed is none in
       no_labels bare ∙ no_stems (λ k d within. stemless_bare (get_or placed k d) (bare k d within) (spaceless_all flat k d within)) ∙ barless flat
 
   space_at : (p : ℕ) → slice_index_or (bare 0) (layout.code + p) SPACE ≡ SPACE
@@ -266,17 +268,16 @@ module _ (layout : Layout) (room : ℕ) (closes : Bool) (es : List LineAnnotatio
       found.1 ∙ ap (λ x. x ∷ []) (sole_same q found.0 (subst (λ xs. IsPermutation xs (found.0 ∷ [])) one (subst (IsPermutation placed) found.1 marked.same)))
 
   -- after the mark of a line's one entry stand a space and its label
-  lone : plain ≡ true → (e : LineAnnotation) → es ≡ e ∷ [] → e.start.display < e.end.display → 0 < length (first_piece layout.label_lines e)
-      → drop (layout.code + e.end.display) (row_at new row) ≡ SPACE ∷ text_cells (label_role e.kind) (first_piece layout.label_lines e)
+  lone : plain ≡ true → (e : LineAnnotation) → es ≡ e ∷ [] → e.start.display < e.end.display → 0 < length (first_piece layout e)
+      → drop (layout.code + e.end.display) (row_at new row) ≡ SPACE ∷ text_cells (label_role e.kind) (first_piece layout e)
   lone flat e one some shown =
-      let cut : Bool = layout.label_lines in
-      let found = lone_placed cut es placed is e one in
+      let found = lone_placed layout es placed is e one in
       let q : PlacedEntry = found.0 in
       let entry : q.entry ≡ e = found.2 in
       let at : ℕ = layout.code + e.end.display in
-      let cells : List Cell = text_cells (label_role e.kind) (first_piece cut e) in
-      let text : get_or q.label 0 [] ≡ first_piece cut e = ap (λ (ps : List (List ℕ)). get_or ps 0 []) (subst (All (HasItsLabel cut)) found.1 is.labels 0 q
-      (omega arith)) ∙ ap (first_piece cut) entry in
+      let cells : List Cell = text_cells (label_role e.kind) (first_piece layout e) in
+      let text : get_or (pieces_of q) 0 [] ≡ first_piece layout e = ap (λ p. get_or (label_at p q.label) 0 []) found.3
+      ∙ ap (λ (l : LabelPieces). get_or l.beside 0 []) (subst (All (HasItsLabel layout)) found.1 is.labels 0 q (omega arith)) ∙ ap (first_piece layout) entry in
       let bare_stems : stemmed ≡ begun = no_stems (subst (All (λ x. has_stem x ≡ false)) (sym found.1)
       (All-cons (λ x. has_stem x ≡ false) q [] (stemless_beside q found.3) (All-nil (λ x. has_stem x ≡ false)))) ∙ barless flat in
       let write : LineAnnotation → List ℕ → List Cell = λ x piece. written SPACE (row_at begun row) (layout.code + x.end.display + 1)
@@ -284,7 +285,7 @@ module _ (layout : Layout) (room : ℕ) (closes : Bool) (es : List LineAnnotatio
       let past : 0 < q.entry.end.display = omega (arith, some, ap (λ (x : LineAnnotation). x.end.display) entry) in
       let line : row_at labelled row ≡ written SPACE (bare 0) (at + 1) cells = lone_label q found.1 found.3 past (omega (arith, ap length text, shown))
       ∙ ap (λ rows. written SPACE (row_at rows row) (layout.code + q.entry.end.display + 1)
-      (text_cells (label_role q.entry.kind) (get_or q.label 0 []))) bare_stems ∙ ap (write q.entry) text ∙ ap (λ x. write x (first_piece cut e)) entry
+      (text_cells (label_role q.entry.kind) (get_or (pieces_of q) 0 []))) bare_stems ∙ ap (write q.entry) text ∙ ap (λ x. write x (first_piece layout e)) entry
       ∙ ap (λ cs. written SPACE cs (at + 1) cells) first_begun in
       let long : length (row_at labelled row) ≡ max (length (bare 0)) (at + 1 + length cells) = ap length line ∙ length-written SPACE (bare 0) (at + 1) cells in
       let ends : mark_end q ≡ e.end.display = mark_end_plain q (subst (All (λ (x : PlacedEntry). IsPlainEntry x.entry)) found.1 (single flat) 0 q
@@ -327,7 +328,7 @@ module _ (layout : Layout) (room : ℕ) (closes : Bool) (es : List LineAnnotatio
       let labels_done = label_starts row (layout.code + p) (All-nil (λ (e : PlacedEntry). layout.code + p ≢ layout.code + e.entry.start.display)) stems_done in
       ap (λ (c : Cell). is_mark_role c.role) (marked.painted.unmarked p (unpainted flat p uncovered)) ∙ labels_done
 
-  shows_marks : plain ≡ true → ShowsMarks layout.label_lines layout.decor layout.code es (row_at new row)
+  shows_marks : plain ≡ true → ShowsMarks layout layout.decor layout.code es (row_at new row)
   shows_marks flat =
       record {
         marks = mark_shown layout es placed row labelled new (plain_entries room layout.decor es flat) is.same marked;
@@ -379,7 +380,7 @@ module _ (layout : Layout) (room : ℕ) (closes : Bool) (es : List LineAnnotatio
             cuts.source_now cuts.source_cut;
         strokes = record {
           some = λ flat _. omega (arith, long, row_count_some placed);
-          marks = λ flat. subst (ShowsMarks layout.label_lines layout.decor layout.code es) (sym (cuts.marks_cut.uncut (narrow flat))) (shows_marks flat);
+          marks = λ flat. subst (ShowsMarks layout layout.decor layout.code es) (sym (cuts.marks_cut.uncut (narrow flat))) (shows_marks flat);
           labels = λ uncut _. LabelsStand-placed layout row es placed new below is places stands beside_labels
               (subst hung (sym new_is) (all_hung layout (length above_rows) (length begun) placed (painting_order placed) begun))
               (rows_new cuts.marks_now (cuts.kept uncut));

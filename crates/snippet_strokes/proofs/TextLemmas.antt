@@ -27,11 +27,11 @@ bytes_none bytes utf8 none = nil_from_length bytes (zero_there (length bytes) (a
     zero_there n none = grind (arith, nat_tests)
 
 -- a label that fits is short as it is shown, wherever its entry stands
-pub label_short : (e : LineAnnotation) → IfSome e.label (λ t. length t < 2 ^ 56) → length (label_text e) < 2 ^ 60
+pub label_short : (e : LineAnnotation) → IfSome e.label (λ t. length t < 2 ^ 56) → length (label_text e) < 2 ^ 58
 label_short e fits = grind (arith, norm_short)
 
 -- the labels of entries are short also where these are shifted
 pub labels_short : (dropped : ℕ) (es : List LineAnnotation) → All (λ e. IfSome e.label (λ t. length t < 2 ^ 56)) es
-    → All (λ e. length (label_text e) < 2 ^ 60) (map (shifted dropped) es)
+    → All (λ e. length (label_text e) < 2 ^ 58) (map (shifted dropped) es)
 labels_short dropped es fit =
-    All-map (λ (e : LineAnnotation). length (label_text e) < 2 ^ 60) (shifted dropped) es (λ k d within. label_short (get_or es k d) (fit k d within))
+    All-map (λ (e : LineAnnotation). length (label_text e) < 2 ^ 58) (shifted dropped) es (λ k d within. label_short (get_or es k d) (fit k d within))

@@ -28,10 +28,9 @@ none_cut room decor (e ∷ es) (flag ∷ flags) narrow =
 -- so a line without a wide entry has none that is cut
 pub narrow_uncut : (room : ℕ) (drawn : Layout) (es : List LineAnnotation) → wide_entries room drawn.decor es ≡ 0 → is_uncut room drawn es ≡ true
 narrow_uncut room drawn es narrow =
-    let cut : Bool = drawn.label_lines in
-    let placed = placed_of cut es in
+    let placed = placed_of drawn es in
     none_cut room drawn.decor (painting_order placed) (overlapped placed)
-    (wide_entries-order cut room drawn.decor es placed (placed_of_are cut es) ∙ narrow)
+    (wide_entries-order drawn room drawn.decor es placed (placed_of_are drawn es) ∙ narrow)
 
 -- four spans that overlap one another: in twenty columns all are wide, and none is cut
 abbrev nested : List LineAnnotation

@@ -19,6 +19,7 @@ use Rattle.snippet_strokes.proofs.DrawnCells.{DrawsFrom, MarksStarts, StandsFrom
 use Rattle.snippet_strokes.proofs.Reach.{Reaches, IsWithin, cell_of_write}
 use Rattle.snippet_strokes.proofs.PieceWrites.{AreFree, All-label_of, All-pieces_at, has_piece, label_of-none, label_parts_of, label_write, piece_within}
 use Rattle.snippet_strokes.proofs.PositionLemmas.{label_column}
+use Rattle.snippet_labels.specs.Positions.{pieces_of}
 
 -- Rows after writes.
 -- one write more, and some more
@@ -160,7 +161,7 @@ DrawsFrom-painted row from ws rows within =
 -- The writes of labels.
 -- labels stand in rows that are there, and not left of their entries
 pub labels_within : (layout : Layout) (row count from : ℕ) (es : List PlacedEntry) → All (λ e. HasPlace e.entry) es → All (HasRows row count) es
-    → All (λ e. StandsFrom layout.code from e.entry) es → All (λ e. AreFree e.label) es → All (IsWithin row count from) (labels_of layout row es)
+    → All (λ e. StandsFrom layout.code from e.entry) es → All (λ e. AreFree (pieces_of e)) es → All (IsWithin row count from) (labels_of layout row es)
 labels_within layout row count from es places rows stand free =
     All-flat_map (IsWithin row count from) (label_of layout row) es (λ k d within.
     let e : PlacedEntry = get_or es k d in
@@ -181,7 +182,7 @@ labels_count layout row es old rows =
 
 -- and labels are drawn there
 pub DrawsFrom-labels : (layout : Layout) (row from : ℕ) (es : List PlacedEntry) (old : List (List Cell)) → All (λ e. HasPlace e.entry) es
-    → All (HasRows row (length old)) es → All (λ e. StandsFrom layout.code from e.entry) es → All (λ e. AreFree e.label) es
+    → All (HasRows row (length old)) es → All (λ e. StandsFrom layout.code from e.entry) es → All (λ e. AreFree (pieces_of e)) es
     → DrawsFrom row from old (painted (labels_of layout row es) old)
 DrawsFrom-labels layout row from es old places rows stand free =
     DrawsFrom-painted row from (labels_of layout row es) old (labels_within layout row (length old) from es places rows stand free)
@@ -208,8 +209,8 @@ labels_none layout row es none =
 
 -- the first piece of a lone label stands one cell after its mark
 pub label_lone : (layout : Layout) (row : ℕ) (e : PlacedEntry) (rows : List (List Cell)) → e.position ≡ 0 → 0 < e.entry.end.display
-    → 0 < length (get_or e.label 0 []) → row_at (painted (labels_of layout row (e ∷ [])) rows) row
-    ≡ written SPACE (row_at rows row) (layout.code + e.entry.end.display + 1) (text_cells (label_role e.entry.kind) (get_or e.label 0 []))
+    → 0 < length (get_or (pieces_of e) 0 []) → row_at (painted (labels_of layout row (e ∷ [])) rows) row
+    ≡ written SPACE (row_at rows row) (layout.code + e.entry.end.display + 1) (text_cells (label_role e.entry.kind) (get_or (pieces_of e) 0 []))
 label_lone layout row e rows beside some shown =
     let role : ElementStyle = label_role e.entry.kind in
     let cell : ℕ = code_cell layout (label_place e).1 in
@@ -217,16 +218,16 @@ label_lone layout row e rows beside some shown =
     let w : Write = label_write layout row e 0 in
     let here : w.row ≡ row = grind (arith, nat_tests, beside, label_place) in
     let there : w.cell ≡ at = grind (arith, nat_tests, beside, some, label_place) in
-    let rest : List Write = pieces_at (row + (label_place e).0 + 0 + 1) cell role (drop (0 + 1) e.label) in
+    let rest : List Write = pieces_at (row + (label_place e).0 + 0 + 1) cell role (drop (0 + 1) (pieces_of e)) in
     let split : labels_of layout row (e ∷ []) ≡ w ∷ rest = right_nil (label_of layout row e)
-    ∙ label_parts_of layout row e 0 (piece_within e.label 0 shown) shown in
-    let mid : List (List Cell) = cells_written rows w.row w.cell (text_cells role (get_or e.label 0 [])) in
+    ∙ label_parts_of layout row e 0 (piece_within (pieces_of e) 0 shown) shown in
+    let mid : List (List Cell) = cells_written rows w.row w.cell (text_cells role (get_or (pieces_of e) 0 [])) in
     ap (λ ws. row_at (painted ws rows) row) split
-    ∙ painted-other rest mid row (All-pieces_at (λ v. row ≢ v.row) (row + (label_place e).0 + 0 + 1) cell role (drop (0 + 1) e.label) (λ n _ _ same.
+    ∙ painted-other rest mid row (All-pieces_at (λ v. row ≢ v.row) (row + (label_place e).0 + 0 + 1) cell role (drop (0 + 1) (pieces_of e)) (λ n _ _ same.
     absurd (omega (arith, same)))) ∙ ap (row_at mid) (sym here)
-    ∙ row_at-cells_written_same rows w.row w.cell (text_cells role (get_or e.label 0 []))
-    ∙ ap (λ r. written SPACE (row_at rows r) w.cell (text_cells role (get_or e.label 0 []))) here
-    ∙ ap (λ c. written SPACE (row_at rows row) c (text_cells role (get_or e.label 0 []))) there
+    ∙ row_at-cells_written_same rows w.row w.cell (text_cells role (get_or (pieces_of e) 0 []))
+    ∙ ap (λ r. written SPACE (row_at rows r) w.cell (text_cells role (get_or (pieces_of e) 0 []))) here
+    ∙ ap (λ c. written SPACE (row_at rows row) c (text_cells role (get_or (pieces_of e) 0 []))) there
   where
     right_nil : (ws : List Write) → ws ++ [] ≡ ws
     right_nil [] = refl
@@ -261,7 +262,7 @@ pub record IsHighlighted (code dropped : ℕ) (es : List LineAnnotation) (plain 
 -- source row and that of the marks, stretches are cut where entries are wide
 pub record StrokesPainted (layout : Layout) (room : ℕ) (closes : Bool) (es : List LineAnnotation) (source : List Cell) (rows : List (List Cell)) : Type 0 where
   pub placed : List PlacedEntry
-  pub are : ArePlaced layout.label_lines es placed
+  pub are : ArePlaced layout es placed
   pub top : List Cell
   pub marks : List Cell
   pub lower : List (List Cell)

@@ -11,6 +11,7 @@ use Rattle.snippet_window.specs.declared.margin.Margin.{Margin}
 use Rattle.snippet_grid.specs.Layout.{Layout, separator_cell, inner_cell}
 use Rattle.snippet_labels.specs.declared.positions.PlacedEntry.{PlacedEntry}
 use Rattle.snippet_labels.specs.Placing.{HasPlace}
+use Rattle.snippet_labels.specs.Positions.{pieces_of}
 use Rattle.snippet_parts.specs.declared.entries.LineAnnotationType.{LineAnnotationType}
 use Rattle.snippet_parts.specs.declared.entries.LineAnnotationType.TheVariants.{Singleline, MultilineStart, MultilineEnd, MultilineLine}
 
@@ -44,5 +45,5 @@ pub record IsDrawableLine (layout : Layout) (margin : Margin) (numbers : LineNum
 pub record IsReady (layout : Layout) (e : PlacedEntry) : Type 0 where
   pub columns : HasPlace e.entry
   pub bar_cell : HasBarCell layout e.entry
-  pub short : All FitsRow e.label
-  pub few : AreRows (length e.label)
+  pub short : All FitsRow (pieces_of e)
+  pub few : AreRows (length (pieces_of e))

@@ -14,7 +14,7 @@ use Rattle.snippet_style.specs.Cell.{Cell}
 use Rattle.snippet_style.specs.Separators.{separator_row}
 use Rattle.snippet_strokes.specs.Drawing.{row_count}
 use Rattle.snippet_strokes.specs.Painting.{mark_of, painting_order, stroke_role}
-use Rattle.snippet_labels.specs.Positions.{has_label, has_stem, label_place, placed_of, is_start_part, takes_space}
+use Rattle.snippet_labels.specs.Positions.{has_label, has_stem, label_place, pieces_of, placed_of, is_start_part, takes_space}
 use Rattle.snippet_strokes.specs.Cuts.{cut_middle, is_cut, overlapped}
 use Rattle.snippet_strokes.specs.SourceRows.{bare_row}
 use Rattle.std.specs.Option.{option_map_or}
@@ -35,7 +35,7 @@ pieces_at row cell role (piece ∷ pieces) = piece_at row cell role piece ++ pie
 abbrev pub label_of : Layout → ℕ → PlacedEntry → List Write
 label_of layout row e =
     let place = label_place e in
-    pieces_at (row + place.0) (code_cell layout place.1) (label_role e.entry.kind) e.label
+    pieces_at (row + place.0) (code_cell layout place.1) (label_role e.entry.kind) (pieces_of e)
 
 -- ---- stems
 
@@ -92,14 +92,14 @@ cut_pairs placed = zip (painting_order placed) (overlapped placed)
 
 -- whether no entry of a line is cut
 abbrev pub is_uncut : ℕ → Layout → List LineAnnotation → Bool
-is_uncut room layout es = list_all (λ pair. not (is_cut room layout.decor pair)) (cut_pairs (placed_of layout.label_lines es))
+is_uncut room layout es = list_all (λ pair. not (is_cut room layout.decor pair)) (cut_pairs (placed_of layout es))
 
 -- the rows of a line with the strokes of these entries, of which this is the source row. All strokes are painted over this row and those below
 -- it, of which there are as many as the entries ask for: separators, with the last row as the window closes or goes on. Of the first two, the
 -- source row and that of the marks, what is cut where entries are wide is replaced last
 abbrev pub stroke_rows : Layout → ℕ → Bool → List LineAnnotation → List Cell → List (List Cell)
 stroke_rows layout room closes es source =
-    let placed = placed_of layout.label_lines es in
+    let placed = placed_of layout es in
     let order = painting_order placed in
     let count = row_count placed in
     let bare = replicate (count - 1) (separator_row layout.decor layout.gutter) ++ bare_row layout.decor layout.gutter closes ∷ [] in

@@ -12,7 +12,7 @@ ghost use Rattle.snippet_style.specs.Bounds.{AreRows, FitsRow, HasNext, IsUsize}
 use crate::canvas::Canvas;
 use crate::roles::label_role;
 use snippet_grid::Layout;
-use snippet_labels::PlacedEntry;
+use snippet_labels::{PlacedEntry, beside_column};
 use snippet_style::ElementStyle;
 use std::alloc::AllocError;
 
@@ -35,7 +35,7 @@ pub(crate) fn draw_labels<C: Canvas>(
     placed: &[PlacedEntry],
 ) -> Result<(), AllocError>
     requires places { All (HasPlaceAmong row (length (C.rows buffer.old))) placed.now }
-    requires short { All (λ e. All FitsRow e.label) placed.now }
+    requires short { All (λ e. All FitsRow (spec.pieces_of e)) placed.now }
     ensures painted { OnOk result (C.rows buffer.new ≡ painted (labels_of layout row placed.now) (C.rows buffer.old)) }
 {
     for entry in placed {
@@ -52,7 +52,7 @@ pub(crate) fn draw_label<C: Canvas>(
     placed: &PlacedEntry,
 ) -> Result<(), AllocError>
     requires place { HasPlaceAmong row (length (C.rows buffer.old)) placed.now }
-    requires short { All FitsRow placed.now.label }
+    requires short { All FitsRow (spec.pieces_of placed.now) }
     ensures painted { OnOk result (C.rows buffer.new
         ≡ painted (label_of layout row placed.now) (C.rows buffer.old)) }
 {
@@ -62,7 +62,7 @@ pub(crate) fn draw_label<C: Canvas>(
     let (below, column) = label_place(placed);
     let cell = layout.code_cell(column);
     let role = label_role(placed.entry.kind);
-    let (text, is_cut) = placed.label.text();
+    let (text, is_cut) = placed.label.text(placed.position);
     if is_cut {
         draw_pieces(buffer, row + below, cell, text, role)
     } else {
@@ -108,19 +108,15 @@ fn draw_piece<C: Canvas>(
     buffer.puts(row, cell, piece, role)
 }
 
-/// Where the label of an entry begins: how many rows below the row of the marks, and at which column. A mark that ends
-/// at column 0 still takes that column.
+/// Where the label of an entry begins: how many rows below the row of the marks, and at which column.
 fn label_place(placed: &PlacedEntry) -> (usize, usize)
     requires columns { HasPlace placed.now.entry }
     requires low { HasNext placed.now.position }
     ensures value { result ≡ spec.label_place placed.now }
 {
-    if placed.position > 0 {
-        return (placed.position + 1, placed.entry.start.display);
-    }
-    if placed.entry.end.display == 0 {
-        (0, 2)
+    if placed.position == 0 {
+        (0, beside_column(&placed.entry))
     } else {
-        (0, placed.entry.end.display + 1)
+        (placed.position + 1, placed.entry.start.display)
     }
 }

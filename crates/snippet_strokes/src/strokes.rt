@@ -4,6 +4,7 @@ ghost use Rattle.std.specs.Prelude.{◌-◌, false, length, replicate};
 ghost use Rattle.snippet_strokes.specs.Drawable.{AreDrawable, IsReady};
 ghost use Rattle.snippet_strokes.specs.LineRows.{own_rows};
 ghost use Rattle.snippet_style.specs.Cell.{Cell};
+ghost use Rattle.snippet_labels.specs.Positions.{pieces_of};
 ghost use Rattle.snippet_strokes.specs.Drawing as spec;
 ghost use Rattle.snippet_strokes.specs.Places.{AreEnough, HasRows};
 ghost use Rattle.snippet_strokes.specs.SourceRows.{bare_row};
@@ -77,7 +78,7 @@ pub(crate) fn draw_strokes(
     if entries.is_empty() {
         return close_below(buffer, layout, place.closes);
     }
-    let mut placed = placed_entries(alloc, place.dropped, layout.label_lines, entries)?;
+    let mut placed = placed_entries(alloc, place.dropped, layout, entries)?;
     let overlapped = overlapping(alloc, layout.decor, place.room, &placed)?;
     let count = row_count(&placed);
     draw_rows(buffer, layout, place, count, &mut placed)?;
@@ -215,7 +216,7 @@ fn close_below(buffer: &mut StyledBuffer, layout: Layout, closes: bool) -> Resul
 /// How many rows the strokes of some entries take: that of the marks, and as many below it as any of them needs.
 fn row_count(placed: &[PlacedEntry]) -> usize
     requires low { All (λ e. IsRowNumber e.position) placed.now }
-    requires few { All (λ e. AreRows (length e.label)) placed.now }
+    requires few { All (λ e. AreRows (length (pieces_of e))) placed.now }
     ensures value { result ≡ spec.row_count placed.now }
 {
     let starts = are_starts(placed);
@@ -230,11 +231,11 @@ fn row_count(placed: &[PlacedEntry]) -> usize
 /// label, need those down to their lines to bars.
 fn rows_below(starts: bool, placed: &PlacedEntry) -> usize
     requires low { IsRowNumber placed.now.position }
-    requires few { AreRows (length placed.now.label) }
+    requires few { AreRows (length (pieces_of placed.now)) }
     ensures value { result ≡ spec.rows_below starts placed.now }
     ensures small { IsCount result }
 {
-    let height = placed.label.height();
+    let height = placed.label.height(placed.position);
     if starts {
         placed.position
     } else if placed.position == 0 {

@@ -10,7 +10,7 @@ use Rattle.snippet_suggest.proofs.Examples.{deleted_line, first_line_deleted, on
 
 -- suggestions in ASCII, with a gutter of one digit
 abbrev pub ascii : ℕ → SuggestionLayout
-ascii code = record { base = record { gutter = 1; code = code; decor = Ascii; label_lines = false }; numbers = Shown }
+ascii code = record { base = record { gutter = 1; code = code; decor = Ascii; label_lines = false; label_end = 0 }; numbers = Shown }
 
 -- the row that a suggestion begins and ends with, where no mark stands in it
 abbrev pub stroke : List Cell

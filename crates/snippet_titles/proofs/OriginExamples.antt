@@ -7,7 +7,7 @@ use Rattle.snippet_titles.proofs.PaddingWords.{padding_row}
 
 -- a layout, by its parts
 abbrev laid : ℕ → ℕ → DecorStyle → Layout
-laid gutter code decor = record { gutter = gutter; code = code; decor = decor; label_lines = false }
+laid gutter code decor = record { gutter = gutter; code = code; decor = decor; label_lines = false; label_end = 0 }
 
 -- the first element's path, in both styles, and with its line anonymized
 primary : row_text (origin_row (record { base = laid 1 4 Ascii; anonymized = false }) First (codes "a.rs")

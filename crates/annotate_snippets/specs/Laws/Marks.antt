@@ -1,5 +1,5 @@
 -- The marks below a line: in which cells they stand, and of which kind each is.
-use Rattle.std.specs.Prelude.{◌≡◌, ℕ, ◌-◌, ◌<◌, ◌≤◌, Bool, true, false, List, [], ◌∷◌, All, filter, length, drop}
+use Rattle.std.specs.Prelude.{◌≡◌, ℕ, ◌+◌, ◌-◌, ◌<◌, ◌≤◌, true, false, List, [], ◌∷◌, All, filter, length, drop}
 use Rattle.std.specs.List.{slice_index_or}
 use Rattle.std.specs.Option.{option_map}
 use Rattle.std.specs.Cow.{cow_str_bytes}
@@ -19,9 +19,9 @@ use Rattle.snippet_grid.specs.Layout.{Layout, code_cell}
 abbrev pub shown_label : Annotation → List ℕ
 shown_label a = normalized_chars (option_map cow_str_bytes a.label)
 
--- the first piece of it, where labels are cut at their line feeds or whole
-abbrev pub first_piece : Bool → Annotation → List ℕ
-first_piece cut a = slice_index_or (label_pieces cut (shown_label a)) 0 []
+-- the first piece of it, where it begins at this cell
+abbrev pub first_piece : Layout → ℕ → Annotation → List ℕ
+first_piece layout cell a = slice_index_or (label_pieces layout cell (shown_label a)) 0 []
 
 -- the cell of a column of the code, where so many columns are dropped from the line. No column that is marked is dropped, and
 -- the clauses below speak of columns that aren't: so the difference never stops at 0
@@ -44,5 +44,5 @@ pub record ShowsMarksOf (decor : DecorStyle) (layout : Layout) (s : Snippet Anno
   pub spaces : All (λ a. is_marked_on (cow_str_bytes s.source.text) k a ≡ true → shown_label a ≡ []) s.markers.items → (p : ℕ) → dropped ≤ p
       → All (λ a. IsMarkedAt (cow_str_bytes s.source.text) k p a → ⊥) s.markers.items → slice_index_or row (cell_of layout dropped p) SPACE ≡ SPACE
   pub lone : (a : Annotation) → filter (is_marked_on (cow_str_bytes s.source.text) k) s.markers.items ≡ a ∷ []
-      → 0 < length (first_piece layout.label_lines a)
-      → row_text (drop (cell_of layout dropped (end_column (cow_str_bytes s.source.text) a)) row) ≡ 32 ∷ first_piece layout.label_lines a
+      → let end = cell_of layout dropped (end_column (cow_str_bytes s.source.text) a) in
+      0 < length (first_piece layout (end + 1) a) → row_text (drop end row) ≡ 32 ∷ first_piece layout (end + 1) a

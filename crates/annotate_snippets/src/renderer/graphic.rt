@@ -129,12 +129,7 @@ fn group_context<'r>(
     ensures place { result.place ≡ position_of_group (length report.now.groups.now) number }
     ensures file { option_copied result.file ≡ file_of_group report.now.groups.now group.now.group.now }
 {
-    let layout = layout_for(
-        report.gutter,
-        group.depth(),
-        renderer.decor_style,
-        renderer.label_lines,
-    );
+    let layout = layout_for(renderer, report.gutter, group.depth());
     let place = GroupPosition::at(report.groups.len(), number);
     let file = primary_path(group.group).or(report.file);
     GroupContext {

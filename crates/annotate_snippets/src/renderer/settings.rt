@@ -239,9 +239,9 @@ impl Renderer {
         self
     }
 
-    /// Whether a line of a title or message that is wider than the room right of where it begins is broken: at the
-    /// blanks, spaces or tabs, before the first word that has no room, which go; or where a word alone is wider before
-    /// the first character that has no room. What follows is indented as further lines are.
+    /// Whether a line of a title, message or label that is wider than the room right of where it begins is broken: at
+    /// the blanks, spaces or tabs, before the first word that has no room, which go; or where a word alone is wider
+    /// before the first character that has no room. What follows is indented as further lines are.
     ///
     /// ```text
     /// Renderer::plain().term_width(40).wrap(true)
@@ -253,7 +253,8 @@ impl Renderer {
     ///
     /// The room is that of the `term_width`; widths are those of [`str_width`](crate::text::str_width), but the codes
     /// of a text that may hold some take no room, and none is broken. Nothing is broken where the room has fewer than 4
-    /// columns, nor in the short form and the text form, nor unless this says so.
+    /// columns, for a label 20, nor in the short form and the text form, nor unless this says so. Labels are cut at
+    /// their line feeds too, as where [`label_lines`](Renderer::label_lines) says so.
     pub fn wrap(mut self, wrap: bool) -> Renderer
         ensures changed { result ≡ record self { wrap = wrap } }
     {
@@ -285,8 +286,8 @@ impl Renderer {
     ///   |         this function
     /// ```
     ///
-    /// A line feed of a label breaks the page unless this, or [`show_line_feeds`](Renderer::show_line_feeds), says
-    /// otherwise.
+    /// A line feed of a label breaks the page unless this, [`wrap`](Renderer::wrap), or
+    /// [`show_line_feeds`](Renderer::show_line_feeds), says otherwise.
     pub fn label_lines(mut self, label_lines: bool) -> Renderer
         ensures changed { result ≡ record self { label_lines = label_lines } }
     {

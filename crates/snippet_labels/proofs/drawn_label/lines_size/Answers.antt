@@ -1,7 +1,7 @@
-use Rattle.snippet_labels.proofs.Common.{◌∙◌, ℕ, List, ap, arith, chars, encode_utf8_all, label_width, length, length_push, lit<, map, map_push}
+use Rattle.snippet_labels.proofs.Common.{◌∙◌, ℕ, List, ap, arith, chars, encode_utf8_all, pieces_width, length, length_push, lit<, map, map_push}
 use Rattle.snippet_labels.proofs.Common.{◌==◌, max, lines_at, lines_at-chars, length-map, map-map, sym, YieldsList-from_str_split, YieldsList-end}
 use Rattle.snippet_labels.proofs.Common.{YieldsList-turn}
-use Rattle.snippet_labels.proofs.PieceLemmas.{label_width-push}
+use Rattle.snippet_labels.proofs.PieceLemmas.{pieces_width-push}
 use Rattle.std.specs.Borrow.{Bor}
 use Rattle.std.proofs.lemmas.List.Splits.{length-slice_split}
 use Rattle.std.proofs.lemmas.List.Sums.{count_by-le-length}
@@ -25,8 +25,8 @@ loop-line-preserved c =
     let spelled : Bor (List ℕ) → List ℕ = λ line. chars line.now in
     record {
       width = c.with_line-size.ensures.width ∙ ap (λ w. max w (length (encode_utf8_all (chars c.in-Some.line.now)))) c.loop-line.invariant.width
-          ∙ sym (label_width-push (map spelled c.loop-line.yielded) (chars c.in-Some.line.now))
-          ∙ ap label_width (sym (map_push spelled c.loop-line.yielded c.in-Some.line));
+          ∙ sym (pieces_width-push (map spelled c.loop-line.yielded) (chars c.in-Some.line.now))
+          ∙ ap pieces_width (sym (map_push spelled c.loop-line.yielded c.in-Some.line));
       height = omega (arith, c.with_line-size.ensures.height, c.loop-line.invariant.height, length_push c.loop-line.yielded c.in-Some.line);
       few = c.with_line-size.ensures.few;
     }
@@ -38,7 +38,7 @@ returns c =
     let pieces = ap (map chars) all.0 ∙ lines_at-chars c.args.text.now c.utf8.text in
     record {
       size = record {
-        width = c.loop-line.invariant.width ∙ ap label_width (sym (map-map chars (λ line. line.now) c.loop-line.yielded) ∙ pieces);
+        width = c.loop-line.invariant.width ∙ ap pieces_width (sym (map-map chars (λ line. line.now) c.loop-line.yielded) ∙ pieces);
         height = c.loop-line.invariant.height ∙ all.1 ∙ sym (length-map (lines_at c.args.text.now) chars)
             ∙ ap length (lines_at-chars c.args.text.now c.utf8.text);
         few = c.loop-line.invariant.few;

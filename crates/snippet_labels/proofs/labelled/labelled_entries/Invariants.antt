@@ -5,7 +5,7 @@ use Rattle.snippet_labels.proofs.labelled.labelled_entries.Given as goal
 abbrev pub invariant-loop-i : goal.invariant-loop-i
 invariant-loop-i l = record {
   entries : map (λ e. e.entry) l.labelled.items ≡ reverse (map (shifted l.dropped) (drop l.i l.entries));
-  labels : All (HasItsLabel l.is_cut) l.labelled.items;
+  labels : All (HasItsLabel l.layout) l.labelled.items;
   positions : All (λ e. e.position ≡ 0) l.labelled.items;
   looked : map (λ e. e.looked) l.labelled.items ≡ reverse (range_with_len l.i (length l.entries - l.i));
 }

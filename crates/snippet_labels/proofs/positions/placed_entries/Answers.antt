@@ -17,7 +17,7 @@ stand_in_row-requires c =
     record {
       columns = subst (λ (ps : List PlacedEntry). All (λ (e : PlacedEntry). Q e.entry) ps) (sym c.deref.ensures.value)
           (entries_all Q es c.in_ok-placed.placed.items (subst (IsPermutation es) (sym c.in_ok-placed.ensures.entries) (IsPermutation-reverse es))
-          (shifted_narrow c.args.dropped c.args.entries.now c.requires.columns));
+          (shifted_narrow c.args.dropped c.args.entries.now (λ k d within. (c.requires.places k d within).near)));
     }
 
 pub returns-then-stand_in_row : goal.returns-then-stand_in_row
@@ -25,7 +25,7 @@ returns-then-stand_in_row c =
     let es = map (shifted c.args.dropped) c.args.entries.now in
     let placed = c.in_ok-placed.placed.items in
     record {
-      placed = ArePlaced-row c.args.is_cut es (2 ^ 64 - 1) placed c.in_ok-placed.ensures.entries c.in_ok-placed.ensures.labels
+      placed = ArePlaced-row c.args.layout es (2 ^ 64 - 1) placed c.in_ok-placed.ensures.entries c.in_ok-placed.ensures.labels
           c.in_ok-placed.ensures.positions (c.in_ok-placed.ensures.looked
           ∙ ap (λ n. reverse (range_with_len 0 n)) (sym (length-map c.args.entries.now (shifted c.args.dropped))))
           (subst (StandInRow (2 ^ 64 - 1)) c.deref.ensures.value (c.stand_in_row.ensures.yes c.if-stand_in_row.true));
@@ -42,7 +42,7 @@ set_positions-requires c =
     (IsPermutation-map (λ (e : PlacedEntry). e.entry) (reverse listed) sorted c.in_ok-sort_from_right.ensures.same) in
     record {
       columns = subst (λ (ps : _). All (λ (e : PlacedEntry). Q e.entry) ps) (sym c.deref_mut.ensures.value)
-          (entries_all Q es sorted same (shifted_narrow c.args.dropped c.args.entries.now c.requires.columns));
+          (entries_all Q es sorted same (shifted_narrow c.args.dropped c.args.entries.now (λ k d within. (c.requires.places k d within).near)));
     }
 
 pub returns : goal.returns
@@ -57,9 +57,9 @@ returns c =
     let position : PlacedEntry → ℕ = λ e. e.position in
     let are = c.in_ok-set_positions.ensures.placed in
     record {
-      placed = subst (ArePlaced c.args.is_cut es) (sym whole)
-          (ArePlaced-from c.args.is_cut es (reverse listed) sorted.items placed (turned es listed c.in_ok-placed.ensures.entries)
-          (All-permutation (HasItsLabel c.args.is_cut) listed (reverse listed) back c.in_ok-placed.ensures.labels)
+      placed = subst (ArePlaced c.args.layout es) (sym whole)
+          (ArePlaced-from c.args.layout es (reverse listed) sorted.items placed (turned es listed c.in_ok-placed.ensures.entries)
+          (All-permutation (HasItsLabel c.args.layout) listed (reverse listed) back c.in_ok-placed.ensures.labels)
           c.in_ok-sort_from_right.ensures.same c.in_ok-sort_from_right.ensures.order c.in_ok-sort_from_right.ensures.from_right
           (c.in_ok-set_positions.ensures.placed ∙ ap line_positions c.deref_mut.ensures.value)
           (c.in_ok-set_positions.ensures.looked ∙ ap (look_counts 0) c.deref_mut.ensures.value) kept);

@@ -14,16 +14,16 @@ use Rattle.snippet_strokes.proofs.SplitRows.{enough_begun}
 use Rattle.snippet_strokes.proofs.CellLemmas.{drawn_strokes}
 use Rattle.snippet_strokes.proofs.EveryMark.{strokes_painted}
 use Rattle.snippet_strokes.proofs.LineFromValue.{own_none, own_strokes, painted_added}
+use Rattle.snippet_labels.specs.Positions.{pieces_of}
 use Rattle.snippet_strokes.proofs.strokes.draw_strokes.Goals as goal
 
 pub row_count-count-requires : goal.row_count-count-requires
 row_count-count-requires c =
     let placed = c.in_ok-placed.placed in
-    let is_placed = subst (λ (l : Layout). ArePlaced l.label_lines (map (shifted c.args.place.dropped) c.args.entries.now) placed.items) c.layout.view_is
-    c.in_ok-placed.ensures.placed in
+    let is_placed = c.in_ok-placed.ensures.placed in
     record {
       low = subst (All (λ (e : PlacedEntry). e.position < 2 ^ 60)) (sym c.deref-2.ensures.value) c.in_ok-placed.ensures.low;
-      few = subst (All (λ (e : PlacedEntry). length e.label ≤ 2 ^ 60)) (sym c.deref-2.ensures.value)
+      few = subst (All (λ (e : PlacedEntry). length (pieces_of e) ≤ 2 ^ 60)) (sym c.deref-2.ensures.value)
           (ready_few c.args.layout placed.items (all_ready c.args.layout c.args.place.dropped c.args.entries.now placed.items
           c.requires.entries is_placed));
     }
@@ -31,8 +31,7 @@ row_count-count-requires c =
 pub overlapping-requires : goal.overlapping-requires
 overlapping-requires c =
     let placed = c.in_ok-placed.placed in
-    let is_placed = subst (λ (l : Layout). ArePlaced l.label_lines (map (shifted c.args.place.dropped) c.args.entries.now) placed.items) c.layout.view_is
-    c.in_ok-placed.ensures.placed in
+    let is_placed = c.in_ok-placed.ensures.placed in
     record {
       columns = subst (All (λ (e : PlacedEntry). HasPlace e.entry)) (sym c.deref.ensures.value)
           (ready_places c.args.layout placed.items (all_ready c.args.layout c.args.place.dropped c.args.entries.now placed.items
@@ -40,7 +39,7 @@ overlapping-requires c =
       looked = subst (All (λ (e : PlacedEntry). e.looked < 2 ^ 63)) (sym c.deref.ensures.value) (λ k d within.
           omega (
             arith,
-            looked_of_placed c.args.layout.label_lines (map (shifted c.args.place.dropped) c.args.entries.now) placed.items is_placed k d within,
+            looked_of_placed c.args.layout (map (shifted c.args.place.dropped) c.args.entries.now) placed.items is_placed k d within,
             placed.ok.0,
             placed.small,
           ));
@@ -48,7 +47,7 @@ overlapping-requires c =
 
 -- so many rows are enough, once it is known that there is room for them
 module _ (layout : Layout) (dropped : ℕ) (entries : List LineAnnotation) (row count : ℕ) (placed : List PlacedEntry) (old : List (List Cell)) (closes : Bool)
-    (drawable : AreDrawable layout entries) (are : ArePlaced layout.label_lines (map (shifted dropped) entries) placed)
+    (drawable : AreDrawable layout entries) (are : ArePlaced layout (map (shifted dropped) entries) placed)
     (count_is : count ≡ row_count placed) (last : length old ≡ row + 1) where
   some_rows : 0 < count
   some_rows = omega (arith, count_is, row_count_some placed)
@@ -66,26 +65,25 @@ module _ (layout : Layout) (dropped : ℕ) (entries : List LineAnnotation) (row 
       count_is last refl (omega (arith, small, rows_long))
 
 -- each entry has the rows that it needs
-ready : (cut : Bool) (placed : List PlacedEntry) (es : List LineAnnotation) → ArePlaced cut es placed → (old : List (List Cell)) (row count : ℕ)
+ready : (layout : Layout) (placed : List PlacedEntry) (es : List LineAnnotation) → ArePlaced layout es placed → (old : List (List Cell)) (row count : ℕ)
     → count ≡ row_count placed
     → length old ≡ row + 1 → All (HasRows (row + 1) (length old + count)) placed
-ready cut placed es are old row count count_is last =
+ready layout placed es are old row count count_is last =
     let begun : List (List Cell) = old ++ replicate (count - 1) [] ++ [] ∷ [] in
-    rows_ready placed old begun [] [] count (row + 1) (length old + count) (labels_some cut es placed are) count_is (sym last) refl
+    rows_ready placed old begun [] [] count (row + 1) (length old + count) (labels_some layout es placed are) count_is (sym last) refl
     (sym (rows_begun old begun [] [] count (omega (arith, count_is, row_count_some placed)) refl))
 
 pub draw_rows-requires : goal.draw_rows-requires
 draw_rows-requires c =
     let placed = c.in_ok-placed.placed.items in
-    let is_placed = subst (λ (l : Layout). ArePlaced l.label_lines (map (shifted c.args.place.dropped) c.args.entries.now) placed) c.layout.view_is
-    c.in_ok-placed.ensures.placed in
+    let is_placed = c.in_ok-placed.ensures.placed in
     let es = map (shifted c.args.place.dropped) c.args.entries.now in
     let are = is_placed in
     let count : c.row_count-count.result ≡ row_count placed = c.row_count-count.ensures.value ∙ ap row_count c.deref-2.ensures.value in
     record {
       some = omega (arith, count, row_count_some placed);
       last = c.requires.last;
-      rows = ready c.args.layout.label_lines placed es are c.args.buffer.now c.args.place.row c.row_count-count.result count c.requires.last;
+      rows = ready c.args.layout placed es are c.args.buffer.now c.args.place.row c.row_count-count.result count c.requires.last;
       ready = all_ready c.args.layout c.args.place.dropped c.args.entries.now placed c.requires.entries are;
     }
 
@@ -93,8 +91,7 @@ draw_rows-requires c =
 pub cut_wide-requires : goal.cut_wide-requires
 cut_wide-requires c =
     let placed = c.in_ok-placed.placed.items in
-    let is_placed = subst (λ (l : Layout). ArePlaced l.label_lines (map (shifted c.args.place.dropped) c.args.entries.now) placed) c.layout.view_is
-    c.in_ok-placed.ensures.placed in
+    let is_placed = c.in_ok-placed.ensures.placed in
     let closes = c.args.place.closes in
     let count : c.row_count-count.result ≡ row_count placed = c.row_count-count.ensures.value ∙ ap row_count c.deref-2.ensures.value in
     let enough = enough_rows c.args.layout c.args.place.dropped c.args.entries.now c.args.place.row c.row_count-count.result placed c.args.buffer.now closes
@@ -129,8 +126,7 @@ returns c =
     let layout = c.args.layout in
     let row = c.args.place.row in
     let placed = c.in_ok-placed.placed.items in
-    let is_placed = subst (λ (l : Layout). ArePlaced l.label_lines (map (shifted c.args.place.dropped) c.args.entries.now) placed) c.layout.view_is
-    c.in_ok-placed.ensures.placed in
+    let is_placed = c.in_ok-placed.ensures.placed in
     let after = painting_order placed in
     let old = c.args.buffer.now in
     let sep = separator_row layout.decor layout.gutter in
