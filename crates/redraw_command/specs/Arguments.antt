@@ -38,8 +38,8 @@ parsed_rule name parser = record (valued_rule name) { parser = Some parser }
 -- the options that say in which form reports are written, and that stand alone
 abbrev pub form_rules : List Rule
 form_rules =
-    flag_rule (codes "unicode") ∷ flag_rule (codes "text") ∷ flag_rule (codes "short") ∷ flag_rule (codes "github")
-    ∷ flag_rule (codes "html") ∷ flag_rule (codes "markdown") ∷ flag_rule (codes "verify") ∷ []
+    flag_rule (codes "unicode") ∷ flag_rule (codes "text") ∷ flag_rule (codes "short") ∷ flag_rule (codes "fit")
+    ∷ flag_rule (codes "github") ∷ flag_rule (codes "html") ∷ flag_rule (codes "markdown") ∷ flag_rule (codes "verify") ∷ []
 
 -- the other options that stand alone
 abbrev pub flag_rules : List Rule
@@ -57,12 +57,16 @@ level_words = codes "error" ∷ codes "warning" ∷ codes "note" ∷ []
 abbrev pub column_words : List Argument
 column_words = codes "utf16" ∷ codes "chars" ∷ codes "bytes" ∷ codes "display" ∷ []
 
--- the options that have a value after them, where these are the words for three of them
-abbrev pub valued_rules : (colors levels columns : Bor (List (Bor Argument))) → List Rule
-valued_rules colors levels columns =
+-- the options that have a value after them and say how reports look, where these are the words for one of them
+abbrev pub look_rules : (colors : Bor (List (Bor Argument))) → List Rule
+look_rules colors =
     parsed_rule (codes "color") (Names colors) ∷ parsed_rule (codes "width") (Unsigned 0 18446744073709551615)
-    ∷ parsed_rule (codes "root") NonEmptyString ∷ parsed_rule (codes "level") (Names levels)
-    ∷ parsed_rule (codes "path") NonEmptyString ∷ parsed_rule (codes "columns") (Names columns) ∷ []
+    ∷ parsed_rule (codes "root") NonEmptyString ∷ []
+
+-- those that say what is drawn, where these are the words for two of them
+abbrev pub choice_rules : (levels columns : Bor (List (Bor Argument))) → List Rule
+choice_rules levels columns =
+    parsed_rule (codes "level") (Names levels) ∷ parsed_rule (codes "path") NonEmptyString ∷ parsed_rule (codes "columns") (Names columns) ∷ []
 
 -- a command with more options
 abbrev pub with_rules : App → List Rule → App
@@ -77,7 +81,7 @@ bare_app = on_top (λ s. record s { no_binary_name = true; has_version = true; a
 -- the command, where these are the words for three of its options
 abbrev pub redraw_app : (colors levels columns : Bor (List (Bor Argument))) → App
 redraw_app colors levels columns =
-    with_rule (with_rules (with_rules (with_rules bare_app form_rules) flag_rules) (valued_rules colors levels columns))
+    with_rule (with_rules (with_rules (with_rules (with_rules bare_app form_rules) flag_rules) (look_rules colors)) (choice_rules levels columns))
     (files_rule (codes "inputs"))
 
 -- that command. Where in memory the words for three of its options stand is left open
@@ -147,6 +151,7 @@ look_of found = record {
   unicode = was_given (codes "unicode") found;
   text = was_given (codes "text") found;
   short = was_given (codes "short") found;
+  fit = was_given (codes "fit") found;
   markup = markup_of (was_given (codes "html") found) (was_given (codes "markdown") found)
       (not (was_given (codes "github") found || was_given (codes "verify") found));
   github = was_given (codes "github") found;

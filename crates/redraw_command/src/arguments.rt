@@ -7,8 +7,8 @@ ghost use Rattle.clap.specs.Simple.{matches_of as rows_for};
 ghost use Rattle.std.specs.Option.{option_and_then};
 ghost use Rattle.program.specs.Numbers as numbers;
 ghost use Rattle.redraw_command.specs.Arguments as spec;
-ghost use Rattle.redraw_command.specs.Arguments.{IsChoiceOf, IsRedraw, IsRequestOf, form_rules, flag_rules, names_at};
-ghost use Rattle.redraw_command.specs.Arguments.{parsed_rule, valued_rules, when_of, with_rules};
+ghost use Rattle.redraw_command.specs.Arguments.{IsChoiceOf, IsRedraw, IsRequestOf, form_rules, flag_rules, look_rules};
+ghost use Rattle.redraw_command.specs.Arguments.{choice_rules, names_at, parsed_rule, when_of, with_rules};
 ghost use Rattle.redraw_command.specs.Arguments.{argument_at, arguments_at};
 
 use crate::choice::{Choice, Least, OutputForm};
@@ -77,8 +77,9 @@ fn command<'a>(alloc: Global) -> Result<Command<'a>, AllocError>
         .args_override_self(true);
     let formed = with_forms(alloc, command)?;
     let flagged = with_flags(alloc, formed)?;
-    let valued = with_values(alloc, flagged)?;
-    let whole = valued.arg(files(alloc, "inputs", INPUTS))?;
+    let looked = with_look(alloc, flagged)?;
+    let chosen = with_choice(alloc, looked)?;
+    let whole = chosen.arg(files(alloc, "inputs", INPUTS))?;
     Ok(whole)
 }
 
@@ -97,6 +98,7 @@ fn with_forms<'a>(alloc: Global, command: Command<'a>) -> Result<Command<'a>, Al
         "Write reports without graphics, as they are read aloud",
     );
     let short = flag(alloc, "short", "Write each report on one line");
+    let fit = flag(alloc, "fit", "Break titles and labels that are too wide");
     let github = flag(
         alloc,
         "github",
@@ -113,6 +115,7 @@ fn with_forms<'a>(alloc: Global, command: Command<'a>) -> Result<Command<'a>, Al
         .arg(unicode)?
         .arg(text)?
         .arg(short)?
+        .arg(fit)?
         .arg(github)?
         .arg(html)?
         .arg(markdown)?
@@ -168,16 +171,13 @@ fn with_flags<'a>(alloc: Global, command: Command<'a>) -> Result<Command<'a>, Al
     Ok(flagged)
 }
 
-/// A command with the options that have a value after them.
-fn with_values<'a>(alloc: Global, command: Command<'a>) -> Result<Command<'a>, AllocError>
-    ensures app { IfOk result (λ added. (colors levels columns : _)
-        × (arguments_at colors.now ≡ spec.color_words) × (arguments_at levels.now ≡ spec.level_words)
-        × (arguments_at columns.now ≡ spec.column_words)
-        × (app_of added ≡ with_rules (app_of command.entry) (valued_rules colors levels columns))) }
+/// A command with the options that have a value after them and say how reports look: their colors, their width, and the
+/// folder that paths are shown from.
+fn with_look<'a>(alloc: Global, command: Command<'a>) -> Result<Command<'a>, AllocError>
+    ensures app { IfOk result (λ added. (colors : _) × (arguments_at colors.now ≡ spec.color_words)
+        × (app_of added ≡ with_rules (app_of command.entry) (look_rules colors))) }
 {
     let colors = color_words();
-    let levels = level_words();
-    let columns = column_words();
     let color = parsed(
         alloc,
         "color",
@@ -199,6 +199,19 @@ fn with_values<'a>(alloc: Global, command: Command<'a>) -> Result<Command<'a>, A
         ValueParser::NonEmptyString,
         "The folder that files are read below, and that paths are shown from",
     );
+    let looked = command.arg(color)?.arg(width)?.arg(root)?;
+    Ok(looked)
+}
+
+/// A command with the options that have a value after them and say what is drawn: the findings of which level and in
+/// which files, and at which columns.
+fn with_choice<'a>(alloc: Global, command: Command<'a>) -> Result<Command<'a>, AllocError>
+    ensures app { IfOk result (λ added. (levels columns : _) × (arguments_at levels.now ≡ spec.level_words)
+        × (arguments_at columns.now ≡ spec.column_words)
+        × (app_of added ≡ with_rules (app_of command.entry) (choice_rules levels columns))) }
+{
+    let levels = level_words();
+    let columns = column_words();
     let level = parsed(
         alloc,
         "level",
@@ -220,14 +233,8 @@ fn with_values<'a>(alloc: Global, command: Command<'a>) -> Result<Command<'a>, A
         ValueParser::Names(columns),
         "What columns count, in SARIF logs whatever they say: display is a terminal's columns",
     );
-    let valued = command
-        .arg(color)?
-        .arg(width)?
-        .arg(root)?
-        .arg(level)?
-        .arg(path)?
-        .arg(unit)?;
-    Ok(valued)
+    let chosen = command.arg(level)?.arg(path)?.arg(unit)?;
+    Ok(chosen)
 }
 
 /// An option that has a value after it, which has to be such a one.
@@ -327,6 +334,7 @@ fn look_of(matches: &ArgMatches<'_>) -> Look
         unicode: was_given(matches, "unicode"),
         text: was_given(matches, "text"),
         short: was_given(matches, "short"),
+        fit: was_given(matches, "fit"),
         markup: markup_of(
             was_given(matches, "html"),
             was_given(matches, "markdown"),

@@ -42,6 +42,8 @@ pub struct Look {
     pub text: bool,
     /// Whether reports are written on one line each.
     pub short: bool,
+    /// Whether titles, messages and labels are broken where they are wider than the width that lines are cut to.
+    pub fit: bool,
     /// The markup that all is written in. In HTML reports are in the graphic form.
     pub markup: Markup,
     /// Whether findings are written as workflow commands of GitHub.

@@ -239,10 +239,11 @@ pub cut_run : {File Standard : Type 0} (held : File ⊎ Standard → Option (Lis
 cut_run held names a b err status drawn told ends = inr record { end = b; drawn = drawn; printed = refl; told = told; ends = ends }
 
 -- what a run begins with
-pub run_from : (P : State → Type 0) (r looked : ReportRenderer) (c : Choice) (t : Tally) (out err : Standing) → r ≡ looked → t ≡ no_tally
-    → P record { renderer = r; choice = c; tally = t; out = out; err = err } → P (nothing_begun looked c out err)
-run_from P r looked c t out err is none h =
-    subst P (ap₂ (λ (x : ReportRenderer) (y : Tally). record { renderer = x; choice = c; tally = y; out = out; err = err }) is none) h
+pub run_from : (P : State → Type 0) (r looked : ReportRenderer) (c chosen : Choice) (t : Tally) (out err : Standing) → r ≡ looked → c ≡ chosen
+    → t ≡ no_tally → P record { renderer = r; choice = c; tally = t; out = out; err = err } → P (nothing_begun looked chosen out err)
+run_from P r looked c chosen t out err is takes none h =
+    subst (λ (d : Choice). P (nothing_begun looked d out err)) takes
+    (subst P (ap₂ (λ (x : ReportRenderer) (y : Tally). record { renderer = x; choice = c; tally = y; out = out; err = err }) is none) h)
 
 -- what sums up a run by what is asked for at its end
 pub finishes_by : {File Standard : Type 0} (held : File ⊎ Standard → Option (List ℕ)) (names : List (List ℕ)) (a b : State) (is_whole : Bool)

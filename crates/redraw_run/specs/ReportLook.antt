@@ -20,7 +20,8 @@ shared_options look around =
     }
 
 -- how reports are drawn: in the settings of these options, with links in HTML and where codes are written and links are asked for, with
--- line feeds shown and controls masked; and in the markup that is asked for
+-- line feeds shown and controls masked, and with titles, messages and labels that are too wide broken into rows where reports are to fit;
+-- and in the markup that is asked for
 abbrev pub looks : Look → Surroundings → ReportRenderer
 looks look around =
     record {
@@ -28,6 +29,8 @@ looks look around =
         hyperlink = is_html look.markup || (has_colors look around && has_links look around);
         show_line_feeds = true;
         mask_controls = true;
+        wrap = look.fit;
+        label_lines = look.fit;
       };
       markup = look.markup;
       is_workflow = look.github;

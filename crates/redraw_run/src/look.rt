@@ -16,7 +16,8 @@ pub struct ReportRenderer {
     pub is_workflow: bool,
 }
 
-/// What draws reports as they are to look there. In HTML they are in the graphic form, and link.
+/// What draws reports as they are to look there. In HTML they are in the graphic form, and link. Where they are to fit,
+/// each row of a label that is broken stands below the one before.
 pub fn renderer_for(look: &Look, around: Surroundings<'_>) -> ReportRenderer
     ensures settings { result ≡ looks look.now around.entry }
 {
@@ -31,7 +32,9 @@ pub fn renderer_for(look: &Look, around: Surroundings<'_>) -> ReportRenderer
     let settings = renderer_of(options)
         .hyperlink(look.markup.is_html() || has_colors && look.has_links(around))
         .show_line_feeds(true)
-        .mask_controls(true);
+        .mask_controls(true)
+        .wrap(look.fit)
+        .label_lines(look.fit);
     ReportRenderer {
         settings,
         markup: look.markup,

@@ -5,21 +5,21 @@ ghost use Rattle.clap.specs.declared.error.kind.ErrorKind.TheVariants as kind;
 ghost use Rattle.std.specs.IoError.{error_kind};
 ghost use Rattle.std.specs.declared.io.ErrorKind.TheVariants.{BrokenPipe};
 ghost use Rattle.program.specs.Inputs.{held_by};
-ghost use Rattle.redraw_command.specs.Tally.{is_empty, tally_status};
+ghost use Rattle.redraw_command.specs.Tally.{is_empty, no_tally, tally_status};
 ghost use Rattle.redraw_command.specs.Told.{Tells, TellsMemory, TellsOfArguments};
 ghost use Rattle.redraw_command.specs.Arguments.{arguments_at};
 ghost use Rattle.redraw_run.specs.Deeds.{standing};
 ghost use Rattle.redraw_run.specs.Inputs as spec;
 ghost use Rattle.redraw_run.specs.Inputs.{AreCut, AreDrawn, IsCutFrom, IsInputCut, IsDrawnFrom, IsDrawnOf, held_in};
 ghost use Rattle.redraw_run.specs.ReadLines.{IsTextPrinted, SumsUp};
-ghost use Rattle.redraw_run.specs.Run.{Answers, ArePartlyPrinted, AreInputsPrinted, Draws, EndsInput};
+ghost use Rattle.redraw_run.specs.Run.{Answers, ArePartlyPrinted, AreInputsPrinted, Draws, EndsInput, Runs};
 ghost use Rattle.output_stream.specs.Standing.{known};
 
 use crate::draw::Drawing;
 use crate::files::FilesUnder;
 use crate::html;
 use crate::input::draw_input;
-use crate::look::renderer_for;
+use crate::look::{ReportRenderer, renderer_for};
 use crate::page::Page;
 use crate::write::pass;
 use output_stream::Stream;
@@ -124,35 +124,73 @@ fn draw_all<'w, R: Files + Input + AllocGlobal, W: Write, V: Write>(
         tell_memory(err);
         return FAILED;
     };
+    let choice = Choice {
+        folder: shown_from(request.choice.form, &folder),
+        ..request.choice
+    };
     let outside = Cell::new(0);
-    let line_files = FilesUnder::for_lines(rt, &request, &outside);
-    let log_files = FilesUnder::for_logs(rt, &request, &outside);
     // A line that names a file elsewhere passes through, and isn't counted.
     let unheard = Cell::new(0);
-    let asked_files = FilesUnder::for_lines(rt, &request, &unheard);
-    let renderer = renderer_for(&request.look, around);
-    let tally = Tally::new();
-    let mut drawing = Drawing {
+    let mut drawing = begun(
+        alloc,
+        renderer_for(&request.look, around),
+        choice,
+        FilesUnder::for_lines(rt, &request, &outside),
+        FilesUnder::for_logs(rt, &request, &outside),
+        FilesUnder::for_lines(rt, &request, &unheard),
+    );
+    draw_to_end(rt, request.inputs, &mut drawing, &outside, out, err)
+}
+
+/// What is drawn from, where nothing is drawn yet. Lines and logs name the files that are read; of the last ones it is
+/// asked whether one is at hand.
+fn begun<'w, S: SourceFiles + Drop>(
+    alloc: Global,
+    renderer: ReportRenderer,
+    choice: Choice<'w>,
+    line_files: S,
+    log_files: S,
+    asked_files: S,
+) -> Drawing<'w, S>
+    ensures looks { result.renderer ≡ renderer }
+    ensures takes { result.choice ≡ choice.entry }
+    ensures uncounted { result.tally ≡ no_tally }
+{
+    Drawing {
         alloc,
         renderer,
-        choice: Choice {
-            folder: shown_from(request.choice.form, &folder),
-            ..request.choice
-        },
+        choice,
         sources: Sources::new(alloc, line_files),
         log_sources: Sources::new(alloc, log_files),
         line_files: asked_files,
-        tally,
+        tally: Tally::new(),
         seen: SeenDiagnostics::new(alloc),
         files: Names::new(alloc),
         page: Page::new(alloc),
         input: STANDARD_INPUT,
         line: 0,
         own_text: None,
-    };
-    match draw_document(rt, request.inputs, &mut drawing, out, err) {
+    }
+}
+
+/// Draws what each input holds, sums it up with how many files weren't read since they lie outside the folder, and
+/// answers the status to end with.
+fn draw_to_end<'r, R: Files + Input + AllocGlobal, S: SourceFiles + Drop, W: Write, V: Write>(
+    rt: &R,
+    names: Option<&[&'r str]>,
+    drawing: &mut Drawing<'r, S>,
+    outside: &Cell<u64>,
+    out: &mut Stream<W>,
+    err: &mut Stream<V>,
+) -> u8
+    ensures status { result ≤ 2 }
+    ensures runs { Runs (held_by R.File.remaining R.Reader.remaining) (spec.asked_names names.entry)
+        (standing drawing.old (known W.contents out.old) (known V.contents err.old))
+        (known W.contents out.new) (known V.contents err.new) result }
+{
+    match draw_document(rt, names, drawing, out, err) {
         Ok(is_whole) => finish(
-            alloc,
+            drawing.alloc,
             Summary {
                 tally: drawing.tally,
                 form: drawing.choice.form,
@@ -162,7 +200,7 @@ fn draw_all<'w, R: Files + Input + AllocGlobal, W: Write, V: Write>(
             is_whole,
             err,
         ),
-        Err(error) => end_unwritten(alloc, error, err),
+        Err(error) => end_unwritten(drawing.alloc, error, err),
     }
 }
 

@@ -5,42 +5,24 @@ use Rattle.redraw_run.specs.Deeds.{State}
 use Rattle.program.specs.Inputs.{held_by}
 use Rattle.redraw_run.specs.Inputs.{asked_names}
 use Rattle.redraw_run.specs.Run.{Runs}
-use Rattle.redraw_run.proofs.Gone.{cut_run, finishes_by, run_from, unwritten}
+use Rattle.redraw_run.proofs.Gone.{run_from}
 use Rattle.output_stream.specs.Standing.{known}
 use Rattle.redraw_run.proofs.run.draw_all.Goals as goal
 
 pub returns-in_default-clause-draws : goal.returns-in_default-clause-draws
 returns-in_default-clause-draws g c = inr record { unprinted = refl; told = c.tell_memory.ensures.told; ends = refl }
 
-pub returns-in-Ok-draw_document-clause-draws : goal.returns-in-Ok-draw_document-clause-draws
-returns-in-Ok-draw_document-clause-draws g c =
-    let held = held_by g.R.File.Read.remaining g.R.Reader.Read.remaining in
-    let choice : Choice = record c.args.request.choice { folder = c.shown_from.result } in
-    let folder = c.shown_from.ensures.value ∙ ap (shown_from c.args.request.choice.form) c.in-Ok.ensures.value in
-    inl (
-      choice,
-      record { folder = folder; rest = refl },
-      run_from
-          (λ (a : State). Runs held (asked_names c.args.request.inputs) a (known g.W.Write.contents c.draw_document.new.out)
-          (known g.V.Write.contents c.finish.new.err) c.finish.result)
-          c.renderer_for-renderer.result _ _ _ _ _ c.renderer_for-renderer.ensures.settings c.new-tally.ensures.value
-          (finishes_by held _ _ _ c.in-Ok-draw_document.is_whole _ c.finish.result c.in-Ok-draw_document.ensures.drawn c.finish.ensures.last
-          c.finish.ensures.status),
-    )
-
 pub returns-clause-draws : goal.returns-clause-draws
 returns-clause-draws g c =
     let held = held_by g.R.File.Read.remaining g.R.Reader.Read.remaining in
     let choice : Choice = record c.args.request.choice { folder = c.shown_from.result } in
     let folder = c.shown_from.ensures.value ∙ ap (shown_from c.args.request.choice.form) c.in-Ok.ensures.value in
+    let begun = c.begun-drawing.ensures in
     inl (
       choice,
       record { folder = folder; rest = refl },
       run_from
-          (λ (a : State). Runs held (asked_names c.args.request.inputs) a (known g.W.Write.contents c.draw_document.new.out)
-          (known g.V.Write.contents c.end_unwritten.new.err) c.end_unwritten.result)
-          c.renderer_for-renderer.result _ _ _ _ _ c.renderer_for-renderer.ensures.settings c.new-tally.ensures.value
-          (cut_run held _ _ _ _ c.end_unwritten.result c.in-Err.ensures.cut
-          (unwritten _ _ (λ closed. ap (known g.V.Write.contents) (c.end_unwritten.ensures.silent closed)) c.end_unwritten.ensures.told)
-          c.end_unwritten.ensures.status),
+          (λ (a : State). Runs held (asked_names c.args.request.inputs) a (known g.W.Write.contents c.draw_to_end.new.out)
+          (known g.V.Write.contents c.draw_to_end.new.err) c.draw_to_end.result)
+          _ _ _ choice _ _ _ (begun.looks ∙ c.renderer_for.ensures.settings) begun.takes begun.uncounted c.draw_to_end.ensures.runs,
     )
