@@ -74,7 +74,7 @@ typedef struct yazgult_renderer {
     size_t context_before; /* how many lines before each that a span is on are shown too */
     size_t context_after;  /* how many after it */
     int unicode;           /* strokes of U+2500.. in place of ASCII */
-    int wrap;              /* titles and messages that are wider than the terminal are broken at blanks */
+    int wrap;              /* titles, messages and labels that are wider than the terminal are broken at blanks */
     int short_message;     /* a row for the report: path, line, column and title */
     int no_graphics;       /* no strokes and colours, for those who hear it */
     int hyperlink;         /* an id links to its address, where the sheet is one of colours */

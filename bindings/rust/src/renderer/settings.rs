@@ -148,8 +148,8 @@ impl Renderer {
         self
     }
 
-    /// Whether a line of a title or message that is wider than the room right of where it begins is broken at the last blank before
-    /// that. It is drawn as it is unless this says otherwise.
+    /// Whether a line of a title, message or label that is wider than the room right of where it begins is broken at the last blank before
+    /// that, that of a label if there is room for 20 columns. It is drawn as it is unless this says otherwise.
     ///
     /// ```
     /// use yazgult::{Group, Level, Renderer};
