@@ -24,13 +24,17 @@ const LEAST_ROOM: usize = 20;
 #[derive(Debug, Drop)]
 pub struct DrawnLabel<'a> {
     text: LabelText<'a>,
+    /// How many bytes its longest piece has, whichever way it stands.
+    width: usize,
 }
 
 /// The text of a label, normalised.
 #[derive(Debug, Drop)]
 enum LabelText<'a> {
-    /// It has one piece, whichever way it stands.
-    Whole(CowStr<'a>),
+    /// It has one piece, whichever way it stands: the text as it was given.
+    Given(&'a str),
+    /// It has one piece, a text that was made of the given one.
+    Made(String),
     /// It is cut at its line feeds.
     Cut(Box<CutLabel<'a>>),
 }
@@ -59,14 +63,14 @@ struct LabelSize {
 }
 
 impl<'a> Model for DrawnLabel<'a> {
-    ghost use Rattle.snippet_labels.specs.LabelSize.{AreSized, pieces_in};
+    ghost use Rattle.snippet_labels.specs.LabelSize.{IsSized, pieces_in};
     ghost use Rattle.snippet_labels.specs.Pieces.{LabelPieces};
 
     ghost Value = { LabelPieces };
 
     ghost view = { λ label. pieces_in label.text };
 
-    ghost invariant = { λ label. AreSized label.text };
+    ghost invariant = { λ label. IsSized label.text label.width };
 }
 
 impl<'a> DrawnLabel<'a> {
@@ -75,9 +79,12 @@ impl<'a> DrawnLabel<'a> {
         ensures beside { result.beside ≡ chars (cow_str_bytes text.entry) ∷ [] }
         ensures below { result.below ≡ chars (cow_str_bytes text.entry) ∷ [] }
     {
-        DrawnLabel {
-            text: LabelText::Whole(text),
-        }
+        let width = text.as_str().len();
+        let text = match text {
+            CowStr::Borrowed(text) => LabelText::Given(text),
+            CowStr::Owned(text) => LabelText::Made(text),
+        };
+        DrawnLabel { text, width }
     }
 
     /// A label of this text that is cut at its line feeds, and broken where it has no room at this cell, at which it
@@ -100,9 +107,11 @@ impl<'a> DrawnLabel<'a> {
     {
         let beside = cut_text(alloc, layout.label_end.saturating_sub(beside), text)?;
         let below = cut_text(alloc, layout.label_end.saturating_sub(below), text)?;
+        let width = beside.size.width.max(below.size.width);
         let label = Box::new(alloc, CutLabel { beside, below })?;
         Ok(DrawnLabel {
             text: LabelText::Cut(label),
+            width,
         })
     }
 
@@ -111,7 +120,8 @@ impl<'a> DrawnLabel<'a> {
         ensures pieces { text_pieces result.1 (chars result.0.now) ≡ spec.label_at position self.now }
     {
         match &self.text {
-            LabelText::Whole(text) => (text.as_str(), false),
+            LabelText::Given(text) => (text, false),
+            LabelText::Made(text) => (text.as_str(), false),
             LabelText::Cut(label) => (cut_at(position, label).text.as_str(), true),
         }
     }
@@ -121,10 +131,7 @@ impl<'a> DrawnLabel<'a> {
         ensures value { result ≡ spec.label_width self.now }
         ensures few { IsCount result }
     {
-        match &self.text {
-            LabelText::Whole(text) => text.as_str().len(),
-            LabelText::Cut(label) => label.beside.size.width.max(label.below.size.width),
-        }
+        self.width
     }
 
     /// How many pieces it has where it stands at this position, at least one.
@@ -132,8 +139,8 @@ impl<'a> DrawnLabel<'a> {
         ensures value { result ≡ length (spec.label_at position self.now) }
     {
         match &self.text {
-            LabelText::Whole(_) => 1,
             LabelText::Cut(label) => cut_at(position, label).size.height,
+            _ => 1,
         }
     }
 

@@ -1,10 +1,11 @@
 //! The entries of a line, each with its label as it is drawn.
-ghost use Rattle.std.specs.Prelude.{◌≡◌, All, IfOk, length, map, reverse};
+ghost use Rattle.std.specs.Prelude.{◌≡◌, ◌∷◌, [], true, All, IfOk, length, map, reverse};
 ghost use Rattle.std.specs.List.{range_with_len};
 ghost use Rattle.snippet_labels.specs.Pieces as spec;
 ghost use Rattle.snippet_labels.specs.Placing.{HasItsLabel, HasPlace};
 ghost use Rattle.snippet_labels.specs.PlacedEntries.{shifted};
 ghost use Rattle.snippet_style.specs.Bounds.{IsAddable, IsColumn};
+ghost use Rattle.snippet_text.specs.Normalized.{normalized_chars};
 
 use crate::drawn_label::DrawnLabel;
 use crate::positions::PlacedEntry;
@@ -36,10 +37,10 @@ pub(crate) fn labelled_entries<'a>(
 {
     let mut labelled = Vec::with_capacity(alloc, entries.len())?;
     for i in (0..entries.len()).rev() {
-        let entry = shifted(&entries[i], dropped);
-        let label = drawn_label(alloc, layout, &entry)?;
+        let given = &entries[i];
+        let label = drawn_label(alloc, dropped, layout, given)?;
         labelled.push(PlacedEntry {
-            entry,
+            entry: shifted(given, dropped),
             label,
             position: 0,
             looked: i,
@@ -58,16 +59,54 @@ fn shifted<'a>(entry: &LineAnnotation<'a>, dropped: usize) -> LineAnnotation<'a>
     shifted
 }
 
-/// The label of an entry: its text, or nothing.
+/// The label of an entry, where this many columns of its line are dropped on the left: its text, or nothing.
 ///
 /// # Errors
 ///
 /// There is no memory for the text.
 fn drawn_label<'a>(
     alloc: Global,
+    dropped: usize,
     layout: Layout,
     entry: &LineAnnotation<'a>,
 ) -> Result<DrawnLabel<'a>, AllocError>
+    requires place { HasPlace entry.now }
+    ensures value { IfOk result (λ label. label ≡ spec.label_of_entry layout (shifted dropped entry.now)) }
+{
+    if layout.label_lines {
+        cut_label(alloc, layout, &shifted(entry, dropped))
+    } else {
+        whole_label(alloc, entry)
+    }
+}
+
+/// The label of an entry where labels have one piece.
+///
+/// # Errors
+///
+/// There is no memory for the text.
+fn whole_label<'a>(alloc: Global, entry: &LineAnnotation<'a>) -> Result<DrawnLabel<'a>, AllocError>
+    ensures beside { IfOk result (λ label. label.beside ≡ normalized_chars entry.now.label ∷ []) }
+    ensures below { IfOk result (λ label. label.below ≡ normalized_chars entry.now.label ∷ []) }
+{
+    match entry.label.text() {
+        Some(text) => Ok(DrawnLabel::whole(normalized(alloc, text)?)),
+        None => Ok(DrawnLabel::whole(CowStr::Borrowed(""))),
+    }
+}
+
+/// The label of an entry where labels are cut.
+///
+/// # Errors
+///
+/// There is no memory for the text.
+#[inline(never)]
+fn cut_label<'a>(
+    alloc: Global,
+    layout: Layout,
+    entry: &LineAnnotation<'a>,
+) -> Result<DrawnLabel<'a>, AllocError>
+    requires cut { layout.label_lines ≡ true }
     requires start { IsColumn entry.now.start.display }
     requires end { IsColumn entry.now.end.display }
     ensures value { IfOk result (λ label. label ≡ spec.label_of_entry layout entry.now) }
@@ -75,9 +114,6 @@ fn drawn_label<'a>(
     let Some(text) = entry.label.text() else {
         return Ok(DrawnLabel::whole(CowStr::Borrowed("")));
     };
-    if !layout.label_lines {
-        return Ok(DrawnLabel::whole(normalized(alloc, text)?));
-    }
     let beside = layout.code_cell(beside_column(entry));
     let below = layout.code_cell(entry.start.display);
     DrawnLabel::cut(alloc, layout, beside, below, text)

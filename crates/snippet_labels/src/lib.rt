@@ -10,4 +10,4 @@ pub mod positions;
 pub use drawn_label::DrawnLabel;
 pub use labelled::beside_column;
 pub use pairs::overlap;
-pub use positions::{PlacedEntry, are_starts, placed_entries};
+pub use positions::{PlacedEntry, are_starts, greatest_position, placed_entries};

@@ -234,7 +234,7 @@ fn flip(entries: &mut [PlacedEntry])
     ensures looked { map (λ e. e.looked) entries.new ≡ map (λ e. e.looked) entries.old }
     ensures kept { map placing.unplaced entries.new ≡ map placing.unplaced entries.old }
 {
-    let greatest = greatest(entries);
+    let greatest = greatest_position(entries);
     for i in 0..entries.len() {
         let placed = &mut entries[i];
         placed.position = greatest.saturating_sub(placed.position);
@@ -242,7 +242,7 @@ fn flip(entries: &mut [PlacedEntry])
 }
 
 /// The greatest position of some entries, 0 where there is none.
-fn greatest(entries: &[PlacedEntry]) -> usize
+pub fn greatest_position(entries: &[PlacedEntry]) -> usize
     ensures value { result ≡ greatest (map (λ e. e.position) entries.now) }
 {
     let mut greatest = 0;

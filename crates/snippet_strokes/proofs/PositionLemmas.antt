@@ -5,7 +5,7 @@ use Rattle.snippet_strokes.proofs.Common.{list_any, cases_Bool, ltb-true, length
 use Rattle.snippet_strokes.proofs.Common.{list_any_none, AllPass-from_list_all, LineAnnotation, PlacedEntry, has_label, takes_space, has_stem, are_starts}
 use Rattle.snippet_strokes.proofs.Common.{crosses, position_at, position_after, positions, line_positions, label_place, look_counts, row_count, HasRows}
 use Rattle.snippet_strokes.proofs.Common.{greatest, rows_below, is_start, is_start_part, cases_lt, inl, inr, nat_tests, not, false≢true, ArePlaced, HasPlace}
-use Rattle.snippet_strokes.proofs.Common.{crowds, rules}
+use Rattle.snippet_strokes.proofs.Common.{◌-◌, crowds, if◌then◌else◌, max, rules}
 use Rattle.snippet_parts.proofs.RawDepthLemmas.{greatest-cons}
 use Rattle.snippet_strokes.proofs.Common.{Layout, label_at}
 use Rattle.snippet_labels.specs.Positions.{pieces_of}
@@ -117,6 +117,38 @@ HasRows-row_count row n es some is k d within =
       | inl hangs ↦ grind (arith, nat_tests, hangs, label_place)
       | inr beside ↦ grind (arith, nat_tests, beside, some, label_place)
     ]
+
+-- where each label has one piece as many rows are needed as the greatest position, and one more for labels that hang
+pub rows_of_whole : (starts : Bool) (es : List PlacedEntry) → All (λ e. length (pieces_of e) ≡ 1) es
+    → greatest (map (rows_below starts) es) ≡ (let lowest = greatest (map (λ e. e.position) es) in if lowest == 0 || starts then lowest else lowest + 1)
+rows_of_whole starts [] whole = by_starts starts
+  where
+    by_starts : (b : Bool) → 0 ≡ (if true || b then 0 else 1)
+    by_starts b = refl
+rows_of_whole starts (e ∷ es) whole =
+    let One : PlacedEntry → Type 0 = λ x. length (pieces_of x) ≡ 1 in
+    greatest-cons (rows_below starts e) (map (rows_below starts) es) ∙ ap (max (rows_below starts e)) (rows_of_whole starts es (All-tail One e es whole))
+    ∙ step starts e.position (length (pieces_of e)) (greatest (map (λ (x : PlacedEntry). x.position) es)) (All-head One e es whole)
+    ∙ sym (ap (λ lowest. if lowest == 0 || starts then lowest else lowest + 1)
+    (greatest-cons e.position (map (λ (x : PlacedEntry). x.position) es)))
+  where
+    step : (starts : Bool) (p h g : ℕ) → h ≡ 1
+        → max (if starts then p else (if p == 0 then h - 1 else p + h)) (if g == 0 || starts then g else g + 1)
+        ≡ (if max p g == 0 || starts then max p g else max p g + 1)
+    step true p h g one = grind (arith, nat_tests)
+    step false p h g one = grind (arith, nat_tests, one)
+
+-- the greatest of low positions is low
+pub positions_low : (es : List PlacedEntry) → All (λ e. e.position < 2 ^ 60) es → greatest (map (λ e. e.position) es) < 2 ^ 60
+positions_low [] low = omega arith
+positions_low (e ∷ es) low =
+    let Low : PlacedEntry → Type 0 = λ x. x.position < 2 ^ 60 in
+    omega (
+      arith,
+      greatest-cons e.position (map (λ (x : PlacedEntry). x.position) es),
+      All-head Low e es low,
+      positions_low es (All-tail Low e es low),
+    )
 
 -- a line's strokes have at least one row
 pub row_count_some : (es : List PlacedEntry) → 0 < row_count es

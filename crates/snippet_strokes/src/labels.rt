@@ -72,6 +72,7 @@ pub(crate) fn draw_label<C: Canvas>(
 
 /// Draws the pieces of a text that is cut at its line feeds, each in a row of its own from this one on, and from this
 /// cell of it on.
+#[inline(never)]
 fn draw_pieces<C: Canvas>(
     buffer: &mut C,
     row: usize,

@@ -26,7 +26,7 @@ use crate::marks::draw_marks;
 use crate::row::{begin_closing_row, begin_rows};
 use crate::stems::draw_stems;
 use snippet_grid::{Layout, StyledBuffer};
-use snippet_labels::{PlacedEntry, are_starts, placed_entries};
+use snippet_labels::{PlacedEntry, are_starts, greatest_position, placed_entries};
 use snippet_parts::LineAnnotation;
 use std::alloc::AllocError;
 
@@ -80,7 +80,7 @@ pub(crate) fn draw_strokes(
     }
     let mut placed = placed_entries(alloc, place.dropped, layout, entries)?;
     let overlapped = overlapping(alloc, layout.decor, place.room, &placed)?;
-    let count = row_count(&placed);
+    let count = row_count(layout, &placed);
     draw_rows(buffer, layout, place, count, &mut placed)?;
     cut_wide(buffer, layout, place.row, place.room, &placed, &overlapped)
 }
@@ -214,17 +214,47 @@ fn close_below(buffer: &mut StyledBuffer, layout: Layout, closes: bool) -> Resul
 }
 
 /// How many rows the strokes of some entries take: that of the marks, and as many below it as any of them needs.
-fn row_count(placed: &[PlacedEntry]) -> usize
+fn row_count(layout: Layout, placed: &[PlacedEntry]) -> usize
     requires low { All (λ e. IsRowNumber e.position) placed.now }
     requires few { All (λ e. AreRows (length (pieces_of e))) placed.now }
+    requires whole { layout.label_lines ≡ false → All (λ e. length (pieces_of e) ≡ 1) placed.now }
     ensures value { result ≡ spec.row_count placed.now }
+{
+    if layout.label_lines {
+        lowest_piece(placed) + 1
+    } else {
+        lowest_label(placed) + 1
+    }
+}
+
+/// How many rows below that of the marks any of some entries needs.
+fn lowest_piece(placed: &[PlacedEntry]) -> usize
+    requires low { All (λ e. IsRowNumber e.position) placed.now }
+    requires few { All (λ e. AreRows (length (pieces_of e))) placed.now }
+    ensures value { result + 1 ≡ spec.row_count placed.now }
+    ensures small { IsCount result }
 {
     let starts = are_starts(placed);
     let mut below: usize = 0;
     for entry in placed {
         below = below.max(rows_below(starts, entry));
     }
-    below + 1
+    below
+}
+
+/// The same where each label has one piece: one that hangs stands a row below its position.
+fn lowest_label(placed: &[PlacedEntry]) -> usize
+    requires low { All (λ e. IsRowNumber e.position) placed.now }
+    requires whole { All (λ e. length (pieces_of e) ≡ 1) placed.now }
+    ensures value { result + 1 ≡ spec.row_count placed.now }
+    ensures small { IsCount result }
+{
+    let lowest = greatest_position(placed);
+    if lowest == 0 || are_starts(placed) {
+        lowest
+    } else {
+        lowest + 1
+    }
 }
 
 /// How many rows an entry needs below that of the marks: down to the last piece of its label. Starts, which have no
@@ -235,12 +265,11 @@ fn rows_below(starts: bool, placed: &PlacedEntry) -> usize
     ensures value { result ≡ spec.rows_below starts placed.now }
     ensures small { IsCount result }
 {
-    let height = placed.label.height(placed.position);
     if starts {
         placed.position
     } else if placed.position == 0 {
-        height.saturating_sub(1)
+        placed.label.height(0).saturating_sub(1)
     } else {
-        placed.position + height
+        placed.position + placed.label.height(placed.position)
     }
 }

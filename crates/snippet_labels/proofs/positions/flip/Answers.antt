@@ -16,7 +16,7 @@ loop-i-preserved c =
     let es = at.entries in
     let given = c.args.entries.now in
     let i : ℕ = at.i in
-    let g = c.greatest-greatest.result in
+    let g = c.greatest_position-greatest.result in
     let d = c.index-entries-i.result in
     let e : PlacedEntry = get_or es i d in
     let placed : PlacedEntry = record e { position = c.saturating_sub-placed.result } in
@@ -42,12 +42,12 @@ returns c =
     let es = at.entries in
     let given = c.args.entries.now in
     let ps : List ℕ = map (λ e. e.position) given in
-    let flipped : List ℕ = map (λ p. c.greatest-greatest.result - p) ps in
+    let flipped : List ℕ = map (λ p. c.greatest_position-greatest.result - p) ps in
     let all : length given ≡ at.i = omega (arith, c.loop-i-test.false, c.loop-i.auto.i-end) in
     record {
       flipped = ap (map (λ e. e.position)) (sym (take_all at.i es (omega (arith, all, at.invariant.count)))) ∙ at.invariant.flipped
-          ∙ take_all at.i flipped (omega (arith, all, length-map given (λ e. e.position), length-map ps (λ p. c.greatest-greatest.result - p)))
-          ∙ ap (λ n. map (λ p. n - p) ps) c.greatest-greatest.ensures.value;
+          ∙ take_all at.i flipped (omega (arith, all, length-map given (λ e. e.position), length-map ps (λ p. c.greatest_position-greatest.result - p)))
+          ∙ ap (λ n. map (λ p. n - p) ps) c.greatest_position-greatest.ensures.value;
       looked = at.invariant.looked;
       kept = at.invariant.kept;
     }

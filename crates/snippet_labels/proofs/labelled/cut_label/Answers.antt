@@ -1,7 +1,7 @@
 use Rattle.snippet_labels.proofs.Common.{◌≡◌, ◌∙◌, ◌∷◌, [], ℕ, List, ap, chars-nil, option_copied, sym, LabelPieces, label_pieces, beside_column, code_cell}
 use Rattle.snippet_labels.proofs.Common.{normalized_chars}
 use Rattle.snippet_labels.proofs.PieceLemmas.{label_pieces-nil}
-use Rattle.snippet_labels.proofs.labelled.drawn_label.Goals as goal
+use Rattle.snippet_labels.proofs.labelled.cut_label.Goals as goal
 
 -- a label of no text
 pub returns-in_default : goal.returns-in_default

@@ -1,5 +1,5 @@
 use Rattle.snippet_labels.proofs.Common.{◌≡◌, max, fold, take, PlacedEntry}
-use Rattle.snippet_labels.proofs.positions.greatest.Given as goal
+use Rattle.snippet_labels.proofs.positions.greatest_position.Given as goal
 
 -- the greatest so far
 abbrev pub invariant-loop-one : goal.invariant-loop-one
