@@ -6,7 +6,7 @@ use Rattle.snippet_strokes.proofs.Common.{crosses, position_at, position_after, 
 use Rattle.snippet_strokes.proofs.Common.{Cell, SPACE, cell_at, cases_eq, mark_end, HasPlace, ArePlaced, crowds, label_width, rules}
 use Rattle.snippet_strokes.proofs.PositionLemmas.{length-positions}
 use Rattle.snippet_strokes.proofs.PaintedMarks.{AreMarked, IsPaintedAt, StandsWhole}
-use Rattle.snippet_strokes.proofs.PieceWrites.{has_piece, labels_some, label_chars_le}
+use Rattle.snippet_strokes.proofs.PieceWrites.{has_piece, label_chars_le}
 use Rattle.snippet_strokes.proofs.PieceWrites.{labels_some_at}
 use Rattle.snippet_strokes.proofs.Common.{label_at}
 use Rattle.snippet_labels.specs.Positions.{pieces_of}

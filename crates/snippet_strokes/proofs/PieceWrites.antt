@@ -221,6 +221,12 @@ pub own_pieces : (layout : Layout) (es : List LineAnnotation) (placed : List Pla
     → All (λ e. pieces_of e ≡ text_pieces layout.label_lines (shown_text layout e)) placed
 own_pieces layout es placed is k d within = pieces_are layout (get_or placed k d) (is.labels k d within)
 
+-- so where labels aren't cut each placed entry has one
+pub pieces_whole : (layout : Layout) → layout.label_lines ≡ false → (es : List LineAnnotation) (placed : List PlacedEntry) → ArePlaced layout es placed
+    → All (λ e. length (pieces_of e) ≡ 1) placed
+pieces_whole layout uncut es placed is k d within =
+    ap length (own_pieces layout es placed is k d within) ∙ ap (λ cut. length (text_pieces cut (shown_text layout (get_or placed k d)))) uncut
+
 -- so each placed entry has a piece, whichever way it stands
 pub labels_some_at : (layout : Layout) (es : List LineAnnotation) (placed : List PlacedEntry) → ArePlaced layout es placed → (position : ℕ)
     → All (λ e. 0 < length (label_at position e.label)) placed

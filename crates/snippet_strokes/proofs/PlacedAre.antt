@@ -1,7 +1,7 @@
 -- The entries of a line that are placed are those of the value.
 use Rattle.std.proofs.lemmas.Grind.{common_steps}
 use Rattle.snippet_strokes.proofs.Common.{◌≡◌, ℕ, List, [], ◌∷◌, map, All, refl, sym, ap, ◌∙◌, zip, All-head, All-tail, ordered_by}
-use Rattle.snippet_strokes.proofs.Common.{LineAnnotation, PlacedEntry, is_placed_before, line_positions, look_counts, placed_of, ArePlaced, HasItsLabel, Bool}
+use Rattle.snippet_strokes.proofs.Common.{LineAnnotation, PlacedEntry, is_placed_before, line_positions, look_counts, placed_of, ArePlaced, HasItsLabel}
 use Rattle.snippet_strokes.proofs.Common.{unplaced, line_positions-changed, look_counts-changed, placed_of-at, labelled, placed_at, arith}
 use Rattle.snippet_strokes.proofs.Common.{Layout}
 

@@ -1,6 +1,6 @@
 -- The placed entries of a line, as the value that the rule gives: they are placed as painters place them.
 use Rattle.std.proofs.lemmas.Grind.{common_steps}
-use Rattle.snippet_strokes.proofs.Common.{◌≡◌, ℕ, suc, zero, Bool, true, false, List, [], ◌∷◌, All, length}
+use Rattle.snippet_strokes.proofs.Common.{◌≡◌, ℕ, suc, zero, true, false, List, [], ◌∷◌, All, length}
 use Rattle.snippet_strokes.proofs.Common.{map, refl, sym, ap, ◌∙◌, subst, arith, inl, inr, zip, cases_Bool, cond-false, cond-true}
 use Rattle.snippet_strokes.proofs.Common.{length-map, All-cons, All-nil, IsPermutation-map}
 use Rattle.snippet_strokes.proofs.Common.{ordered_by, put_in, All-put_in, LineAnnotation, is_placed_before, line_positions, look_counts}

@@ -121,10 +121,7 @@ HasRows-row_count row n es some is k d within =
 -- where each label has one piece as many rows are needed as the greatest position, and one more for labels that hang
 pub rows_of_whole : (starts : Bool) (es : List PlacedEntry) → All (λ e. length (pieces_of e) ≡ 1) es
     → greatest (map (rows_below starts) es) ≡ (let lowest = greatest (map (λ e. e.position) es) in if lowest == 0 || starts then lowest else lowest + 1)
-rows_of_whole starts [] whole = by_starts starts
-  where
-    by_starts : (b : Bool) → 0 ≡ (if true || b then 0 else 1)
-    by_starts b = refl
+rows_of_whole starts [] whole = refl
 rows_of_whole starts (e ∷ es) whole =
     let One : PlacedEntry → Type 0 = λ x. length (pieces_of x) ≡ 1 in
     greatest-cons (rows_below starts e) (map (rows_below starts) es) ∙ ap (max (rows_below starts e)) (rows_of_whole starts es (All-tail One e es whole))

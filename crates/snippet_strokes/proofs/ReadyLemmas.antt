@@ -1,6 +1,6 @@
 -- What each of some entries that can be drawn has.
 use Rattle.snippet_strokes.proofs.Common.{ℕ, List, All, map, Layout, LineAnnotation, FitsRow, PlacedEntry, shifted, label_text, entries_all, AreDrawable}
-use Rattle.snippet_strokes.proofs.Common.{IsReady, HasBarCell, HasPlace, ArePlaced, Bool, ◌≡◌, ap, arith, get_or, label_pieces, length, subst, sym}
+use Rattle.snippet_strokes.proofs.Common.{IsReady, HasBarCell, HasPlace, ArePlaced, Bool, ◌≡◌, ap, arith, get_or, length, subst, sym}
 use Rattle.snippet_style.specs.Bounds.{AreRows}
 use Rattle.snippet_strokes.proofs.PieceWrites.{pieces_few, pieces_fit}
 use Rattle.snippet_strokes.proofs.ShiftLemmas.{shifted_bars, shifted_places}

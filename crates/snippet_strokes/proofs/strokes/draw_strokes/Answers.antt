@@ -6,7 +6,7 @@ use Rattle.snippet_strokes.proofs.Common.{AreDrawable, Cell, shifted, ArePlaced,
 use Rattle.snippet_strokes.proofs.CutWords.{cut_rows, cuts_of}
 use Rattle.snippet_strokes.proofs.CutPairs.{entries_cut}
 use Rattle.snippet_strokes.proofs.PaintOrder.{IsPermutation-painting_order}
-use Rattle.snippet_strokes.proofs.PieceWrites.{labels_some}
+use Rattle.snippet_strokes.proofs.PieceWrites.{labels_some, pieces_whole}
 use Rattle.snippet_strokes.proofs.PositionLemmas.{looked_of_placed, row_count_some}
 use Rattle.snippet_strokes.proofs.BegunLemmas.{rows_begun, rows_ready}
 use Rattle.snippet_strokes.proofs.ReadyLemmas.{all_ready, ready_few, ready_places}
@@ -26,6 +26,8 @@ row_count-count-requires c =
       few = subst (All (λ (e : PlacedEntry). length (pieces_of e) ≤ 2 ^ 60)) (sym c.deref-2.ensures.value)
           (ready_few c.args.layout placed.items (all_ready c.args.layout c.args.place.dropped c.args.entries.now placed.items
           c.requires.entries is_placed));
+      whole = λ uncut. subst (All (λ (e : PlacedEntry). length (pieces_of e) ≡ 1)) (sym c.deref-2.ensures.value)
+          (pieces_whole c.args.layout uncut (map (shifted c.args.place.dropped) c.args.entries.now) placed.items is_placed);
     }
 
 pub overlapping-requires : goal.overlapping-requires

@@ -1,7 +1,7 @@
 -- The rows so far are those that an entry so far needs at most.
 use Rattle.snippet_strokes.proofs.Common.{◌≡◌, greatest, map, rows_below, take}
 use Rattle.snippet_style.specs.Bounds.{IsCount}
-use Rattle.snippet_strokes.proofs.strokes.row_count.Given as goal
+use Rattle.snippet_strokes.proofs.strokes.lowest_piece.Given as goal
 
 abbrev pub invariant-loop-entry : goal.invariant-loop-entry
 invariant-loop-entry l = record {

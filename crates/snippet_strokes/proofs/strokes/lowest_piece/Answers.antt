@@ -2,7 +2,7 @@ use Rattle.snippet_strokes.proofs.Common.{◌∙◌, ◌+◌, ◌++◌, ◌∷�
 use Rattle.snippet_strokes.proofs.Common.{PlacedEntry}
 use Rattle.std.proofs.lemmas.List.{map_push}
 use Rattle.snippet_parts.proofs.LeastLemmas.{greatest-push}
-use Rattle.snippet_strokes.proofs.strokes.row_count.Goals as goal
+use Rattle.snippet_strokes.proofs.strokes.lowest_piece.Goals as goal
 
 pub loop-entry-preserved : goal.loop-entry-preserved
 loop-entry-preserved c =
@@ -24,4 +24,5 @@ returns c = record {
       ∙ ap (λ xs. greatest (map (rows_below c.are_starts-starts.result) xs))
       (take_all c.loop-entry.entry-index c.args.placed.now (omega (arith, c.loop-entry-test.false)))
       ∙ ap (λ b. greatest (map (rows_below b) c.args.placed.now)) c.are_starts-starts.ensures.value);
+  small = c.loop-entry.invariant.few;
 }
