@@ -1,7 +1,7 @@
 -- What the report that is shown has in common with the one in whose place it is, and that what is shown of it shows the report.
 use Rattle.std.proofs.lemmas.Grind.{common_steps}
 use Rattle.std.proofs.Common.{arith, chars}
-use Rattle.annotate_snippets.proofs.Common.{◌≡◌, ◌∙◌, ℕ, Bool, true, false, List, [], ◌∷◌, Option, None, ◌⊎◌, inl, inr, sym, subst}
+use Rattle.annotate_snippets.proofs.Common.{◌≡◌, ◌∙◌, ◌||◌, ℕ, Bool, true, false, List, [], ◌∷◌, Option, None, ◌⊎◌, inl, inr, sym, subst}
 use Rattle.annotate_snippets.proofs.Common.{refl, All, if◌then◌else◌, false≢true, All-contains, All-weaker, AllZip, Contains, flat_map, AllZip-weaker}
 use Rattle.annotate_snippets.proofs.Common.{ReportFits, trusted_texts, Element, Group, Title, IsElementMasked, IsGroupMasked, IsTitleMasked, IsElementAsSet}
 use Rattle.annotate_snippets.proofs.Common.{IsGroupAsSet, IsTitleAsSet, IsElementWrapped, IsGroupWrapped, IsTitleWrapped, IsGroupMade, Stays}
@@ -18,6 +18,7 @@ use Rattle.annotate_snippets.proofs.FeedsShown.{feeds-faithful, plain-fed}
 use Rattle.annotate_snippets.proofs.FormsShown.{are-free, free-in}
 use Rattle.annotate_snippets.proofs.MaskLaws.{around-clean, masked-clean, wrapped-clean}
 use Rattle.annotate_snippets.proofs.MaskShown.{mask-faithful, masked-line, masked-unlisted}
+use Rattle.annotate_snippets.proofs.OneLineTexts.{cut_or_whole}
 use Rattle.annotate_snippets.proofs.RemadeLemmas.{IsFaithful, Keeps, keeps, keeps-own, keeps-then, refusal-kept}
 use Rattle.annotate_snippets.proofs.WrapShown.{rewrapped-set, wrap-faithful, wrapped-line}
 
@@ -85,15 +86,16 @@ over P Made false xs ys step same holds = subst P (sym same) holds
 -- ---- what changes: no line feed, no control
 
 -- where line feeds are shown, no label, path, id and name of a level of what is shown holds one
-pub plain-set : (form : Form) (r : Renderer) (groups shown : List Group) → IsAsSet form r groups shown → r.show_line_feeds ≡ true → HasOneLineTexts shown
+pub plain-set : (form : Form) (r : Renderer) (groups shown : List Group) → IsAsSet form r groups shown → r.show_line_feeds ≡ true → HasOneLineTexts false shown
 plain-set form r groups shown set asked =
     let made : IsRemade form r groups shown = remade-set form r groups shown (feeds-set form r asked) set in
     let pairs : AllZip (IsGroupAsSet true) groups made.fed = subst (λ (feeds : Bool). AllZip (IsGroupAsSet feeds) groups made.fed) asked made.feeds in
-    over HasOneLineTexts (IsGroupWrapped r.term_width (gutter_of_report r made.around)) (wraps form r) made.around shown
+    over (HasOneLineTexts false) (IsGroupWrapped r.term_width (gutter_of_report r made.around)) (wraps form r) made.around shown
     (wrapped-line r.term_width (gutter_of_report r made.around) made.around shown) made.wrap
-    (over HasOneLineTexts (IsGroupWithContext r.context_before r.context_after) (adds_context form r) made.masked made.around
+    (over (HasOneLineTexts false) (IsGroupWithContext r.context_before r.context_after) (adds_context form r) made.masked made.around
     (plain-around r.context_before r.context_after made.masked made.around) made.context
-    (over HasOneLineTexts IsGroupMasked r.mask_controls made.fed made.masked (masked-line made.fed made.masked) made.mask (plain-fed groups made.fed pairs)))
+    (over (HasOneLineTexts false) IsGroupMasked r.mask_controls made.fed made.masked (masked-line made.fed made.masked) made.mask
+    (plain-fed groups made.fed pairs)))
 
 -- where controls are masked, no text of what is shown holds one
 clean-set : (form : Form) (r : Renderer) (groups shown : List Group) → IsAsSet form r groups shown → r.mask_controls ≡ true → HasNoControls shown
@@ -109,13 +111,13 @@ clean-set form r groups shown set asked =
 
 -- ---- what is shown shows the report
 
-graphic-laws : (form : Form) (r : Renderer) (shown : List Group) → form ≡ Graphic → FormLaws form r shown → HasOneLineTexts shown
+graphic-laws : (form : Form) (r : Renderer) (shown : List Group) → form ≡ Graphic → FormLaws form r shown → HasOneLineTexts false shown
     → text_lines (page_text (graphic_form r shown)) ≡ page_lines (graphic_form r shown)
-graphic-laws Graphic r shown is laws plain = laws.lines plain
+graphic-laws Graphic r shown is laws plain = laws.lines (cut_or_whole (r.label_lines || r.wrap) shown plain)
 graphic-laws Short r shown is laws plain = cc
 graphic-laws Text r shown is laws plain = cc
 
-text-laws : (form : Form) (r : Renderer) (shown : List Group) → form ≡ Text → FormLaws form r shown → r.show_line_feeds ≡ true → HasOneLineTexts shown
+text-laws : (form : Form) (r : Renderer) (shown : List Group) → form ≡ Text → FormLaws form r shown → r.show_line_feeds ≡ true → HasOneLineTexts false shown
     → text_lines (form_text (text_form r shown)) ≡ lines_of_paragraphs (report_paragraphs r shown)
 text-laws Text r shown is laws asked plain = laws.lines asked plain
 text-laws Graphic r shown is laws asked plain = cc

@@ -19,6 +19,7 @@ use Rattle.annotate_snippets.proofs.InfoLines.{bounds_ordered, info_at, infos_se
 use Rattle.annotate_snippets.proofs.LineFeedLaws.{lines_one_line}
 use Rattle.annotate_snippets.proofs.LineValue.{lines_value}
 use Rattle.annotate_snippets.proofs.NamedRows.{cells_of-append, cells_of-others}
+use Rattle.annotate_snippets.proofs.OneLineTexts.{whole_labels}
 use Rattle.annotate_snippets.proofs.PageLemmas.{named_lines}
 use Rattle.annotate_snippets.proofs.SpanBarRows.{bars_shown}
 use Rattle.annotate_snippets.proofs.PartsFacts.{ends_shown, shown_ascending}
@@ -144,7 +145,8 @@ cause_shown r layout around found s drawable room texts =
       };
       free = free_named (snippet_rows r layout around s) (subst (All IsFree) (sym cells) all_free);
       one_line = λ plain.
-          let own : All HasNoFeed lines = lines_one_line r layout closes s after named.are named.drawn named.begins texts.utf8 plain.1 in
+          let own : All HasNoFeed lines = lines_one_line r layout closes s after named.are named.drawn named.begins texts.utf8
+          (whole_labels layout.label_lines s.markers.items plain.1) in
           let below : All HasNoFeed (lines ++ tail) = All-append HasNoFeed lines tail own (after_one_line r layout around) in
           subst (All HasNoFeed) (sym cells) (All-append HasNoFeed head (lines ++ tail) (head_one_line r layout around s plain.0) below);
     }

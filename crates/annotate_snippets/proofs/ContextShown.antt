@@ -144,18 +144,19 @@ module _ (before after : ℕ) where
       All-cons IsOneLineLabel (visible_mark span) (map visible_mark spans) tt (added-plain [] spans plain)
   added-plain (a ∷ marks) spans plain = grind (arith, added-plain marks spans (All-tail IsOneLineLabel a marks plain), All-cons, map, All-head, All-tail)
 
-  cause-plain : (a b : Snippet Annotation) → IsSnippetWithContext before after a b → IsOneLineElement (Cause a) → IsOneLineElement (Cause b)
+  cause-plain : (a b : Snippet Annotation) → IsSnippetWithContext before after a b → IsOneLineElement false (Cause a) → IsOneLineElement false (Cause b)
   cause-plain a b is plain = grind (arith, added-plain, is.path, plain.0, is.markers, a.markers.items, plain.1)
 
-  element-plain : (a b : Element) → IsElementWithContext before after a b → IsOneLineElement a → IsOneLineElement b
-  element-plain (Message a) (Message b) is plain = subst (λ m. IsOneLineElement (Message m)) (sym is) plain
+  element-plain : (a b : Element) → IsElementWithContext before after a b → IsOneLineElement false a → IsOneLineElement false b
+  element-plain (Message a) (Message b) is plain = subst (λ m. IsOneLineElement false (Message m)) (sym is) plain
   element-plain (Cause a) (Cause b) is plain = cause-plain a b is plain
-  element-plain (Suggestion a) (Suggestion b) is plain = subst (λ s. IsOneLineElement (Suggestion s)) (sym is) plain
-  element-plain (Origin a) (Origin b) is plain = subst (λ o. IsOneLineElement (Origin o)) (sym is) plain
+  element-plain (Suggestion a) (Suggestion b) is plain = subst (λ s. IsOneLineElement false (Suggestion s)) (sym is) plain
+  element-plain (Origin a) (Origin b) is plain = subst (λ o. IsOneLineElement false (Origin o)) (sym is) plain
   element-plain (Padding a) (Padding b) is plain = tt
   element-plain a b is plain = absurd is
 
-  pub plain-around : (groups shown : List Group) → AllZip (IsGroupWithContext before after) groups shown → HasOneLineTexts groups → HasOneLineTexts shown
+  pub plain-around : (groups shown : List Group) → AllZip (IsGroupWithContext before after) groups shown → HasOneLineTexts false groups
+      → HasOneLineTexts false shown
   plain-around groups shown pairs plain =
       line-made Stays (IsElementWithContext before after) (λ a b is line. subst IsOneLineTitle (sym is) line) element-plain groups shown pairs plain
 

@@ -7,4 +7,4 @@ use Rattle.annotate_snippets.proofs.OneLineTexts.{IsOneLineElement}
 pub record ElementShown (r : Renderer) (layout : Layout) (around : ElementContext) (found : List Cell) (e : Element) : Type 0 where
   pub shows : ShowsElement r layout around found e (element_rows r layout around found e)
   pub free : IsFreeElement e (element_rows r layout around found e)
-  pub one_line : IsOneLineElement e → All HasNoFeed (cells_of (element_rows r layout around found e))
+  pub one_line : IsOneLineElement layout.label_lines e → All HasNoFeed (cells_of (element_rows r layout around found e))

@@ -202,13 +202,13 @@ title-plain None (Some b) is = cc
 title-plain (Some a) None is = absurd is
 title-plain (Some a) (Some b) is = (level-plain b.level.kind a.level.name b.level.name is.0.0, id-plain a.id b.id is.1)
 
-cause-plain : (a b : Snippet Annotation) → IsSnippetAsSet true (IsAnnotationAsSet true) a b → IsOneLineElement (Cause b)
+cause-plain : (a b : Snippet Annotation) → IsSnippetAsSet true (IsAnnotationAsSet true) a b → IsOneLineElement false (Cause b)
 cause-plain a b is = (
   option-plain a.path b.path is.0,
   all-second (IsAnnotationAsSet true) IsOneLineLabel (λ x y pair. option-plain x.label y.label pair.1) a.markers.items b.markers.items is.3,
 )
 
-element-plain : (a b : Element) → IsElementAsSet true a b → IsOneLineElement b
+element-plain : (a b : Element) → IsElementAsSet true a b → IsOneLineElement false b
 element-plain (Message a) (Message b) is = level-plain b.level.kind a.level.name b.level.name is.0.0
 element-plain (Cause a) (Cause b) is = cause-plain a b is
 element-plain (Suggestion a) (Suggestion b) is = option-plain a.path b.path is.0
@@ -217,9 +217,9 @@ element-plain (Padding a) (Padding b) is = tt
 element-plain a b is = absurd is
 
 -- where line feeds are shown, no label, path, id and name of a level of what is shown holds one
-pub plain-fed : (groups shown : List Group) → AllZip (IsGroupAsSet true) groups shown → HasOneLineTexts shown
+pub plain-fed : (groups shown : List Group) → AllZip (IsGroupAsSet true) groups shown → HasOneLineTexts false shown
 plain-fed groups shown pairs =
-    one_line_texts shown (all-second (IsGroupAsSet true) IsOneLineGroup (λ a b is. (
+    one_line_texts false shown (all-second (IsGroupAsSet true) (IsOneLineGroup false) (λ a b is. (
       title-plain a.title b.title is.1,
-      all-second (IsElementAsSet true) IsOneLineElement element-plain a.elements.items b.elements.items is.2,
+      all-second (IsElementAsSet true) (IsOneLineElement false) element-plain a.elements.items b.elements.items is.2,
     )) groups shown pairs)

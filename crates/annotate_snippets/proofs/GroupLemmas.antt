@@ -151,9 +151,9 @@ module _ (r : Renderer) (layout : Layout) (place : GroupPosition) (file : Option
         element_free trusted e (rows_at i e) (own_of (λ x. AreTextsAmong trusted (trusted_of_element x)) among i e is) (part_shown i e is).free)
 
     -- and no line feed, where no text of the elements brings one
-    parts_one_line : All IsOneLineElement es → All HasNoFeed (flat_map cells_of parts)
+    parts_one_line : All (IsOneLineElement layout.label_lines) es → All HasNoFeed (flat_map cells_of parts)
     parts_one_line plain =
-        parts_each HasNoFeed (λ i e is. (part_shown i e is).one_line (own_of IsOneLineElement plain i e is))
+        parts_each HasNoFeed (λ i e is. (part_shown i e is).one_line (own_of (IsOneLineElement layout.label_lines) plain i e is))
 
 -- the page of a group shows it: each part shows its element
 pub group_shown : (r : Renderer) (layout : Layout) (place : GroupPosition) (file : Option (List ℕ)) (g : Group) → IsGroupDrawable g
@@ -176,5 +176,6 @@ group_shown r layout place file g drawable room texts =
       links = links-append title below (parts-unlinked r layout place file es own drawn room texts) ∙ title_part-links r layout place (next_of es) g.title;
       free = subst (λ ts. IsFreeBut ts (plain_text (title ++ below))) (sym (append-nil trusted)) (free_text trusted (title ++ below) free);
       one_line = λ plain. All-append HasNoFeed title below (title_part-one_line r layout place (next_of es) g.title plain.0)
-          (parts_one_line r layout place file es own drawn room texts (All-filter is_drawn IsOneLineElement g.elements.items plain.1));
+          (parts_one_line r layout place file es own drawn room texts
+          (All-filter is_drawn (IsOneLineElement layout.label_lines) g.elements.items plain.1));
     }

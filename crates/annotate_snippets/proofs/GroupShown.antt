@@ -9,4 +9,4 @@ pub record GroupShown (r : Renderer) (layout : Layout) (place : GroupPosition) (
   pub shows : ShowsGroup r layout place file g (group_page r layout place file g)
   pub links : links_of (group_rows (group_page r layout place file g)) ≡ flat_map (λ (t : Title). id_links r.hyperlink t.id) (option_to_list g.title)
   pub free : IsFreeBut (trusted_texts (g ∷ [])) (plain_text (group_rows (group_page r layout place file g)))
-  pub one_line : IsOneLineGroup g → HasOneLineRows (group_page r layout place file g)
+  pub one_line : IsOneLineGroup layout.label_lines g → HasOneLineRows (group_page r layout place file g)

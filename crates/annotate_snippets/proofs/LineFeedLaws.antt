@@ -1,4 +1,4 @@
--- The rows of an annotated snippet's lines hold a line feed only where a label does, whatever is cut of them.
+-- The rows of an annotated snippet's lines hold a line feed only where a label that isn't cut at it does, whatever is cut of them.
 use Rattle.std.proofs.lemmas.Grind.{common_steps}
 use Rattle.annotate_snippets.proofs.Common.{◌≡◌, ◌≢◌, ℕ, suc, ◌+◌, ◌-◌, ◌<◌, ◌==◌, ◌&&◌, nat_le, nat_lt, Bool, true, false}
 use Rattle.annotate_snippets.proofs.Common.{cond, Option, None, Some, List, [], ◌∷◌, ◌++◌, All, take, drop, map, length, fold, get_or, replicate}
@@ -253,7 +253,7 @@ module _ (layout : Layout) (room : ℕ) (closes : Bool) where
 
   -- nor after that
   drawn_plain : (es : List LineAnnotation) (source : List Cell) (rows : List (List Cell)) (strokes : StrokesPainted layout room closes es source rows)
-      → All (λ e. All IsNoFeed (label_text e)) es → All HasNoFeed (strokes.marks ∷ strokes.lower)
+      → (layout.label_lines ≡ false → All (λ e. All IsNoFeed (label_text e)) es) → All HasNoFeed (strokes.marks ∷ strokes.lower)
   drawn_plain es source rows strokes plain =
       let placed = strokes.placed in
       let ws : List Write = drawn_strokes layout 0 (row_count placed + 1) placed (painting_order placed) in
@@ -262,7 +262,7 @@ module _ (layout : Layout) (room : ℕ) (closes : Bool) where
       → IsPlainWrite (label_write layout 1 (get_or placed k d) n) = λ k d n within inside.
       subst (All (All IsNoFeed)) (sym (own_pieces layout es placed strokes.are k d within)) (pieces_plain layout.label_lines
       (shown_text layout (get_or placed k d)) (λ whole. whole_plain (get_or placed k d) whole
-      (entries_all (λ e. All IsNoFeed (label_text e)) es placed strokes.are.same plain k d within))) n [] inside in
+      (entries_all (λ e. All IsNoFeed (label_text e)) es placed strokes.are.same (plain whole) k d within))) n [] inside in
       let written : All IsPlainWrite ws = strokes_plain layout 0 (row_count placed + 1) placed (painting_order placed) own in
       from_cells (strokes.marks ∷ strokes.lower) (λ r c.
       subst (λ (all : List (List Cell)). HoldsNoFeed (cell_at all (suc r) c)) (sym strokes.painted_are)
@@ -273,7 +273,8 @@ module _ (layout : Layout) (room : ℕ) (closes : Bool) where
 
   -- so a line's own rows below it hold none
   own_plain : (text : List ℕ) (dropped : ℕ) (es : List LineAnnotation) (source row : List Cell) (below : List (List Cell))
-      → AreOwnRows layout room closes text dropped es source (row ∷ below) → All (λ e. All IsNoFeed (label_text e)) es → All HasNoFeed below
+      → AreOwnRows layout room closes text dropped es source (row ∷ below)
+      → (layout.label_lines ≡ false → All (λ e. All IsNoFeed (label_text e)) es) → All HasNoFeed below
   own_plain text dropped [] source row below are plain =
       subst (All HasNoFeed) (sym (tail_same row source below (cond closes (closing_row layout.decor layout.gutter ∷ []) []) (are.none refl))) end_plain
   own_plain text dropped (e ∷ es) source row below are plain =
@@ -283,7 +284,7 @@ module _ (layout : Layout) (room : ℕ) (closes : Bool) where
             let strokes = are.strokes other (omega arith) in
             let cuts : List Stretch = cuts_of layout room (painting_order strokes.placed) (overlapped strokes.placed) in
             let drawn : All HasNoFeed (strokes.marks ∷ strokes.lower) = drawn_plain (map (shifted dropped) (e ∷ es)) source (row ∷ below) strokes
-            (All-map (λ x. All IsNoFeed (label_text x)) (shifted dropped) (e ∷ es) plain) in
+            (λ uncut. All-map (λ x. All IsNoFeed (label_text x)) (shifted dropped) (e ∷ es) (plain uncut)) in
             let marks : List Cell = cut_row layout.decor cuts strokes.marks in
             let cut : All HasNoFeed (marks ∷ strokes.lower) = All-cons HasNoFeed marks strokes.lower
             (row_cut layout.decor cuts strokes.marks (All-head HasNoFeed strokes.marks strokes.lower drawn))
@@ -293,7 +294,8 @@ module _ (layout : Layout) (room : ℕ) (closes : Bool) where
 
   -- and no bar that runs past it brings one
   pub below_plain : (text : List ℕ) (dropped : ℕ) (open_bars : List Bar) (es : List LineAnnotation) (source row : List Cell) (below : List (List Cell))
-      → AreLineRows layout room closes text dropped open_bars es source (row ∷ below) → All (λ e. All IsNoFeed (label_text e)) es → All HasNoFeed below
+      → AreLineRows layout room closes text dropped open_bars es source (row ∷ below)
+      → (layout.label_lines ≡ false → All (λ e. All IsNoFeed (label_text e)) es) → All HasNoFeed below
   below_plain text dropped open_bars es source row below are plain = of are.own are.are are.rows_are
     where
       rule : List Cell → List Cell
@@ -345,12 +347,12 @@ abbrev IsRowOfText : NamedRow → Type 0
 IsRowOfText row = HasNoFeed row.cells
 
 module _ (r : Renderer) (layout : Layout) (closes : Bool) (s : Snippet Annotation) (utf8 : IsUtf8 (cow_str_bytes s.source.text))
-    (plain : All IsOneLineLabel s.markers.items) where
+    (plain : layout.label_lines ≡ false → All IsOneLineLabel s.markers.items) where
   line_below : (open_bars : List Bar) (k : ℕ) (row : List Cell) (below : List (List Cell)) (ends : Bool) → IsLineDrawn r layout ends s open_bars k (row ∷ below)
       → All HasNoFeed below
   line_below open_bars k row below ends drawn =
       below_plain layout drawn.margin.term_width ends drawn.text drawn.dropped open_bars drawn.entries drawn.highlighted row below drawn.drawn
-      (entries_plain s k drawn.entries drawn.are plain)
+      (λ whole. entries_plain s k drawn.entries drawn.are (plain whole))
 
   one_row : (open_bars : List Bar) (name : RowName) (cells : List Cell) (rows : List NamedRow) → IsRowOf r layout closes s name cells rows
       → IsRowDrawn r layout closes s open_bars name cells rows → All HasNoFeed (rows_below (record { name = name; cells = cells } ∷ rows))
@@ -374,10 +376,10 @@ module _ (r : Renderer) (layout : Layout) (closes : Bool) (s : Snippet Annotatio
       let own = one_row open_bars row.name row.cells rows shows.0 drawn.0 below in
       All-cons IsRowOfText row rows own.0 (all_rows (open_after s row.name open_bars) rows shows.1 drawn.1 own.1)
 
--- where no label holds a line feed, no row of a snippet's lines holds one: each is one line of the text
+-- where no label that isn't cut holds a line feed, no row of a snippet's lines holds one: each is one line of the text
 pub lines_one_line : (r : Renderer) (layout : Layout) (closes : Bool) (s : Snippet Annotation) (rows : List NamedRow)
     → AreRowsOf r layout closes s rows → AreRowsDrawn r layout closes s [] rows → rows_below rows ≡ []
-    → IsUtf8 (cow_str_bytes s.source.text) → All IsOneLineLabel s.markers.items → All HasNoFeed (cells_of rows)
+    → IsUtf8 (cow_str_bytes s.source.text) → (layout.label_lines ≡ false → All IsOneLineLabel s.markers.items) → All HasNoFeed (cells_of rows)
 lines_one_line r layout closes s rows shows drawn begins utf8 plain =
     let all = all_rows r layout closes s utf8 plain [] rows shows drawn (subst (All HasNoFeed) (sym begins) (All-nil HasNoFeed)) in
     All-map HasNoFeed (λ (row : NamedRow). row.cells) rows all

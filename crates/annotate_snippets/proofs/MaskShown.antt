@@ -228,7 +228,7 @@ id-line None (Some b) is plain = cc
 id-line (Some a) None is plain = absurd is
 id-line (Some a) (Some b) is plain = option-line a.id b.id is.0 plain
 
-element-line : (a b : Element) → IsElementMasked a b → IsOneLineElement a → IsOneLineElement b
+element-line : (a b : Element) → IsElementMasked a b → IsOneLineElement false a → IsOneLineElement false b
 element-line (Message a) (Message b) is plain = level-line a.level b.level is.0 plain
 element-line (Cause a) (Cause b) is plain = (
   option-line a.path b.path is.0 plain.0,
@@ -240,7 +240,7 @@ element-line (Padding a) (Padding b) is plain = tt
 element-line a b is plain = absurd is
 
 -- labels, paths, ids and names of levels hold no line feed where they held none
-pub masked-line : (groups shown : List Group) → AllZip IsGroupMasked groups shown → HasOneLineTexts groups → HasOneLineTexts shown
+pub masked-line : (groups shown : List Group) → AllZip IsGroupMasked groups shown → HasOneLineTexts false groups → HasOneLineTexts false shown
 masked-line groups shown pairs plain = grind (arith, line-made, level-line, id-line, element-line)
 
 -- ---- what masking asks

@@ -1,6 +1,6 @@
 -- Pages without the laws of a report: with texts of one line, a page with a row that reads as two lines of the text; and a page with a
 -- number before a row of an element that shows no line.
-use Rattle.annotate_snippets.proofs.Common.{◌≡◌, ◌∙◌, ℕ, true, List, [], ◌∷◌, ◌++◌, Some, ap, codes, refl, subst, sym, arith}
+use Rattle.annotate_snippets.proofs.Common.{◌≡◌, ◌∙◌, ◌||◌, ℕ, true, List, [], ◌∷◌, ◌++◌, Some, ap, codes, refl, subst, sym, arith}
 use Rattle.annotate_snippets.proofs.Common.{cow_str_bytes, Contains, slice_get, slice_index_or, CowStr, false≢true, All-contains, row_text, Group}
 use Rattle.annotate_snippets.proofs.Common.{IsTextAsSet, with_line_feeds_shown, Stylesheet, Cell, SPACE, text_cells, separator_row, Ascii, LabelPrimary}
 use Rattle.annotate_snippets.proofs.Common.{NoStyle, UnderlinePrimary, Renderer, form_of, HasNoFeed, HasOneLineTexts, text_lines, FormLaws, HasLaws}
@@ -10,7 +10,7 @@ use Rattle.std.specs.List.{All}
 use Rattle.std.specs.Str.{chars}
 use Rattle.annotate_snippets.proofs.NumberLaws.{IsNumberedAsLine}
 use Rattle.annotate_snippets.proofs.PageWords.{Page}
-use Rattle.annotate_snippets.proofs.OneLineTexts.{HasOneLineRows}
+use Rattle.annotate_snippets.proofs.OneLineTexts.{HasOneLineRows, cut_or_whole}
 
 -- the row of the marks of `let x = 1;` with a label that is `here`, a line feed, and what looks like a second line
 abbrev pub forged_row : List Cell
@@ -23,7 +23,7 @@ two_lines : text_lines (row_text forged_row) ≡ codes "  |     ^ here" ∷ code
 two_lines = refl
 
 -- no page that has such a row in one of its groups has the laws of a report whose texts are on one line
-pub forged_line : (r : Renderer) (groups : List Group) (page : Page) → PageLaws r groups page → HasOneLineTexts groups
+pub forged_line : (r : Renderer) (groups : List Group) (page : Page) → PageLaws r groups page → HasOneLineTexts (r.label_lines || r.wrap) groups
     → (part : GroupPage) → Contains page part → Contains (group_rows part) forged_row → ⊥
 forged_line r groups page laws plain part there among =
     let rows : All HasNoFeed (group_rows part) = All-contains HasOneLineRows page part (laws.one_line plain) there in
@@ -36,7 +36,7 @@ abbrev pub row_without_stem : List Cell
 row_without_stem = separator_row Ascii 1 ++ SPACE ∷ text_cells UnderlinePrimary (codes "\n")
 
 -- no page that has such a row in one of its groups has the laws of a report whose texts are on one line
-pub line_feed_for_stem : (r : Renderer) (groups : List Group) (page : Page) → PageLaws r groups page → HasOneLineTexts groups
+pub line_feed_for_stem : (r : Renderer) (groups : List Group) (page : Page) → PageLaws r groups page → HasOneLineTexts (r.label_lines || r.wrap) groups
     → (part : GroupPage) → Contains page part → Contains (group_rows part) row_without_stem → ⊥
 line_feed_for_stem r groups page laws plain part there among =
     let rows : All HasNoFeed (group_rows part) = All-contains HasOneLineRows page part (laws.one_line plain) there in
@@ -65,7 +65,7 @@ pub line_feed_left : (r : Renderer) (groups : List Group) (sheet : Stylesheet) (
 line_feed_left r groups sheet text asked graphic has part there among =
     let Laws : Form → Type 0 = λ form. FormLaws form r has.shown in
     let laws : PageLaws r has.shown (graphic_form r has.shown) = subst Laws graphic has.laws.form_laws in
-    forged_line r has.shown (graphic_form r has.shown) laws (has.one_line asked) part there among
+    forged_line r has.shown (graphic_form r has.shown) laws (cut_or_whole (r.label_lines || r.wrap) has.shown (has.one_line asked)) part there among
 
 -- the label of that row as a text: it isn't the one that is shown in its place
 pub label_as_given : (a b : CowStr Global) → cow_str_bytes a ≡ codes "here\n2 | let y = 666;" → cow_str_bytes b ≡ cow_str_bytes a

@@ -1,6 +1,7 @@
 -- Texts on one line, one by one: what HasOneLineTexts says of all texts of a report, by groups, titles and elements.
-use Rattle.annotate_snippets.proofs.Common.{◌≡◌, ℕ, ◌==◌, false, List, [], ◌∷◌, ◌++◌, All, Option, None, Some, IfSome, cow_str_bytes}
+use Rattle.annotate_snippets.proofs.Common.{◌≡◌, ℕ, ◌==◌, Bool, true, false, List, [], ◌∷◌, ◌++◌, All, Option, None, Some, IfSome, cow_str_bytes}
 use Rattle.annotate_snippets.proofs.Common.{cons_option, filter_map, flat_map, option_map, option_to_list, All-append, All-cons, All-head, All-nil, All-tail}
+use Rattle.annotate_snippets.proofs.Common.{if◌then◌else◌, All-weaker}
 use Rattle.annotate_snippets.proofs.Common.{Cell, name_of, Level, Annotation, Element, Group, Id, Title, path_bytes, HasNoFeed, HasOneLineTexts}
 use Rattle.annotate_snippets.proofs.Common.{row_texts_of_element, row_texts_of_title, GroupPage, group_rows}
 use Rattle.std.proofs.Common.{chars}
@@ -44,18 +45,23 @@ IsOneLineTitle title = IsOneLineName title.level × IsOneLineId title.id
 abbrev pub IsOneLineLabel : Annotation → Type 0
 IsOneLineLabel a = IsOneLineText (option_map cow_str_bytes a.label)
 
+-- so are the labels of spans, unless they are cut at their line feeds
+abbrev pub AreOneLineLabels : Bool → List Annotation → Type 0
+AreOneLineLabels true marks = Unit {0}
+AreOneLineLabels false marks = All IsOneLineLabel marks
+
 -- so are a message's level, a path, and the labels of a snippet's spans
-abbrev pub IsOneLineElement : Element → Type 0
-IsOneLineElement (element.Message message) = IsOneLineName message.level
-IsOneLineElement (element.Cause snippet) =
-    IsOneLineText (path_bytes snippet.path) × All IsOneLineLabel snippet.markers.items
-IsOneLineElement (element.Suggestion snippet) = IsOneLineText (path_bytes snippet.path)
-IsOneLineElement (element.Origin origin) = IsOneLineText (Some (cow_str_bytes origin.path))
-IsOneLineElement (element.Padding padding) = Unit {0}
+abbrev pub IsOneLineElement : Bool → Element → Type 0
+IsOneLineElement cut (element.Message message) = IsOneLineName message.level
+IsOneLineElement cut (element.Cause snippet) =
+    IsOneLineText (path_bytes snippet.path) × AreOneLineLabels cut snippet.markers.items
+IsOneLineElement cut (element.Suggestion snippet) = IsOneLineText (path_bytes snippet.path)
+IsOneLineElement cut (element.Origin origin) = IsOneLineText (Some (cow_str_bytes origin.path))
+IsOneLineElement cut (element.Padding padding) = Unit {0}
 
 -- so are those of a group
-abbrev pub IsOneLineGroup : Group → Type 0
-IsOneLineGroup g = IfSome g.title IsOneLineTitle × All IsOneLineElement g.elements.items
+abbrev pub IsOneLineGroup : Bool → Group → Type 0
+IsOneLineGroup cut g = IfSome g.title IsOneLineTitle × All (IsOneLineElement cut) g.elements.items
 
 -- ---- the same of all texts
 
@@ -111,6 +117,14 @@ title_read title all =
 title_written : (title : Title) → IsOneLineTitle title → All IsPlain (row_texts_of_title title)
 title_written title plain = All-cons IsPlain (name_of title.level) (id_texts title.id) plain.0 (id_written title.id plain.1)
 
+titles_read : (title : Option Title) → All IsPlain (flat_map row_texts_of_title (option_to_list title)) → IfSome title IsOneLineTitle
+titles_read None all = tt
+titles_read (Some title) all = title_read title (All-before (row_texts_of_title title) [] all)
+
+titles_written : (title : Option Title) → IfSome title IsOneLineTitle → All IsPlain (flat_map row_texts_of_title (option_to_list title))
+titles_written None plain = All-nil IsPlain
+titles_written (Some title) plain = All-append IsPlain (row_texts_of_title title) [] (title_written title plain) (All-nil IsPlain)
+
 -- the labels of spans
 abbrev label_texts : List Annotation → List (List ℕ)
 label_texts marks = filter_map (λ (a : Annotation). option_map cow_str_bytes a.label) marks
@@ -134,54 +148,90 @@ labels_written (a ∷ marks) plain =
     by_label None plain rest = rest
     by_label (Some text) plain rest = All-cons IsPlain text (label_texts marks) plain rest
 
+-- where labels aren't cut, each is on one line
+pub whole_labels : (cut : Bool) (marks : List Annotation) → AreOneLineLabels cut marks → cut ≡ false → All IsOneLineLabel marks
+whole_labels true marks plain whole = cc
+whole_labels false marks plain whole = plain
+
+module _ (cut : Bool) where
+  -- the labels of spans, unless they are cut
+  abbrev whole_texts : List Annotation → List (List ℕ)
+  whole_texts marks = if cut then [] else label_texts marks
+
+  whole_read : (marks : List Annotation) → All IsPlain (whole_texts marks) → AreOneLineLabels cut marks
+  whole_read marks all = by cut all
+    where
+      by : (b : Bool) → All IsPlain (if b then [] else label_texts marks) → AreOneLineLabels b marks
+      by true all = tt
+      by false all = labels_read marks all
+
+  whole_written : (marks : List Annotation) → AreOneLineLabels cut marks → All IsPlain (whole_texts marks)
+  whole_written marks plain = by cut plain
+    where
+      by : (b : Bool) → AreOneLineLabels b marks → All IsPlain (if b then [] else label_texts marks)
+      by true plain = All-nil IsPlain
+      by false plain = labels_written marks plain
+
+  -- an element
+  element_read : (e : Element) → All IsPlain (row_texts_of_element cut e) → IsOneLineElement cut e
+  element_read (element.Message message) all = All-head IsPlain (name_of message.level) [] all
+  element_read (element.Cause snippet) all =
+      let path : List (List ℕ) = option_to_list (path_bytes snippet.path) in
+      let labels : List (List ℕ) = whole_texts snippet.markers.items in
+      (text_read (path_bytes snippet.path) (All-before path labels all), whole_read snippet.markers.items (All-after path labels all))
+  element_read (element.Suggestion snippet) all = text_read (path_bytes snippet.path) all
+  element_read (element.Origin origin) all = All-head IsPlain (cow_str_bytes origin.path) [] all
+  element_read (element.Padding padding) all = tt
+
+  element_written : (e : Element) → IsOneLineElement cut e → All IsPlain (row_texts_of_element cut e)
+  element_written (element.Message message) plain = All-cons IsPlain (name_of message.level) [] plain (All-nil IsPlain)
+  element_written (element.Cause snippet) plain =
+      All-append IsPlain (option_to_list (path_bytes snippet.path)) (whole_texts snippet.markers.items)
+      (text_written (path_bytes snippet.path) plain.0) (whole_written snippet.markers.items plain.1)
+  element_written (element.Suggestion snippet) plain = text_written (path_bytes snippet.path) plain
+  element_written (element.Origin origin) plain = All-cons IsPlain (cow_str_bytes origin.path) [] plain (All-nil IsPlain)
+  element_written (element.Padding padding) plain = All-nil IsPlain
+
+  -- a group
+  abbrev group_texts : Group → List (List ℕ)
+  group_texts g = flat_map row_texts_of_title (option_to_list g.title) ++ flat_map (row_texts_of_element cut) g.elements.items
+
+  group_read : (g : Group) → All IsPlain (group_texts g) → IsOneLineGroup cut g
+  group_read g all =
+      let titles : List (List ℕ) = flat_map row_texts_of_title (option_to_list g.title) in
+      let elements : List (List ℕ) = flat_map (row_texts_of_element cut) g.elements.items in (
+        titles_read g.title (All-before titles elements all),
+        each_read (IsOneLineElement cut) (row_texts_of_element cut) element_read element_written g.elements.items (All-after titles elements all),
+      )
+
+  group_written : (g : Group) → IsOneLineGroup cut g → All IsPlain (group_texts g)
+  group_written g plain =
+      All-append IsPlain (flat_map row_texts_of_title (option_to_list g.title)) (flat_map (row_texts_of_element cut) g.elements.items)
+      (titles_written g.title plain.0)
+      (each_written (IsOneLineElement cut) (row_texts_of_element cut) element_read element_written g.elements.items plain.1)
+
+  -- the texts of all groups are on one line where those of each are
+  pub one_line_groups : (groups : List Group) → HasOneLineTexts cut groups → All (IsOneLineGroup cut) groups
+  one_line_groups groups all = each_read (IsOneLineGroup cut) group_texts group_read group_written groups all
+
+  pub one_line_texts : (groups : List Group) → All (IsOneLineGroup cut) groups → HasOneLineTexts cut groups
+  one_line_texts groups plain = each_written (IsOneLineGroup cut) group_texts group_read group_written groups plain
+
+-- ---- labels that are cut or not
+
 -- an element
-element_read : (e : Element) → All IsPlain (row_texts_of_element e) → IsOneLineElement e
-element_read (element.Message message) all = All-head IsPlain (name_of message.level) [] all
-element_read (element.Cause snippet) all =
-    let path : List (List ℕ) = option_to_list (path_bytes snippet.path) in
-    let labels : List (List ℕ) = label_texts snippet.markers.items in
-    (text_read (path_bytes snippet.path) (All-before path labels all), labels_read snippet.markers.items (All-after path labels all))
-element_read (element.Suggestion snippet) all = text_read (path_bytes snippet.path) all
-element_read (element.Origin origin) all = All-head IsPlain (cow_str_bytes origin.path) [] all
-element_read (element.Padding padding) all = tt
+cut_element : (cut : Bool) (e : Element) → IsOneLineElement false e → IsOneLineElement cut e
+cut_element cut (element.Message message) plain = plain
+cut_element true (element.Cause snippet) plain = (plain.0, tt)
+cut_element false (element.Cause snippet) plain = plain
+cut_element cut (element.Suggestion snippet) plain = plain
+cut_element cut (element.Origin origin) plain = plain
+cut_element cut (element.Padding padding) plain = plain
 
-element_written : (e : Element) → IsOneLineElement e → All IsPlain (row_texts_of_element e)
-element_written (element.Message message) plain = All-cons IsPlain (name_of message.level) [] plain (All-nil IsPlain)
-element_written (element.Cause snippet) plain =
-    All-append IsPlain (option_to_list (path_bytes snippet.path)) (label_texts snippet.markers.items) (text_written (path_bytes snippet.path) plain.0)
-    (labels_written snippet.markers.items plain.1)
-element_written (element.Suggestion snippet) plain = text_written (path_bytes snippet.path) plain
-element_written (element.Origin origin) plain = All-cons IsPlain (cow_str_bytes origin.path) [] plain (All-nil IsPlain)
-element_written (element.Padding padding) plain = All-nil IsPlain
-
--- a group
-abbrev group_texts : Group → List (List ℕ)
-group_texts g = flat_map row_texts_of_title (option_to_list g.title) ++ flat_map row_texts_of_element g.elements.items
-
-titles_read : (title : Option Title) → All IsPlain (flat_map row_texts_of_title (option_to_list title)) → IfSome title IsOneLineTitle
-titles_read None all = tt
-titles_read (Some title) all = title_read title (All-before (row_texts_of_title title) [] all)
-
-titles_written : (title : Option Title) → IfSome title IsOneLineTitle → All IsPlain (flat_map row_texts_of_title (option_to_list title))
-titles_written None plain = All-nil IsPlain
-titles_written (Some title) plain = All-append IsPlain (row_texts_of_title title) [] (title_written title plain) (All-nil IsPlain)
-
-group_read : (g : Group) → All IsPlain (group_texts g) → IsOneLineGroup g
-group_read g all =
-    let titles : List (List ℕ) = flat_map row_texts_of_title (option_to_list g.title) in
-    let elements : List (List ℕ) = flat_map row_texts_of_element g.elements.items in (
-      titles_read g.title (All-before titles elements all),
-      each_read IsOneLineElement row_texts_of_element element_read element_written g.elements.items (All-after titles elements all),
-    )
-
-group_written : (g : Group) → IsOneLineGroup g → All IsPlain (group_texts g)
-group_written g plain =
-    All-append IsPlain (flat_map row_texts_of_title (option_to_list g.title)) (flat_map row_texts_of_element g.elements.items)
-    (titles_written g.title plain.0) (each_written IsOneLineElement row_texts_of_element element_read element_written g.elements.items plain.1)
-
--- the texts of all groups are on one line where those of each are
-pub one_line_groups : (groups : List Group) → HasOneLineTexts groups → All IsOneLineGroup groups
-one_line_groups groups all = each_read IsOneLineGroup group_texts group_read group_written groups all
-
-pub one_line_texts : (groups : List Group) → All IsOneLineGroup groups → HasOneLineTexts groups
-one_line_texts groups plain = each_written IsOneLineGroup group_texts group_read group_written groups plain
+-- texts that are on one line, labels among them, are so where labels are cut
+pub cut_or_whole : (cut : Bool) (groups : List Group) → HasOneLineTexts false groups → HasOneLineTexts cut groups
+cut_or_whole cut groups plain =
+    one_line_texts cut groups (All-weaker (IsOneLineGroup false) (IsOneLineGroup cut) (λ (g : Group) own. (
+      own.0,
+      All-weaker (IsOneLineElement false) (IsOneLineElement cut) (cut_element cut) g.elements.items own.1,
+    )) groups (one_line_groups false groups plain))

@@ -1,7 +1,7 @@
 -- What a report that is made of another, title by title and element by element, has in common with it: its faults, its links, and the listed
 -- characters of its trusted texts.
 use Rattle.std.proofs.Common.{arith, chars}
-use Rattle.annotate_snippets.proofs.Common.{◌≡◌, ◌∙◌, ℕ, Bool, true, List, [], ◌∷◌, ◌++◌, Option, None, Some, All, IfSome}
+use Rattle.annotate_snippets.proofs.Common.{◌≡◌, ◌∙◌, ℕ, Bool, true, false, List, [], ◌∷◌, ◌++◌, Option, None, Some, All, IfSome}
 use Rattle.annotate_snippets.proofs.Common.{if◌then◌else◌, is_none, ◌⊎◌, inl, inr, refl, sym, ap, ap₂, subst, false≢true, All-contains}
 use Rattle.annotate_snippets.proofs.Common.{All-contains_itself, All-weaker, Contains-append_cases, Contains-append_left, Contains-append_right, AllZip}
 use Rattle.annotate_snippets.proofs.Common.{Contains, flat_map, slice_get, option_or, option_to_list, ElementFits, ReportFits, TitleFits, SameOption}
@@ -118,10 +118,11 @@ module _ (T : Title → Title → Type 0) (E : Element → Element → Type 0) w
   fits-made title element groups shown pairs fits = over-made TitleFits ElementFits title element groups shown pairs fits
 
   -- and that those that may be on one line only are
-  pub line-made : ((a b : Title) → T a b → IsOneLineTitle a → IsOneLineTitle b) → ((a b : Element) → E a b → IsOneLineElement a → IsOneLineElement b)
-      → (groups shown : List Group) → AllZip Made groups shown → HasOneLineTexts groups → HasOneLineTexts shown
+  pub line-made : ((a b : Title) → T a b → IsOneLineTitle a → IsOneLineTitle b)
+      → ((a b : Element) → E a b → IsOneLineElement false a → IsOneLineElement false b)
+      → (groups shown : List Group) → AllZip Made groups shown → HasOneLineTexts false groups → HasOneLineTexts false shown
   line-made title element groups shown pairs plain =
-      one_line_texts shown (over-made IsOneLineTitle IsOneLineElement title element groups shown pairs (one_line_groups groups plain))
+      one_line_texts false shown (over-made IsOneLineTitle (IsOneLineElement false) title element groups shown pairs (one_line_groups false groups plain))
 
   -- what holds of their trusted texts, in pairs, holds of all trusted texts
   pub trusted-zip : (Q : List ℕ → List ℕ → Type 0) → ((a b : Title) → T a b → AllZip Q (trusted_of_title a) (trusted_of_title b))

@@ -1,5 +1,5 @@
 -- The page that the graphic form has for a report has its laws.
-use Rattle.annotate_snippets.proofs.Common.{◌≡◌, ℕ, zero, suc, ◌+◌, ◌<◌, get_or, arith, true, List, [], ◌∷◌, ◌++◌, All, Option, Some}
+use Rattle.annotate_snippets.proofs.Common.{◌≡◌, ℕ, zero, suc, ◌+◌, ◌<◌, ◌||◌, get_or, arith, true, List, [], ◌∷◌, ◌++◌, All, Option, Some}
 use Rattle.annotate_snippets.proofs.Common.{None, Result, Ok, Err, map, length, refl, sym, ap, subst, ◌∙◌, encode_utf8_all, Contains, enumerate_from}
 use Rattle.annotate_snippets.proofs.Common.{flat_map, slice_get, option_or, IfOk, MatchResult, IsErrAnd, zero-add, All-nil, All-cons, All-append, All-get_or}
 use Rattle.annotate_snippets.proofs.Common.{All-head, All-tail, get_or_from_slice_get, slice_get_within, plain_text, is_plain_sheet, IsWoven, Stylesheet}
@@ -42,6 +42,10 @@ module _ (r : Renderer) (groups : List Group) where
   abbrev pages_from : ℕ → List Group → Page
   pages_from n gs = map (λ (pair : ℕ × Group). page_at r groups pair.0 pair.1) (enumerate_from n gs)
 
+  -- a group whose texts bring no line feed into its rows
+  abbrev IsPlainGroup : Group → Type 0
+  IsPlainGroup = IsOneLineGroup (r.label_lines || r.wrap)
+
   -- it shows them
   record ArePagesShown (n : ℕ) (gs : List Group) : Type 0 where
     count : length (pages_from n gs) ≡ length gs
@@ -49,7 +53,7 @@ module _ (r : Renderer) (groups : List Group) where
         → ShowsGroup r (layout_of_group r groups g) (position_of_group (length groups) (n + i)) (file_of_group groups g) g part
     links : page_links (pages_from n gs) ≡ flat_map (title_links r.hyperlink) gs
     free : IsFreeBut (trusted_texts gs) (page_text (pages_from n gs))
-    one_line : All IsOneLineGroup gs → All HasOneLineRows (pages_from n gs)
+    one_line : All IsPlainGroup gs → All HasOneLineRows (pages_from n gs)
 
   -- one more group above
   free_above : (g : Group) (gs : List Group) (part : GroupPage) (page : Page) → IsFreeBut (trusted_texts (g ∷ [])) (plain_text (group_rows part))
@@ -78,8 +82,8 @@ module _ (r : Renderer) (groups : List Group) where
         each = each rest;
         links = ap (λ urls. urls ++ page_links (pages_from (n + 1) gs)) here.links ∙ ap (λ urls. title_links r.hyperlink g ++ urls) rest.links;
         free = free_above g gs page (pages_from (n + 1) gs) here.free rest.free;
-        one_line = λ plain. All-cons HasOneLineRows page (pages_from (n + 1) gs) (here.one_line (All-head IsOneLineGroup g gs plain))
-            (rest.one_line (All-tail IsOneLineGroup g gs plain));
+        one_line = λ plain. All-cons HasOneLineRows page (pages_from (n + 1) gs) (here.one_line (All-head IsPlainGroup g gs plain))
+            (rest.one_line (All-tail IsPlainGroup g gs plain));
       }
     where
       next : (i : ℕ) → n + suc i ≡ n + 1 + i
@@ -126,8 +130,8 @@ module _ (r : Renderer) (groups : List Group) (drawable : All IsGroupDrawable gr
         shows = page_shows;
         free = report_page.free;
         links = report_page.links ∙ links_of_titles r groups;
-        one_line = λ plain. report_page.one_line (one_line_groups groups plain);
-        lines = λ plain. lines_of_page (graphic_form r groups) (report_page.one_line (one_line_groups groups plain));
+        one_line = λ plain. report_page.one_line (one_line_groups (r.label_lines || r.wrap) groups plain);
+        lines = λ plain. lines_of_page (graphic_form r groups) (report_page.one_line (one_line_groups (r.label_lines || r.wrap) groups plain));
         numbers = λ i g part at there. group_numbered r (layout_of_group r groups g) (position_of_group (length groups) i) (file_of_group groups g)
             (drawn_elements g) part (page_shows.each i g part at there).elements;
         titles = λ i g part title at there titled words. group_title_unnumbered r (layout_of_group r groups g) (position_of_group (length groups) i)

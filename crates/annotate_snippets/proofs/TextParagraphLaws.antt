@@ -223,7 +223,7 @@ suggestion-lines settings at s asked own =
     (edit_indent-each IsNoFeed printable-plain at.option) (named-plain at.names_path (path_bytes s.path) own)))
 
 element-lines : (r : Renderer) (file : Option (List ℕ)) (before : Option PreviousSuggestion) (followed : Bool) (e : Element) → r.show_line_feeds ≡ true
-    → IsOneLineElement e → AreLines (element_paragraphs r file before followed e)
+    → IsOneLineElement false e → AreLines (element_paragraphs r file before followed e)
 element-lines r file before followed (element.Message m) asked plain =
     heading-lines kind.Message (heading_of_message m) (plain, tt)
 element-lines r file before followed (element.Cause s) asked plain =
@@ -240,34 +240,35 @@ element-lines r file before followed (element.Origin o) asked plain =
 element-lines r file before followed (element.Padding p) asked plain = All-nil (All IsLine)
 
 elements-lines : (r : Renderer) (file : Option (List ℕ)) (before : Option PreviousSuggestion) (es : List Element) → r.show_line_feeds ≡ true
-    → All IsOneLineElement es → AreLines (elements_paragraphs r file before es)
+    → All (IsOneLineElement false) es → AreLines (elements_paragraphs r file before es)
 elements-lines r file before [] asked plain = All-nil (All IsLine)
 elements-lines r file before (e ∷ es) asked plain =
     let shared : Bool = first_two_share (e ∷ es) in
     All-append (All IsLine) (element_paragraphs r file before shared e) (elements_paragraphs r file (before_next before e) es)
-    (element-lines r file before shared e asked (All-head IsOneLineElement e es plain))
-    (elements-lines r file (before_next before e) es asked (All-tail IsOneLineElement e es plain))
+    (element-lines r file before shared e asked (All-head (IsOneLineElement false) e es plain))
+    (elements-lines r file (before_next before e) es asked (All-tail (IsOneLineElement false) e es plain))
 
 title-lines : (title : Option Title) → IfSome title IsOneLineTitle → AreLines (title_paragraphs title)
 title-lines None plain = All-nil (All IsLine)
 title-lines (Some t) plain = heading-lines kind.Title (heading_of_title t) plain
 
-group-lines : (r : Renderer) (groups : List Group) (g : Group) → r.show_line_feeds ≡ true → IsOneLineGroup g → AreLines (group_paragraphs r groups g)
+group-lines : (r : Renderer) (groups : List Group) (g : Group) → r.show_line_feeds ≡ true → IsOneLineGroup false g → AreLines (group_paragraphs r groups g)
 group-lines r groups g asked plain =
     All-append (All IsLine) (title_paragraphs g.title) (elements_paragraphs r (file_of_group groups g) None (drawn_elements g)) (title-lines g.title plain.0)
-    (elements-lines r (file_of_group groups g) None (drawn_elements g) asked (All-filter is_drawn IsOneLineElement g.elements.items plain.1))
+    (elements-lines r (file_of_group groups g) None (drawn_elements g) asked (All-filter is_drawn (IsOneLineElement false) g.elements.items plain.1))
 
-groups-lines : (r : Renderer) (groups gs : List Group) → r.show_line_feeds ≡ true → All IsOneLineGroup gs → AreLines (flat_map (group_paragraphs r groups) gs)
+groups-lines : (r : Renderer) (groups gs : List Group) → r.show_line_feeds ≡ true → All (IsOneLineGroup false) gs
+    → AreLines (flat_map (group_paragraphs r groups) gs)
 groups-lines r groups [] asked plain = All-nil (All IsLine)
 groups-lines r groups (g ∷ gs) asked plain =
     All-append (All IsLine) (group_paragraphs r groups g) (flat_map (group_paragraphs r groups) gs)
-    (group-lines r groups g asked (All-head IsOneLineGroup g gs plain)) (groups-lines r groups gs asked (All-tail IsOneLineGroup g gs plain))
+    (group-lines r groups g asked (All-head (IsOneLineGroup false) g gs plain)) (groups-lines r groups gs asked (All-tail (IsOneLineGroup false) g gs plain))
 
 -- ---- the lines of the text form
 
 -- where line feeds are shown, and no label, path, id and name of a level holds one, the lines of the text form are those of its paragraphs
-pub paragraph_lines : (r : Renderer) (groups : List Group) → r.show_line_feeds ≡ true → HasOneLineTexts groups
+pub paragraph_lines : (r : Renderer) (groups : List Group) → r.show_line_feeds ≡ true → HasOneLineTexts false groups
     → text_lines (form_text (text_form r groups)) ≡ lines_of_paragraphs (report_paragraphs r groups)
 paragraph_lines r groups asked plain =
     lines-of_text (report_paragraphs r groups) (text_form r groups) (text-each (group_paragraphs r groups) (group_form r groups) (group_text r groups) groups)
-    (groups-lines r groups groups asked (one_line_groups groups plain))
+    (groups-lines r groups groups asked (one_line_groups false groups plain))

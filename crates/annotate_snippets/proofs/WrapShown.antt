@@ -109,16 +109,16 @@ module _ (term_width gutter : ℕ) where
 
   -- ---- texts of one line
 
-  element-line : (a b : Element) → Wraps a b → IsOneLineElement a → IsOneLineElement b
+  element-line : (a b : Element) → Wraps a b → IsOneLineElement false a → IsOneLineElement false b
   element-line (Message a) (Message b) is plain = subst IsOneLineName (sym is.0) plain
-  element-line (Cause a) (Cause b) is plain = subst (λ s. IsOneLineElement (Cause s)) (sym is) plain
-  element-line (Suggestion a) (Suggestion b) is plain = subst (λ s. IsOneLineElement (Suggestion s)) (sym is) plain
-  element-line (Origin a) (Origin b) is plain = subst (λ o. IsOneLineElement (Origin o)) (sym is) plain
+  element-line (Cause a) (Cause b) is plain = subst (λ s. IsOneLineElement false (Cause s)) (sym is) plain
+  element-line (Suggestion a) (Suggestion b) is plain = subst (λ s. IsOneLineElement false (Suggestion s)) (sym is) plain
+  element-line (Origin a) (Origin b) is plain = subst (λ o. IsOneLineElement false (Origin o)) (sym is) plain
   element-line (Padding a) (Padding b) is plain = tt
   element-line a b is plain = absurd is
 
   -- labels, paths, ids and names of levels hold no line feed where they held none
-  pub wrapped-line : (groups shown : List Group) → AllZip GroupWraps groups shown → HasOneLineTexts groups → HasOneLineTexts shown
+  pub wrapped-line : (groups shown : List Group) → AllZip GroupWraps groups shown → HasOneLineTexts false groups → HasOneLineTexts false shown
   wrapped-line groups shown pairs plain = grind (arith, line-made, element-line)
 
   -- ---- what follows of the texts

@@ -1,5 +1,5 @@
 -- Line feeds: which rows hold none, and which texts of a report could bring one into its rows.
-use Rattle.std.specs.Prelude.{◌≡◌, ℕ, ◌==◌, false, List, [], ◌∷◌, ◌++◌, All, chars, map}
+use Rattle.std.specs.Prelude.{◌≡◌, ℕ, ◌==◌, Bool, false, List, [], ◌∷◌, ◌++◌, All, chars, if◌then◌else◌, map}
 use Rattle.std.specs.Cow.{cow_str_bytes}
 use Rattle.std.specs.List.{filter_map, flat_map, slice_split}
 use Rattle.std.specs.Option.{option_map, option_to_list}
@@ -41,18 +41,20 @@ abbrev pub row_texts_of_title : Title → List (List ℕ)
 row_texts_of_title title =
     name_of title.level ∷ flat_map (λ (id : Id). option_to_list (option_map cow_str_bytes id.id)) (option_to_list title.id)
 
--- the texts of an element that may stand on one line only: the name of a message's level, a path, and the labels of a snippet's spans.
--- Where a message's text, a source, or what a patch puts into one has several lines, each that is shown has a row
-abbrev pub row_texts_of_element : Element → List (List ℕ)
-row_texts_of_element (element.Message message) = name_of message.level ∷ []
-row_texts_of_element (element.Cause snippet) =
-    option_to_list (option_map cow_str_bytes snippet.path) ++ filter_map (λ a. option_map cow_str_bytes a.label) snippet.markers.items
-row_texts_of_element (element.Suggestion snippet) = option_to_list (option_map cow_str_bytes snippet.path)
-row_texts_of_element (element.Origin origin) = cow_str_bytes origin.path ∷ []
-row_texts_of_element (element.Padding padding) = []
+-- the texts of an element that may stand on one line only: the name of a message's level, a path, and, unless they are cut at their line
+-- feeds, the labels of a snippet's spans. Where a message's text, a source, or what a patch puts into one has several lines, each that is
+-- shown has a row
+abbrev pub row_texts_of_element : Bool → Element → List (List ℕ)
+row_texts_of_element cut (element.Message message) = name_of message.level ∷ []
+row_texts_of_element cut (element.Cause snippet) =
+    option_to_list (option_map cow_str_bytes snippet.path)
+    ++ (if cut then [] else filter_map (λ a. option_map cow_str_bytes a.label) snippet.markers.items)
+row_texts_of_element cut (element.Suggestion snippet) = option_to_list (option_map cow_str_bytes snippet.path)
+row_texts_of_element cut (element.Origin origin) = cow_str_bytes origin.path ∷ []
+row_texts_of_element cut (element.Padding padding) = []
 
--- no label, path, id and name of a level of these groups holds a line feed
-abbrev pub HasOneLineTexts : List Group → Type 0
-HasOneLineTexts groups =
+-- no path, id and name of a level of these groups holds a line feed, and no label, unless labels are cut at them
+abbrev pub HasOneLineTexts : Bool → List Group → Type 0
+HasOneLineTexts cut groups =
     All (λ text. All (λ ch. (ch == 10) ≡ false) (chars text))
-    (flat_map (λ g. flat_map row_texts_of_title (option_to_list g.title) ++ flat_map row_texts_of_element g.elements.items) groups)
+    (flat_map (λ g. flat_map row_texts_of_title (option_to_list g.title) ++ flat_map (row_texts_of_element cut) g.elements.items) groups)

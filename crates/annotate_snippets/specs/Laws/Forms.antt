@@ -85,7 +85,7 @@ pub record ShortLaws (r : Renderer) (groups : List Group) : Type 0 where
 pub record TextLaws (r : Renderer) (groups : List Group) : Type 0 where
   pub holds : StandInOrder (report_texts groups) (form_text (text_form r groups))
   pub free : IsFreeBut (trusted_texts groups) (form_text (text_form r groups))
-  pub lines : r.show_line_feeds ≡ true → HasOneLineTexts groups
+  pub lines : r.show_line_feeds ≡ true → HasOneLineTexts false groups
       → text_lines (form_text (text_form r groups)) ≡ lines_of_paragraphs (report_paragraphs r groups)
 
 -- ---- each form
@@ -115,7 +115,7 @@ pub record HasLaws (r : Renderer) (groups : List Group) (sheet : Stylesheet) (te
   pub shown : List Group
   pub set : IsAsSet (form_of r) r groups shown
   pub laws : LawsIn (form_of r) r shown sheet text
-  pub one_line : r.show_line_feeds ≡ true → HasOneLineTexts shown
+  pub one_line : r.show_line_feeds ≡ true → HasOneLineTexts false shown
   pub lines : r.show_line_feeds ≡ true → form_of r ≡ Graphic → text_lines (page_text (graphic_form r shown)) ≡ page_lines (graphic_form r shown)
   pub paragraphs : r.show_line_feeds ≡ true → form_of r ≡ Text → text_lines (form_text (text_form r shown)) ≡ lines_of_paragraphs (report_paragraphs r shown)
   pub clean : r.mask_controls ≡ true → HasNoControls shown
