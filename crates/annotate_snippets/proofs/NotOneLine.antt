@@ -1,16 +1,17 @@
 -- Pages without the laws of a report: with texts of one line, a page with a row that reads as two lines of the text; and a page with a
 -- number before a row of an element that shows no line.
-use Rattle.annotate_snippets.proofs.Common.{◌≡◌, ◌∙◌, ◌||◌, ℕ, true, List, [], ◌∷◌, ◌++◌, Some, ap, codes, refl, subst, sym, arith}
+use Rattle.annotate_snippets.proofs.Common.{◌≡◌, ◌∙◌, ◌||◌, ℕ, Bool, true, List, [], ◌∷◌, ◌++◌, None, Some, ap, codes, refl, subst, sym, arith}
 use Rattle.annotate_snippets.proofs.Common.{cow_str_bytes, Contains, slice_get, slice_index_or, CowStr, false≢true, All-contains, row_text, Group}
 use Rattle.annotate_snippets.proofs.Common.{IsTextAsSet, with_line_feeds_shown, Stylesheet, Cell, SPACE, text_cells, separator_row, Ascii, LabelPrimary}
 use Rattle.annotate_snippets.proofs.Common.{NoStyle, UnderlinePrimary, Renderer, form_of, HasNoFeed, HasOneLineTexts, text_lines, FormLaws, HasLaws}
+use Rattle.annotate_snippets.proofs.Common.{IfSome, All-cons, All-nil, Annotation, Cause, Snippet, path_bytes}
 use Rattle.annotate_snippets.proofs.Common.{graphic_form, Form, Graphic, layout_of_group, GroupPage, NamedRow, Other, group_rows, PageLaws}
 use Rattle.std.proofs.Common.{Global}
 use Rattle.std.specs.List.{All}
 use Rattle.std.specs.Str.{chars}
 use Rattle.annotate_snippets.proofs.NumberLaws.{IsNumberedAsLine}
 use Rattle.annotate_snippets.proofs.PageWords.{Page}
-use Rattle.annotate_snippets.proofs.OneLineTexts.{HasOneLineRows, cut_or_whole}
+use Rattle.annotate_snippets.proofs.OneLineTexts.{HasOneLineRows, IsOneLineElement, IsOneLineGroup, IsOneLineText, IsOneLineTitle, cut_or_whole, one_line_texts}
 
 -- the row of the marks of `let x = 1;` with a label that is `here`, a line feed, and what looks like a second line
 abbrev pub forged_row : List Cell
@@ -29,6 +30,21 @@ forged_line r groups page laws plain part there among =
     let rows : All HasNoFeed (group_rows part) = All-contains HasOneLineRows page part (laws.one_line plain) there in
     let row : HasNoFeed forged_row = All-contains HasNoFeed (group_rows part) forged_row rows among in
     false≢true (sym (row 14 SPACE (omega arith)))
+
+-- so where labels are cut, no page of a snippet without a path has the laws of its report if it has that row, whatever its labels hold: also
+-- where one is the text of that row
+pub forged_label : (r : Renderer) (g : Group) (s : Snippet Annotation) (page : Page) → r.label_lines ≡ true → g.title ≡ None
+    → g.elements.items ≡ Cause s ∷ [] → s.path ≡ None → PageLaws r (g ∷ []) page → (part : GroupPage) → Contains page part
+    → Contains (group_rows part) forged_row → ⊥
+forged_label r g s page cut untitled alone nameless laws part there among =
+    let path : IsOneLineText (path_bytes s.path) = subst (λ p. IsOneLineText (path_bytes p)) (sym nameless) tt in
+    let title : IfSome g.title IsOneLineTitle = subst (λ t. IfSome t IsOneLineTitle) (sym untitled) tt in
+    let elements : All (IsOneLineElement true) g.elements.items = subst (All (IsOneLineElement true)) (sym alone)
+    (All-cons (IsOneLineElement true) (Cause s) [] (path, tt) (All-nil (IsOneLineElement true))) in
+    let group : All (IsOneLineGroup true) (g ∷ []) = All-cons (IsOneLineGroup true) g [] (title, elements) (All-nil (IsOneLineGroup true)) in
+    let plain : HasOneLineTexts (r.label_lines || r.wrap) (g ∷ []) =
+    subst (λ (lines : Bool). HasOneLineTexts (lines || r.wrap) (g ∷ [])) (sym cut) (one_line_texts true (g ∷ []) group) in
+    forged_line r (g ∷ []) page laws plain part there among
 
 -- the row below the marks of `ab cd` with a label below each, in which a line feed stands in place of the stem that leads to the label
 -- of `ab`
