@@ -29,6 +29,7 @@ pub mod LineAdded
 pub mod LineFromValue
 pub mod LineExamples
 pub mod LineLemmas
+pub mod OneLineLabels
 pub mod LookedCuts
 pub mod LowerWrites
 pub mod MarkStrokeLemmas
