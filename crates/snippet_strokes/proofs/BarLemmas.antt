@@ -164,7 +164,7 @@ AreStrokes-drawn layout room es closes old new is count drawn =
     record {
       some = λ all more. omega (arith, count, is.some all more);
       marks = λ all. marks (is.marks all);
-      labels = λ uncut ends. LabelsStand-kept layout es old new (is.labels uncut ends) kept;
+      labels = λ uncut ends. LabelsStand-kept layout es old new (is.labels uncut ends) kept short;
       are = λ k within.
           let inside : k < length old = omega (arith, within, count) in
           subst (λ n. IsStrokeRow layout plain es (closes && k + 1 == n) (row_at new k)) (sym count)
@@ -179,6 +179,13 @@ AreStrokes-drawn layout room es closes old new is count drawn =
               let before : row_at old r ≡ [] = get_or_past old r [] none in
               let later : row_at new r ≡ [] = get_or_past new r [] (omega (arith, none, count)) in
               ap (λ cells. slice_index_or cells c SPACE) (later ∙ sym before)
+        ]
+
+    short : (r : ℕ) → length (row_at new r) ≤ max (length (row_at old r)) layout.code
+    short r =
+        elim (cases_lt r (length old)) [
+          | inl some ↦ (drawn r some).short
+          | inr none ↦ omega (arith, ap (λ (row : List Cell). length row) (get_or_past new r [] (omega (arith, none, count))))
         ]
 
     marks : ShowsMarks layout layout.decor layout.code es (row_at old 0)
@@ -248,7 +255,13 @@ beside_unlabelled text dropped (e ∷ es) whole ends = all_unlabelled text dropp
 -- no rows of strokes
 AreStrokes-whole : (layout : Layout) (text : List ℕ) (room dropped : ℕ) (closes : Bool) (es : List LineAnnotation) → is_whole_line text es ≡ true
     → AreStrokes layout room (map (shifted dropped) es) closes []
-AreStrokes-whole layout text room dropped closes es whole = grind (arith, whole_not_plain, LabelsStand-none, beside_unlabelled)
+AreStrokes-whole layout text room dropped closes es whole = record {
+  some = λ plain _. absurd (whole_not_plain text room dropped layout.decor es whole plain);
+  marks = λ plain. absurd (whole_not_plain text room dropped layout.decor es whole plain);
+  labels = λ _ ends. LabelsStand-none layout (map (shifted dropped) es) [] (beside_unlabelled text dropped es whole ends) (λ r c right. refl)
+      (λ r. omega arith);
+  are = λ k within. absurd (omega (arith, within));
+}
 
 -- a source row beside which nothing is drawn
 IsBeside-same : (layout : Layout) (wide : ℕ) (plain : List Cell) → HasNoBars layout plain → IsBeside layout wide plain plain

@@ -8,7 +8,7 @@ use Rattle.snippet_strokes.proofs.Common.{IsStrokeCell, label_place, HasPlace, A
 use Rattle.snippet_strokes.proofs.Common.{inner_cell}
 use Rattle.snippet_strokes.proofs.Common.{IsBarCell, is_mark_role, closing_row, common_steps, rules}
 use Rattle.std.proofs.Common.{if◌then◌else◌}
-use Rattle.snippet_strokes.proofs.SeenLabels.{IsLedTo, LabelsStand, PlacedLabel, StandsIn, is_cell_of}
+use Rattle.snippet_strokes.proofs.SeenLabels.{EndsBy, IsLedTo, IsShownBy, LabelsStand, PlacedLabel, StandsIn, is_cell_of}
 use Rattle.snippet_strokes.proofs.PaintedMarks.{StandsWhole}
 use Rattle.snippet_strokes.proofs.PieceWrites.{label_write}
 use Rattle.snippet_strokes.proofs.Reach.{Reaches}
@@ -17,8 +17,9 @@ use Rattle.snippet_strokes.proofs.StemCells.{IsHung}
 use Rattle.snippet_strokes.proofs.LabelKept.{label_parts}
 use Rattle.snippet_strokes.proofs.SeenRows.{are_plain, AreSeen, HasNoBars, IsStrokeRow}
 use Rattle.snippet_strokes.proofs.DrawLemmas.{bar_space}
-use Rattle.snippet_strokes.proofs.RowLemmas.{bare_row_right, free_bare_row}
+use Rattle.snippet_strokes.proofs.RowLemmas.{bare_row_right, bare_row_short, free_bare_row}
 use Rattle.snippet_labels.proofs.PieceLemmas.{label_pieces-nil, pieces_are}
+use Rattle.snippet_parts.proofs.PartLemmas.{All-unmapped}
 use Rattle.snippet_labels.specs.Positions.{pieces_of}
 use Rattle.snippet_strokes.proofs.PieceWrites.{label_shows}
 
@@ -135,12 +136,18 @@ abbrev pub HasStrokesBeside : Layout → ℕ → List PlacedEntry → List (List
 HasStrokesBeside layout row placed rows =
     (r c : ℕ) → layout.code ≤ c → BesideLabels layout row (row + r) c placed → IsStrokeCell layout.decor (cell_at rows (row + r) c)
 
+-- where the code begins before a cell, and all entries and their labels end by it, each row does
+abbrev pub EndWithin : Layout → List LineAnnotation → List PlacedEntry → List (List Cell) → Type 0
+EndWithin layout es placed rows =
+    (edge : ℕ) → layout.code < edge → All (EndsBy layout edge) es → All (λ e. IsShownBy edge (placed_label layout e)) placed → (r : ℕ)
+    → length (row_at rows r) ≤ edge
+
 -- labels that stand whole in the rows from `row` on stand so in those rows alone, for each entry as it is given
 pub LabelsStand-placed : (layout : Layout) (row : ℕ) (es : List LineAnnotation) (placed : List PlacedEntry) (rows below : List (List Cell))
     → ArePlaced layout es placed → All (λ (e : PlacedEntry). HasPlace e.entry) placed → All (StandsWhole layout row rows) placed
     → HasStrokesBeside layout row placed rows → All (IsHung layout row placed rows) placed
-    → ((r c : ℕ) → cell_at below r c ≡ cell_at rows (row + r) c) → LabelsStand layout es below
-LabelsStand-placed layout row es placed rows below is places stands beside hung same =
+    → ((r c : ℕ) → cell_at below r c ≡ cell_at rows (row + r) c) → EndWithin layout es placed below → LabelsStand layout es below
+LabelsStand-placed layout row es placed rows below is places stands beside hung same within =
     let f : PlacedEntry → LineAnnotation = λ e. e.entry in
     let moved : Reordered f placed es = reordered f placed es (IsPermutation-sym es (map f placed) is.same) in
     let order : List PlacedEntry = moved.order in
@@ -187,6 +194,9 @@ LabelsStand-placed layout row es placed rows below is places stands beside hung 
           omega (arith, few, kept, count-map (is_cell_of r c) g order);
       others = λ r c right none.
           subst (IsStrokeCell layout.decor) (sym (same r c)) (beside r c right (beside_labels layout row r c placed (counted r c ∙ none)));
+      within = λ edge right end shown.
+          let S : PlacedEntry → Type 0 = λ e. IsShownBy edge (g e) in
+          within edge right end (All-permutation S order placed (IsPermutation-sym placed order moved.same) (All-unmapped (IsShownBy edge) g order shown));
     }
   where
     entries : (xs : List PlacedEntry) → map (λ (l : PlacedLabel). l.entry) (map (placed_label layout) xs) ≡ map (λ (e : PlacedEntry). e.entry) xs
@@ -195,8 +205,8 @@ LabelsStand-placed layout row es placed rows below is places stands beside hung 
 
 -- where no entry has a label to show, none stands anywhere, and where nothing is drawn, spaces do
 pub LabelsStand-none : (layout : Layout) (es : List LineAnnotation) (rows : List (List Cell)) → All (λ e. label_text e ≡ []) es
-    → ((r c : ℕ) → layout.code ≤ c → cell_at rows r c ≡ SPACE) → LabelsStand layout es rows
-LabelsStand-none layout es rows none blank =
+    → ((r c : ℕ) → layout.code ≤ c → cell_at rows r c ≡ SPACE) → ((r : ℕ) → length (row_at rows r) ≤ layout.code) → LabelsStand layout es rows
+LabelsStand-none layout es rows none blank short =
     let g : LineAnnotation → PlacedLabel = λ e. record { entry = e; pieces = label_pieces layout 0 (label_text e); row = 0; cell = 0 } in
     let empty_pieces : (k : ℕ) (d : LineAnnotation) → k < length es → label_pieces layout 0 (label_text (get_or es k d)) ≡ [] ∷ [] = λ k d within.
     ap (label_pieces layout 0) (none k d within) ∙ label_pieces-nil layout 0 in
@@ -214,6 +224,7 @@ LabelsStand-none layout es rows none blank =
           no_cell r c (g (get_or es j d)).pieces (empty_pieces j d within)) in
           omega (arith, empty, count-map (is_cell_of r c) g es);
       others = λ r c right _. inl (blank r c right);
+      within = λ edge right _ _ r. omega (arith, short r, right);
     }
   where
     entries : (xs : List LineAnnotation)
@@ -231,10 +242,36 @@ LabelsStand-none layout es rows none blank =
         beyond zero = grind (arith, nat_tests)
         beyond (suc r) = grind (arith, nat_tests)
 
--- labels that stand in some rows stand in others, whose cells from the code on are the same
+-- labels that stand in some rows stand in others, whose cells from the code on are the same, if these go no farther than those or the code
 pub LabelsStand-kept : (layout : Layout) (es : List LineAnnotation) (old new : List (List Cell)) → LabelsStand layout es old
-    → ((r c : ℕ) → layout.code ≤ c → cell_at new r c ≡ cell_at old r c) → LabelsStand layout es new
-LabelsStand-kept layout es old new is same = search rules
+    → ((r c : ℕ) → layout.code ≤ c → cell_at new r c ≡ cell_at old r c)
+    → ((r : ℕ) → length (row_at new r) ≤ max (length (row_at old r)) layout.code) → LabelsStand layout es new
+LabelsStand-kept layout es old new is same short = record {
+  labels = is.labels;
+  are = is.are;
+  pieces = is.pieces;
+  stand = λ k d within some.
+      let l : PlacedLabel = get_or is.labels k d in
+      let before : StandsIn layout old l = is.stand k d within some in
+      record {
+        whole = λ m n inside. same (l.row + m) (l.cell + n) (right l before.place n) ∙ before.whole m n inside;
+        place = before.place;
+      };
+  led = λ k d within some r under above none.
+      let l : PlacedLabel = get_or is.labels k d in
+      subst (IsStemCell layout.decor) (sym (same r l.cell (omega (arith, right l (is.stand k d within some).place 0))))
+      (is.led k d within some r under above none);
+  apart = is.apart;
+  others = λ r c right none. subst (IsStrokeCell layout.decor) (sym (same r c right)) (is.others r c right none);
+  within = λ edge right end shown r. omega (arith, short r, is.within edge right end shown r, right);
+}
+  where
+    right : (l : PlacedLabel) → ((l.row ≡ 0) × (l.cell ≡ layout.code + max l.entry.end.display 1 + 1))
+        ⊎ ((0 < l.row) × (l.cell ≡ layout.code + l.entry.start.display)) → (n : ℕ) → layout.code ≤ l.cell + n
+    right l place n = elim place [
+      | inl at ↦ omega (arith, at.1)
+      | inr at ↦ omega (arith, at.1)
+    ]
 
 -- The rows of a line with no entries.
 -- a line with no entries has no strokes, but a row that closes the window where it closes there
@@ -255,7 +292,7 @@ none_seen layout room closes source place bare_bars =
       };
       strokes = record {
         some = λ _ some. absurd (omega (arith, some));
-        labels = λ _ _. LabelsStand-none layout [] _ (λ k d within. absurd (omega (arith, within))) (blank closes);
+        labels = λ _ _. LabelsStand-none layout [] _ (λ k d within. absurd (omega (arith, within))) (blank closes) (short closes);
         marks = λ _. record {
           marks = λ p kind mark. absurd (omega (arith, mark.among.1));
           unmarked = λ p _. ap (λ (c : Cell). is_mark_role c.role) (blank closes 0 (layout.code + p) (omega arith));
@@ -270,6 +307,11 @@ none_seen layout room closes source place bare_bars =
     blank true zero c right = bare_row_right layout.decor layout.gutter true c (omega (arith, right, place))
     blank true (suc r) c right = refl
     blank false r c right = refl
+
+    short : (closes : Bool) (r : ℕ) → length (row_at (if closes then closing_row layout.decor layout.gutter ∷ [] else []) r) ≤ layout.code
+    short true zero = omega (arith, bare_row_short layout.decor layout.gutter true, place)
+    short true (suc r) = omega arith
+    short false r = omega arith
 
     rows_are : (closes : Bool) (k : ℕ) → k < length (if closes then closing_row layout.decor layout.gutter ∷ [] else [])
         → IsStrokeRow layout (are_plain room layout.decor []) []

@@ -42,6 +42,7 @@ pub mod PlacedOf
 pub mod PositionLemmas
 pub mod Reach
 pub mod ReadyLemmas
+pub mod RowEnds
 pub mod RowLemmas
 pub mod SeenLabels
 pub mod SeenRows

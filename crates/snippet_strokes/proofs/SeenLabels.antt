@@ -1,7 +1,7 @@
 -- What is seen of the labels of a line: none is lost.
 use Rattle.std.specs.Prelude.{ℕ, Bool, true, ◌+◌, ◌-◌, ◌<◌, ◌≤◌, ◌≡◌, ◌⊎◌, ◌&&◌, ◌||◌, nat_le, nat_lt, max, All, List}
 use Rattle.std.specs.Prelude.{[], count_by, length, map, slice_index_or}
-use Rattle.snippet_strokes.proofs.Common.{Cell, unlinked_cell, DecorStyle, cell_at, is_bar, LineAnnotation, Layout, code_cell, label_role, label_text}
+use Rattle.snippet_strokes.proofs.Common.{Cell, unlinked_cell, DecorStyle, cell_at, row_at, is_bar, LineAnnotation, Layout, code_cell, label_role, label_text}
 use Rattle.snippet_strokes.proofs.Common.{is_start_part, IsStrokeCell, IsStemCell, label_pieces, shows_any}
 
 -- the pieces of the label of an entry, and where it begins: in which row of a line's strokes, that of the marks first, and in which cell
@@ -29,8 +29,18 @@ abbrev pub IsLedTo : DecorStyle → List PlacedLabel → List (List Cell) → Pl
 IsLedTo decor labels rows l =
     (r : ℕ) → 0 < r → r < l.row → count_by (is_cell_of r l.cell) labels ≡ 0 → IsStemCell decor (cell_at rows r l.cell)
 
+-- an entry begins before this cell, and ends by it
+pub record EndsBy (layout : Layout) (edge : ℕ) (e : LineAnnotation) : Type 0 where
+  pub begins : code_cell layout e.start.display < edge
+  pub ends : code_cell layout e.end.display ≤ edge
+
+-- each piece of a label does, that has a character
+abbrev pub IsShownBy : ℕ → PlacedLabel → Type 0
+IsShownBy edge l = (n : ℕ) → 0 < length (slice_index_or l.pieces n []) → l.cell + length (slice_index_or l.pieces n []) ≤ edge
+
 -- the labels of a line's entries stand in the rows of its strokes, one for each entry, in their order: each that shows anything
--- stands whole, and a stem leads to it; no cell is one of two labels, and each that is of none is a space or a stroke's
+-- stands whole, and a stem leads to it; no cell is one of two labels, and each that is of none is a space or a stroke's. Where the code
+-- begins before a cell, and all entries and pieces of labels end by it, each row does
 pub record LabelsStand (layout : Layout) (es : List LineAnnotation) (rows : List (List Cell)) : Type 0 where
   pub labels : List PlacedLabel
   pub are : map (λ (l : PlacedLabel). l.entry) labels ≡ es
@@ -39,6 +49,7 @@ pub record LabelsStand (layout : Layout) (es : List LineAnnotation) (rows : List
   pub led : All (λ l. shows_any l.pieces ≡ true → IsLedTo layout.decor labels rows l) labels
   pub apart : (r c : ℕ) → count_by (is_cell_of r c) labels ≤ 1
   pub others : (r c : ℕ) → layout.code ≤ c → count_by (is_cell_of r c) labels ≡ 0 → IsStrokeCell layout.decor (cell_at rows r c)
+  pub within : (edge : ℕ) → layout.code < edge → All (EndsBy layout edge) es → All (IsShownBy edge) labels → (r : ℕ) → length (row_at rows r) ≤ edge
 
 -- an entry has a label only where a span ends: the start of one of several lines, or a bar, has none
 abbrev pub IsLabelledAtEnd : LineAnnotation → Type 0

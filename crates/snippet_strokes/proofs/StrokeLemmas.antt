@@ -8,13 +8,16 @@ use Rattle.snippet_strokes.proofs.Common.{IsPermutation-map, IsPermutation-trans
 use Rattle.snippet_strokes.proofs.Common.{SPACE, text_cells, written, length-written, Layout, PlacedEntry, IsBarCell, is_mark_role}
 use Rattle.snippet_strokes.proofs.Common.{label_role, label_text, IsFreeCell, painting_order, painted, row_count, HasRows, has_label, has_stem, takes_space}
 use Rattle.snippet_strokes.proofs.Common.{bare_row, separator_row, is_uncut, mark_end, connectors_of, corners_of, labels_of, HasPlace, HasItsLabel, ArePlaced}
-use Rattle.snippet_strokes.proofs.Common.{HasBarCell, stems_of, entries_all, rules}
+use Rattle.snippet_strokes.proofs.Common.{HasBarCell, stems_of, entries_all, rules, All-permutation, inl, inr}
 use Rattle.snippet_strokes.proofs.SeenRows.{EntryCovers, are_plain, wide_entries, AreSeen, CutsRows, HasNoBars, IsCut, IsStrokeRow, ShowsMarks, first_piece}
 use Rattle.snippet_strokes.proofs.PaintedMarks.{IsPaintedAt, AreMarked, StandsWhole}
 use Rattle.snippet_strokes.proofs.DrawnCells.{DrawsFrom, DrawsBarCells, KeepsBarCells, MarksStarts, StandsFrom}
 use Rattle.snippet_strokes.proofs.DrawLemmas.{DrawsFrom-more, bar_space}
 use Rattle.snippet_strokes.proofs.CellLemmas.{drawn_strokes, marks_of}
-use Rattle.snippet_strokes.proofs.LabelPlaces.{HasStrokesBeside, LabelsStand-placed}
+use Rattle.snippet_strokes.proofs.LabelPlaces.{EndWithin, HasStrokesBeside, LabelsStand-placed}
+use Rattle.snippet_strokes.proofs.PaintOrder.{IsPermutation-painting_order}
+use Rattle.snippet_strokes.proofs.RowEnds.{strokes-by}
+use Rattle.snippet_strokes.proofs.SeenLabels.{EndsBy}
 use Rattle.snippet_strokes.proofs.StrokeCells.{cell_of_strokes, AreMarked-marks, labels_stand}
 use Rattle.snippet_strokes.proofs.StemCells.{IsHung, all_hung}
 use Rattle.snippet_strokes.proofs.BegunLemmas.{mark_shown, IsPlainEntry, covered_painted, mark_end_plain, spaceless, lone_placed, unlabelled, begun_row}
@@ -362,6 +365,38 @@ module _ (layout : Layout) (room : ℕ) (closes : Bool) (es : List LineAnnotatio
   beside_labels : HasStrokesBeside layout row placed new
   beside_labels k c right beside = grind (arith, new_is, cell_of_strokes, begun_space)
 
+  -- below a line no row goes past the code before it is drawn
+  begun_short : (k : ℕ) → length (row_at begun (row + k)) ≤ layout.code
+  begun_short k =
+      elim (cases_lt k (row_count placed)) [
+        | inl some ↦ omega (
+          arith,
+          ap (λ (cells : List Cell). length cells) (begun_at k some),
+          bare_row_short layout.decor layout.gutter (closes && k + 1 == row_count placed),
+          place,
+        )
+        | inr none ↦ omega (arith, ap (λ (cells : List Cell). length cells) (get_or_past begun (row + k) [] (omega (arith, none, long_begun))))
+      ]
+
+  -- so none goes past a cell by which all entries and their labels end
+  rows_end : (marks_now : List Cell) → marks_now ≡ row_at new row → EndWithin layout es placed (marks_now ∷ lower)
+  rows_end marks_now uncut edge right end shown r =
+      omega (arith, ap (λ (cells : List Cell). length cells) (same r), each)
+    where
+      same : (r : ℕ) → row_at (marks_now ∷ lower) r ≡ row_at new (row + r)
+      same zero = uncut ∙ ap (row_at new) (let here : row ≡ row + 0 = omega arith in here)
+      same (suc k) = lower_at k
+
+      each : length (row_at new (row + r)) ≤ edge
+      each =
+          let order : List PlacedEntry = painting_order placed in
+          let E : PlacedEntry → Type 0 = λ e. EndsBy layout edge e.entry in
+          let end_placed : All E placed = entries_all (EndsBy layout edge) es placed is.same end in
+          let end_order : All E order = All-permutation E placed order (IsPermutation-painting_order placed) end_placed in
+          subst (λ (rows : List (List Cell)). length (row_at rows (row + r)) ≤ edge) (sym new_is)
+          (strokes-by layout edge right (length above_rows) (length begun) placed order begun bar_cells end_placed end_order shown (row + r)
+          (omega (arith, begun_short r, right)))
+
   -- what is seen of the rows, once those of the source and of the marks are cut where entries are wide
   pub strokes_seen : (rows : List (List Cell))
       → CutsRows layout (wide_entries room layout.decor es) (is_uncut room layout es) source (row_at new row) lower rows
@@ -383,7 +418,7 @@ module _ (layout : Layout) (room : ℕ) (closes : Bool) (es : List LineAnnotatio
           marks = λ flat. subst (ShowsMarks layout layout.decor layout.code es) (sym (cuts.marks_cut.uncut (narrow flat))) (shows_marks flat);
           labels = λ uncut _. LabelsStand-placed layout row es placed new below is places stands beside_labels
               (subst hung (sym new_is) (all_hung layout (length above_rows) (length begun) placed (painting_order placed) begun))
-              (rows_new cuts.marks_now (cuts.kept uncut));
+              (rows_new cuts.marks_now (cuts.kept uncut)) (rows_end cuts.marks_now (cuts.kept uncut));
           are = λ k inside. subst (λ n. IsStrokeRow layout plain es (closes && k + 1 == n) (row_at below k)) (sym long)
               (stroke_rows wide narrow cuts.marks_now cuts.marks_cut k (omega (arith, inside, long)));
         };
