@@ -13,7 +13,9 @@ use Rattle.annotate_snippets.proofs.Common.{StandsIn, is_cell_of, is_start_part,
 use Rattle.annotate_snippets.proofs.Common.{promoted_spans, is_in_label, labels_ending_on, normalized_chars, shown_label, entry_of, is_short, long_places}
 use Rattle.annotate_snippets.proofs.Common.{stands_among}
 use Rattle.std.specs.List.{All}
-use Rattle.annotate_snippets.specs.Laws.Labels.{IsBroken, pieces_shown}
+use Rattle.annotate_snippets.proofs.Common.{All-unmapped, false≢true}
+use Rattle.annotate_snippets.proofs.EntryEnds.{entries_end}
+use Rattle.annotate_snippets.specs.Laws.Labels.{HasRoom, IsBroken, pieces_shown}
 use Rattle.snippet_labels.proofs.PieceLemmas.{label_pieces-broken, label_pieces-nil}
 use Rattle.snippet_labels.specs.Pieces.{label_pieces, shows_any}
 use Rattle.snippet_shown.proofs.DrawnLemmas.{rows-within}
@@ -21,6 +23,9 @@ use Rattle.snippet_shown.proofs.WrapLemmas.{wrapped-laws}
 use Rattle.snippet_shown.specs.WrapLaws.{AreRowsWithin}
 use Rattle.snippet_shown.specs.Wrapped.{wrapped}
 use Rattle.std.specs.List.{slice_split}
+use Rattle.snippet_strokes.proofs.PieceWrites.{piece_within}
+use Rattle.snippet_strokes.proofs.SeenLabels.{IsShownBy}
+use Rattle.std.proofs.lemmas.List.{get_or_default}
 use Rattle.std.specs.Prelude.{nat_le, nat_lt}
 use Rattle.annotate_snippets.proofs.MarkLemmas.{end_of_entry, start_of_entry}
 
@@ -67,6 +72,35 @@ labelled_at_end s marks k dropped es same =
     each (x ∷ xs) all =
         All-cons IsLabelledAtEnd (shifted dropped x) (map (shifted dropped) xs) (own x (All-head HasNoneBefore x xs all))
         (each xs (All-tail HasNoneBefore x xs all))
+
+-- ---- labels that are broken
+
+label_broken : (layout : Layout) → layout.label_lines ≡ true → (l : ShownLabel) → l.cell + 20 ≤ layout.label_end → IsBroken layout l
+label_broken layout cut l wide =
+    let room : ℕ = layout.label_end - l.cell in
+    let shown : List ℕ = wrapped room false l.label.text in
+    let lines : pieces_shown layout l ≡ slice_split (λ c. c == 10) shown = label_pieces-broken layout cut l.cell l.label.text wide in
+    let kept = wrapped-laws room false l.label.text in
+    record {
+      text = shown;
+      lines = lines;
+      kept = kept;
+      fits = subst (AreRowsWithin false room) (sym lines) (rows-within room false shown (kept.rows (omega (arith, wide))));
+    }
+
+-- where a piece has a character, something is shown
+piece_shows : (ps : List (List ℕ)) (n : ℕ) → 0 < length (get_or ps n []) → shows_any ps ≡ true
+piece_shows [] n some = absurd (omega (arith, some))
+piece_shows (p ∷ ps) zero some = grind (arith, nat_tests, some)
+piece_shows (p ∷ ps) (suc n) some = grind (arith, piece_shows ps n some)
+
+-- the pieces of a label without text have none
+no_piece : (layout : Layout) (cell i : ℕ) (ps : List (List ℕ)) → ps ≡ label_pieces layout cell [] → length (get_or ps i []) ≡ 0
+no_piece layout cell i ps is = ap (λ (qs : List (List ℕ)). length (get_or qs i [])) (is ∙ label_pieces-nil layout cell) ∙ none i
+  where
+    none : (i : ℕ) → length {A = ℕ} (get_or ([] ∷ []) i []) ≡ 0
+    none zero = refl
+    none (suc i) = refl
 
 -- ---- the labels of the entries at which spans end
 
@@ -235,20 +269,13 @@ module _ (dropped : ℕ) (layout : Layout) (rows : List (List Cell)) where
       (sym (pieces_are e l entry (All-head HasPieces l ls has))) in
       let none : (is_start_part e.annotation_type || is_bar e.annotation_type) ≡ true → is_cell_of r c l ≡ false =
       λ before. no_cell r c l.row l.cell (length (get_or l.pieces (r - l.row) []))
-      (no_piece l.cell (r - l.row) l.pieces (All-head HasPieces l ls has ∙ ap (label_pieces layout l.cell) (ap label_text entry
+      (no_piece layout l.cell (r - l.row) l.pieces (All-head HasPieces l ls has ∙ ap (label_pieces layout l.cell) (ap label_text entry
       ∙ All-head IsLabelledAtEnd (shifted dropped e) (map (shifted dropped) es) ends before))) in
       both (is_start_part e.annotation_type || is_bar e.annotation_type) one none
       (cells_all r c es ls further (All-tail IsLabelledAtEnd (shifted dropped e) (map (shifted dropped) es) ends) (All-tail HasPieces l ls has))
     where
       no_cell : (r c row cell n : ℕ) → n ≡ 0 → (nat_le row r && (nat_le cell c && nat_lt c (cell + n))) ≡ false
       no_cell r c row cell n is = grind (arith, nat_tests, is)
-
-      no_piece : (cell i : ℕ) (ps : List (List ℕ)) → ps ≡ label_pieces layout cell [] → length (get_or ps i []) ≡ 0
-      no_piece cell i ps is = ap (λ (qs : List (List ℕ)). length (get_or qs i [])) (is ∙ label_pieces-nil layout cell) ∙ none i
-        where
-          none : (i : ℕ) → length {A = ℕ} (get_or ([] ∷ []) i []) ≡ 0
-          none zero = refl
-          none (suc i) = refl
 
       both : (b : Bool) → is_in_label layout r c (shown_at e l) ≡ is_cell_of r c l → (b ≡ true → is_cell_of r c l ≡ false)
           → count_by (is_cell_of r c) ls ≤ count_by (is_in_label layout r c) (shown_labels es ls)
@@ -262,6 +289,50 @@ module _ (dropped : ℕ) (layout : Layout) (rows : List (List Cell)) where
           let g : PlacedLabel → ℕ = λ x. cond (is_cell_of r c x) 1 0 in
           let here : g l ≡ 0 = ap (λ b. cond b 1 0) (none refl) in
           omega (arith, rest, here, sum_by-cons g l ls)
+
+  -- where each label that shows anything has room, so has each piece of all entries' labels
+  abbrev IsRoomy : ShownLabel → Type 0
+  IsRoomy l = shows_any (pieces_shown layout l) ≡ true → HasRoom layout l
+
+  abbrev Ends : PlacedLabel → Type 0
+  Ends = IsShownBy layout.label_end
+
+  label_ends : (e : LineAnnotation) (l : PlacedLabel) → layout.label_lines ≡ true → l.pieces ≡ pieces_shown layout (shown_at e l) → IsRoomy (shown_at e l) → Ends l
+  label_ends e l cut are room n some =
+      let ps : List (List ℕ) = pieces_shown layout (shown_at e l) in
+      let long : length (get_or l.pieces n []) ≡ length (get_or ps n []) = ap (λ (qs : List (List ℕ)). length (get_or qs n [])) are in
+      let some_too : 0 < length (get_or ps n []) = omega (arith, some, long) in
+      let has : HasRoom layout (shown_at e l) = room (piece_shows ps n some_too) in
+      let inside : n < length ps = piece_within ps n some_too in
+      omega (arith, has.room, has.cells n [] inside, (label_broken layout cut (shown_at e l) has.room).fits n [] inside, long)
+
+  labels_end : layout.label_lines ≡ true → (es : List LineAnnotation) (ls : List PlacedLabel)
+      → map (λ (l : PlacedLabel). l.entry) ls ≡ map (shifted dropped) es → All IsLabelledAtEnd (map (shifted dropped) es) → All HasPieces ls
+      → All IsRoomy (shown_labels es ls) → All Ends ls
+  unfolding shown_labels
+  labels_end cut [] [] entries ends has room = All-nil Ends
+  labels_end cut [] (l ∷ ls) entries ends has room = cc entries
+  labels_end cut (e ∷ es) [] entries ends has room = cc entries
+  labels_end cut (e ∷ es) (l ∷ ls) entries ends has room =
+      let entry = head_same l.entry (shifted dropped e) (map (λ (x : PlacedLabel). x.entry) ls) (map (shifted dropped) es) entries in
+      let further = tail_same l.entry (shifted dropped e) (map (λ (x : PlacedLabel). x.entry) ls) (map (shifted dropped) es) entries in
+      let none : (is_start_part e.annotation_type || is_bar e.annotation_type) ≡ true → Ends l = λ before n some.
+      absurd (omega (
+        arith,
+        some,
+        no_piece layout l.cell n l.pieces (All-head HasPieces l ls has ∙ ap (label_pieces layout l.cell) (ap label_text entry
+            ∙ All-head IsLabelledAtEnd (shifted dropped e) (map (shifted dropped) es) ends before)),
+      )) in
+      both (is_start_part e.annotation_type || is_bar e.annotation_type) none
+      (label_ends e l cut (pieces_are e l entry (All-head HasPieces l ls has)))
+      (labels_end cut es ls further (All-tail IsLabelledAtEnd (shifted dropped e) (map (shifted dropped) es) ends) (All-tail HasPieces l ls has)) room
+    where
+      both : (b : Bool) → (b ≡ true → Ends l) → (IsRoomy (shown_at e l) → Ends l) → (All IsRoomy (shown_labels es ls) → All Ends ls)
+          → All IsRoomy (cond (not b) (shown_at e l ∷ shown_labels es ls) (shown_labels es ls)) → All Ends (l ∷ ls)
+      both true none own rest room = All-cons Ends l ls (none refl) (rest room)
+      both false none own rest room =
+          All-cons Ends l ls (own (All-head IsRoomy (shown_at e l) (shown_labels es ls) room))
+          (rest (All-tail IsRoomy (shown_at e l) (shown_labels es ls) room))
 
 -- ---- which spans these are
 
@@ -334,22 +405,19 @@ single_labels s k (a ∷ marked) own =
     ∙ ap (λ n. record { text = shown_label a; kind = a.kind; from = start_column s.text a; to = n }) (end_of_entry s a single) in
     ap (λ x. x ∷ map (label_of_part) (filter ends_here (map (single_part s) marked))) here ∙ ap (λ xs. label_of_span s.text a ∷ xs) rest
 
--- ---- labels that are broken
-
-label_broken : (layout : Layout) → layout.label_lines ≡ true → (l : ShownLabel) → l.cell + 20 ≤ layout.label_end → IsBroken layout l
-label_broken layout cut l wide =
-    let room : ℕ = layout.label_end - l.cell in
-    let shown : List ℕ = wrapped room false l.label.text in
-    let lines : pieces_shown layout l ≡ slice_split (λ c. c == 10) shown = label_pieces-broken layout cut l.cell l.label.text wide in
-    let kept = wrapped-laws room false l.label.text in
-    record {
-      text = shown;
-      lines = lines;
-      kept = kept;
-      fits = subst (AreRowsWithin false room) (sym lines) (rows-within room false shown (kept.rows (omega (arith, wide))));
-    }
-
 -- ---- the labels of a line
+
+-- what holds of elements that pass a test
+unfiltered : {X : Type 0} (p : X → Bool) (P : X → Type 0) (xs : List X) → All P (filter p xs) → All (λ x. p x ≡ true → P x) xs
+unfiltered p P [] all = All-nil (λ x. p x ≡ true → P x)
+unfiltered {X} p P (x ∷ xs) all = both (p x) refl all (unfiltered p P xs)
+  where
+    T : X → Type 0
+    T y = p y ≡ true → P y
+
+    both : (b : Bool) → p x ≡ b → All P (cond b (x ∷ filter p xs) (filter p xs)) → (All P (filter p xs) → All T xs) → All T (x ∷ xs)
+    both true is all rest = All-cons T x xs (λ _. All-head P x (filter p xs) all) (rest (All-tail P x (filter p xs) all))
+    both false is all rest = All-cons T x xs (λ yes. absurd (false≢true (sym is ∙ yes))) (rest all)
 
 -- the labels of the spans that end on line k stand below it, whatever other entries the line has
 pub labels_shown : (sn : Snippet Annotation) (k dropped : ℕ) (layout : Layout) (es : List LineAnnotation) (rows : List (List Cell))
@@ -373,17 +441,26 @@ labels_shown sn k dropped layout es rows same clear stand =
           stand.pieces,
     ) in
     let long : length stand.labels ≡ length es = grind (arith, common_steps, length-map, shifted, stand.labels, stand.are) in
+    let spans : map (label_of_part) (filter ends_here es) ≡ labels_ending_on sn k = ap (λ ps. map (label_of_part) (filter ends_here ps)) parts
+    ∙ ap (map (label_of_part)) (filter-append ends_here singles longs)
+    ∙ map-append (label_of_part) (filter ends_here singles) (filter ends_here longs)
+    ∙ ap (λ xs. xs ++ map (label_of_part) (filter ends_here longs)) (single_labels s k marked (filter_passes (is_marked_on s.text k) marks))
+    ∙ ap (λ xs. map (label_of_span s.text) marked ++ xs) (long_ends s k (long_places s marks) [] (long_spans s marks)) in
     record {
       labels = shown_labels es stand.labels;
-      spans = labels_are es stand.labels long ∙ ap (λ ps. map (label_of_part) (filter ends_here ps)) parts
-          ∙ ap (map (label_of_part)) (filter-append ends_here singles longs)
-          ∙ map-append (label_of_part) (filter ends_here singles) (filter ends_here longs)
-          ∙ ap (λ xs. xs ++ map (label_of_part) (filter ends_here longs)) (single_labels s k marked (filter_passes (is_marked_on s.text k) marks))
-          ∙ ap (λ xs. map (label_of_span s.text) marked ++ xs) (long_ends s k (long_places s marks) [] (long_spans s marks));
+      spans = labels_are es stand.labels long ∙ spans;
       stand = all_shown dropped layout rows es stand.labels stand.are stand.pieces clear stand.stand;
       led = all_led dropped layout rows stand.labels (shown_labels es stand.labels) none_kept es stand.labels stand.are stand.pieces
           stand.led;
       apart = λ r c. omega (arith, cells_few dropped layout rows r c es stand.labels stand.are stand.pieces, stand.apart r c);
       others = λ r c right none. stand.others r c right (none_kept r c none);
       broken = λ cut k d within wide. label_broken layout cut (get_or (shown_labels es stand.labels) k d) wide;
+      within = λ cut marks_room room r d inside.
+          let edge : ℕ = layout.label_end in
+          let E : SpanLabel → Type 0 = λ l. layout.code + (l.to - dropped) ≤ edge in
+          let last : All (λ p. ends_here p ≡ true → E (label_of_part p)) es = unfiltered ends_here (λ p. E (label_of_part p)) es
+          (All-unmapped E (label_of_part) (filter ends_here es) (subst (All E) (sym spans) marks_room.end)) in
+          let end = entries_end s marks k dropped edge layout marks_room.code marks_room.begin es same (λ i x within ending. last i x within (ap not ending)) in
+          let shown = labels_end dropped layout rows cut es stand.labels stand.are (labelled_at_end s marks k dropped es same) stand.pieces room in
+          omega (arith, stand.within edge marks_room.code end shown r, ap (λ (row : List Cell). length row) (get_or_default rows r d [] inside));
     }

@@ -17,6 +17,7 @@ pub mod DrawnLines
 pub mod DrawnRows
 pub mod ElementRows
 pub mod ElementShown
+pub mod EntryEnds
 pub mod FaultLemmas
 pub mod FeedLaws
 pub mod FeedsShown
