@@ -1,7 +1,8 @@
 -- The entries of a line end where its spans do.
-use Rattle.annotate_snippets.proofs.Common.{◌≡◌, ℕ, ◌+◌, ◌-◌, ◌<◌, ◌≤◌, ◌==◌, ◌||◌, max, Bool, true, false, List, map, get_or, refl, sym, subst}
-use Rattle.annotate_snippets.proofs.Common.{arith, inl, inr, cases_Bool, eqb-true, filter_passes, All-contains, All-filter, All-map, Annotation, AnnotationKind}
-use Rattle.annotate_snippets.proofs.Common.{Contains, Source, first_line, start_column, is_bar, is_long, is_start_part, locations_of, long_entry, made-all, made_parts}
+use Rattle.annotate_snippets.proofs.Common.{◌≡◌, ℕ, ◌+◌, ◌-◌, ◌<◌, ◌≤◌, ◌==◌, ◌||◌, Bool, true, false, List, map, get_or, refl, sym, subst}
+use Rattle.annotate_snippets.proofs.Common.{arith, inl, inr, cases_Bool, eqb-true, filter_passes, All-contains, All-filter, All-map, Annotation}
+use Rattle.annotate_snippets.proofs.Common.{Contains, Source, first_line, start_column, is_bar, is_long, is_start_part, locations_of, long_entry, made-all}
+use Rattle.annotate_snippets.proofs.Common.{made_parts}
 use Rattle.annotate_snippets.proofs.Common.{parts_on, LineAnnotation, Layout, shifted}
 use Rattle.std.specs.List.{All}
 use Rattle.snippet_parts.proofs.MarkLemmas.{first_line-from, start_column-from}

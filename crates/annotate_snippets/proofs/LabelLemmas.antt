@@ -297,7 +297,8 @@ module _ (dropped : ℕ) (layout : Layout) (rows : List (List Cell)) where
   abbrev Ends : PlacedLabel → Type 0
   Ends = IsShownBy layout.label_end
 
-  label_ends : (e : LineAnnotation) (l : PlacedLabel) → layout.label_lines ≡ true → l.pieces ≡ pieces_shown layout (shown_at e l) → IsRoomy (shown_at e l) → Ends l
+  label_ends : (e : LineAnnotation) (l : PlacedLabel) → layout.label_lines ≡ true → l.pieces ≡ pieces_shown layout (shown_at e l) → IsRoomy (shown_at e l)
+      → Ends l
   label_ends e l cut are room n some =
       let ps : List (List ℕ) = pieces_shown layout (shown_at e l) in
       let long : length (get_or l.pieces n []) ≡ length (get_or ps n []) = ap (λ (qs : List (List ℕ)). length (get_or qs n [])) are in

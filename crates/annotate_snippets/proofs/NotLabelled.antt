@@ -1,5 +1,5 @@
 -- Rows in which a label is lost, or a word stands that is none: each contradicts what is shown of labels.
-use Rattle.annotate_snippets.proofs.Common.{◌≡◌, ℕ, zero, suc, ◌+◌, ◌<◌, ◌≤◌, ◌==◌, ◌&&◌, cond, Bool, true, false, List, [], ◌∷◌, map}
+use Rattle.annotate_snippets.proofs.Common.{◌≡◌, ℕ, zero, suc, ◌+◌, ◌<◌, ◌≤◌, ◌&&◌, cond, Bool, true, false, List, [], ◌∷◌, map}
 use Rattle.annotate_snippets.proofs.Common.{length, count_by, refl, sym, ap, subst, ◌∙◌, arith, inl, inr, Contains, false≢true, nat_tests, All-contains}
 use Rattle.annotate_snippets.proofs.Common.{All-head, All-tail, sum_by-cons, cell_at, Cell, SPACE, DecorStyle, ElementStyle, LabelPrimary, LabelSecondary}
 use Rattle.annotate_snippets.proofs.Common.{UnderlinePrimary, UnderlineSecondary, Annotation, AnnotationKind, Primary, Context, Visible, Snippet, from_map}

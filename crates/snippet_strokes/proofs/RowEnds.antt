@@ -1,8 +1,8 @@
 -- Where rows end: strokes that end by a cell leave no row that goes past it.
-use Rattle.snippet_strokes.proofs.Common.{◌≡◌, ℕ, ◌+◌, ◌-◌, ◌<◌, ◌≤◌, ◌==◌, ◌&&◌, cond, Bool, List, [], ◌∷◌, ◌++◌, All, length, get_or}
+use Rattle.snippet_strokes.proofs.Common.{ℕ, ◌+◌, ◌-◌, ◌<◌, ◌≤◌, ◌==◌, ◌&&◌, cond, Bool, List, [], ◌∷◌, ◌++◌, All, length, get_or}
 use Rattle.snippet_strokes.proofs.Common.{sym, ap, subst, arith, inl, inr, cases_lt, cases_eq, nat_tests, All-append, All-cons, All-nil}
 use Rattle.snippet_strokes.proofs.Common.{All-head, All-tail, length-replicate, length-text_cells, text_cells, Cell, row_at, WritesCells-cells_written}
-use Rattle.snippet_strokes.proofs.Common.{is_primary, strokes_of, ElementStyle, Layout, LineAnnotation, LineAnnotationType, Singleline, MultilineStart}
+use Rattle.snippet_strokes.proofs.Common.{is_primary, strokes_of, ElementStyle, Layout, LineAnnotationType, Singleline, MultilineStart}
 use Rattle.snippet_strokes.proofs.Common.{MultilineEnd, MultilineLine, PlacedEntry, HasBarCell, HasBarCellAt, Write, glyph_at, painted, stretch_of, stroke_role}
 use Rattle.snippet_strokes.proofs.Common.{connector_of, corner_of, connectors_of, corners_of, stems_of, label_of, labels_of, first_glyph, mark_end}
 use Rattle.snippet_strokes.proofs.BarWrites.{All-column_of, All-connector_of, All-stem_of, All-stems_of, All-stretch_of}
