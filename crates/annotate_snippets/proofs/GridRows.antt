@@ -4,7 +4,7 @@ use Rattle.annotate_snippets.proofs.Common.{◌≡◌, ℕ, ◌+◌, ◌<◌, �
 use Rattle.annotate_snippets.proofs.Common.{◌++◌, length, get_or, map, take, drop, Bor, refl, sym, ap, ◌∙◌, arith, subst, if◌then◌else◌, ◌||◌}
 use Rattle.annotate_snippets.proofs.Common.{enumerate_from, slice_get, option_copied, option_or, zero-add, nat_tests, append_assoc, get_or-map, length-map}
 use Rattle.annotate_snippets.proofs.Common.{length-take, take-append-drop, take_more, get_or-enumerate_from, length-enumerate_from, get_or_from_slice_get}
-use Rattle.annotate_snippets.proofs.Common.{slice_get-get_or, slice_get_within, Layout, Group, All-unmapped, DecorStyle, drawn_elements, file_of_group}
+use Rattle.annotate_snippets.proofs.Common.{slice_get-get_or, slice_get_within, Layout, Group, All-unmapped, drawn_elements, file_of_group}
 use Rattle.annotate_snippets.proofs.Common.{position_of_group, HasRoomFor, code_after, is_first_group, graphic_form, group_page, layout_of_group}
 use Rattle.annotate_snippets.proofs.Common.{gutter_of_report, GroupPage, IsGroupDrawable, IsGroupPrepared, element_of, Renderer, GroupPosition, Only}
 use Rattle.annotate_snippets.proofs.Common.{PreparedGroup}

@@ -1,11 +1,10 @@
 -- A snippet's line with its entries, as painters are given it, made from the snippet alone; and what holds of those that are shown.
-use Rattle.annotate_snippets.proofs.Common.{◌≡◌, ℕ, ◌+◌, ◌<◌, ◌≤◌, ◌&&◌, not, All, get_or, List, [], ◌∷◌, map, length, refl}
+use Rattle.annotate_snippets.proofs.Common.{◌≡◌, ℕ, ◌+◌, ◌<◌, ◌≤◌, ◌&&◌, not, All, List, [], ◌∷◌, map, length, refl}
 use Rattle.annotate_snippets.proofs.Common.{sym, ap, ◌∙◌, arith, cow_str_bytes, list_any, Layout, Source, source_lines, text_at, shown_number, IsSpan}
 use Rattle.annotate_snippets.proofs.Common.{Annotation, Cause, Snippet, annotated_lines, kept_line, AllEntries, HasColumnRoom, seen_kept, kept_lines}
 use Rattle.annotate_snippets.proofs.Common.{shown_lines, is_marking, touches, AnnotatedLineInfo, LineAnnotation, places-fit, parts_on-few}
 use Rattle.annotate_snippets.proofs.Common.{All-unmapped, AreDrawable, CanBeShown, StandsClear, margin_of, Margin, margin_of_lines, margin_seen, lines_clear}
 use Rattle.annotate_snippets.proofs.Common.{lines_sound, HasRoomFor, margin_in, line_numbers, numbered_source, IsDrawable, Renderer}
-use Rattle.snippet_parts.specs.Located as labels
 use Rattle.annotate_snippets.proofs.MarginWords.{room_of}
 use Rattle.annotate_snippets.proofs.LineWords.{entries_on}
 use Rattle.annotate_snippets.proofs.GutterLemmas.{numbers_fit}

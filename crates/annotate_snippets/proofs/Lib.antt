@@ -66,6 +66,7 @@ pub mod NotTitled
 pub mod NotWhole
 pub mod NotWrapped
 pub mod NumberLaws
+pub mod OneLinePages
 pub mod OneLineTexts
 pub mod PageLemmas
 pub mod PageWords

@@ -333,7 +333,7 @@ parts_one_line s marks plain =
     of_label a among = shown_text_plain (option_map cow_str_bytes a.label) (All-contains IsOneLineLabel marks a plain among)
 
 -- the label of each entry of a line is one of its spans'
-entries_plain : (s : Snippet Annotation) (k : ℕ) (es : List LineAnnotation) → es ≡ entries_on s k → All IsOneLineLabel s.markers.items
+pub entries_plain : (s : Snippet Annotation) (k : ℕ) (es : List LineAnnotation) → es ≡ entries_on s k → All IsOneLineLabel s.markers.items
     → All (λ e. All IsNoFeed (label_text e)) es
 entries_plain s k es are plain =
     let source : Source = numbered_source s in

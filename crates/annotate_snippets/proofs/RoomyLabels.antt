@@ -70,3 +70,15 @@ rows_have_room decor layout s k dropped rows shows cut marks wide seen =
     let own : All (λ (l : ShownLabel). S l.label) shows.labels = All-unmapped S (λ (l : ShownLabel). l.label) shows.labels
     (subst (All S) (sym shows.spans) seen) in
     shows.within cut marks (λ i d inside some. roomy layout (get_or shows.labels i d) cut (wide i d inside some) (own i d inside))
+
+-- a row of characters that take a column each at most has no more columns than cells
+pub columns_within : (row : List ℕ) → All (λ c. char_width c ≤ 1) row → columns_of (letters_of false row) ≤ length row
+columns_within [] narrow = omega arith
+columns_within (c ∷ row) narrow =
+    let Narrow : ℕ → Type 0 = λ c. char_width c ≤ 1 in
+    omega (
+      arith,
+      sum_by-cons letter_width (letter (first_place false) c) (letters (first_place false) row),
+      All-head Narrow c row narrow,
+      columns_within row (All-tail Narrow c row narrow),
+    )

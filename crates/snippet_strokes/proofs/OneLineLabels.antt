@@ -83,6 +83,7 @@ module _ (layout : Layout) (none : layout.label_end ≡ 0) (cut : Bool) where
   -- those of a line of which columns are dropped too, over which bars run
   pub line_same : (room : ℕ) (closes : Bool) (text : List ℕ) (dropped : ℕ) (open_bars : List OpenBar) (es : List LineAnnotation) (source : List Cell)
       → All IsPlainEntry es
-      → line_rows (with_cut cut layout) room closes text dropped open_bars es source ≡ line_rows (with_cut false layout) room closes text dropped open_bars es source
+      → line_rows (with_cut cut layout) room closes text dropped open_bars es source
+      ≡ line_rows (with_cut false layout) room closes text dropped open_bars es source
   line_same room closes text dropped open_bars es source plain =
       ap (map (with_bars layout (λ strokes. strokes.bar) (bars_apart open_bars (ends_of_bars es)))) (own_same room closes text dropped es source plain)
