@@ -6,6 +6,7 @@ use Rattle.snippet_grid.specs.HtmlRead.{ReadChar, as_read, chars_of_rows, feed_r
 use Rattle.snippet_model.specs.declared.snippet.Group.{Group}
 use Rattle.annotate_snippets.specs.AsSet.{IsAsSet}
 use Rattle.annotate_snippets.specs.GraphicForm.{graphic_form}
+use Rattle.annotate_snippets.specs.Laws.Page.{PageLaws}
 use Rattle.annotate_snippets.specs.Page.{GroupPage, group_rows, page_text}
 use Rattle.annotate_snippets.specs.declared.renderer.Renderer.{Renderer}
 use Rattle.annotate_snippets.specs.declared.renderer.form.Form.TheVariants.{Graphic}
@@ -50,11 +51,12 @@ pub record IsReportHtml (r : Renderer) (groups : List Group) (text : List ℕ) :
   pub set : IsAsSet Graphic r groups shown
   pub is : text ≡ html_bytes (report_html r shown)
 
--- and it has the laws of that
+-- and it has the laws of that, as its page has those of a page
 pub record HasHtmlLaws (r : Renderer) (groups : List Group) (text : List ℕ) : Type 0 where
   pub shown : List Group
   pub set : IsAsSet Graphic r groups shown
   pub laws : HtmlLaws r shown text
+  pub page : PageLaws r shown (graphic_form r shown)
 
 -- a text grew by a group, after a line feed unless it is the first
 abbrev pub AddsGroupHtml : Bool → GroupPage → List ℕ → List ℕ → Type 0

@@ -166,7 +166,7 @@ impl Renderer {
         ensures html { IfOk result (λ text. IsReportHtml self.now groups.now (string_bytes text)) }
 
         // What follows for who reads it: read as HTML it is the page's plain text, its tags are its own, and each
-        // character stands in the class of its role and in the link of its cell.
+        // character stands in the class of its role and in the link of its cell. The page has the laws of a page.
         ensures laws { IfOk result (λ text. HasHtmlLaws self.now groups.now (string_bytes text)) }
     {
         let shown = self.shown(alloc, Form::Graphic, groups)?;

@@ -4,7 +4,9 @@
 //! <span class="snippet-error">error</span><span class="snippet-emphasis">: unused</span>
 //! ```
 ghost use Rattle.std.specs.Prelude.{◌≡◌, All, IfOk, string_bytes};
+ghost use Rattle.annotate_snippets.specs.GraphicForm.{graphic_form};
 ghost use Rattle.annotate_snippets.specs.Html.{report_html};
+ghost use Rattle.annotate_snippets.specs.Laws.Page.{PageLaws};
 ghost use Rattle.annotate_snippets.specs.PreparedReport.{IsGroupDrawable};
 ghost use Rattle.snippet_grid.specs.Html.{html_bytes};
 
@@ -32,6 +34,7 @@ pub fn page_html(
     requires drawable { All IsGroupDrawable groups.now }
     ensures html { IfOk result (λ text.
         string_bytes text ≡ html_bytes (report_html renderer.now groups.now)) }
+    ensures laws { IfOk result (λ text. PageLaws renderer.now groups.now (graphic_form renderer.now groups.now)) }
 {
     let mut page = HtmlPage {
         text: String::new(alloc),

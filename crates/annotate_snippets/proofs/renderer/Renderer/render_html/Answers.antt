@@ -16,5 +16,10 @@ returns c =
       refused = search rules;
       renders = search rules;
       html = record { shown = shown; set = set; is = c.in_ok-text.ensures.html };
-      laws = record { shown = shown; set = set; laws = html_laws r shown (string_bytes c.in_ok-text.text) c.in_ok-text.ensures.html };
+      laws = record {
+        shown = shown;
+        set = set;
+        laws = html_laws r shown (string_bytes c.in_ok-text.text) c.in_ok-text.ensures.html;
+        page = c.in_ok-text.ensures.laws;
+      };
     }
