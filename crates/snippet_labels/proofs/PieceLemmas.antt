@@ -3,6 +3,7 @@ use Rattle.snippet_labels.proofs.Common.{◌≡◌, ℕ, ◌+◌, ◌-◌, ◌�
 use Rattle.snippet_labels.proofs.Common.{refl, sym, ap, subst, ◌∙◌, arith, All, inl, inr, get_or, greatest, nat_tests, map_push}
 use Rattle.snippet_labels.proofs.Common.{encode_utf8_all, pieces_width, shows_any, LabelPieces, label_width, label_at, label_pieces, beside_column, broken}
 use Rattle.snippet_labels.proofs.Common.{broken_in, text_pieces, Layout, code_cell, PlacedEntry, HasItsLabel, pieces_of, label_place, normalized_chars}
+use Rattle.snippet_labels.proofs.Common.{LineAnnotation, label_of_entry}
 use Rattle.snippet_labels.specs.LabelSize.{cut_pieces}
 use Rattle.snippet_parts.proofs.LeastLemmas.{greatest-push}
 use Rattle.snippet_parts.proofs.RawDepthLemmas.{greatest-cons}
@@ -69,6 +70,17 @@ label_pieces-nil layout cell = by_cut layout.label_lines
 -- a label that isn't cut has one piece
 pub label_pieces-whole : (layout : Layout) → layout.label_lines ≡ false → (cell : ℕ) (text : List ℕ) → label_pieces layout cell text ≡ text ∷ []
 label_pieces-whole layout is cell text = ap (λ b. text_pieces b (if b then broken_in (layout.label_end - cell) text else text)) is
+
+pub label_of_entry-whole : (layout : Layout) → layout.label_lines ≡ false → (e : LineAnnotation) (label : LabelPieces)
+    → label.beside ≡ normalized_chars e.label ∷ [] → label.below ≡ normalized_chars e.label ∷ [] → label ≡ label_of_entry layout e
+label_of_entry-whole layout is e label beside below =
+    let text : List ℕ = normalized_chars e.label in
+    let first : label.beside ≡ label_pieces layout (code_cell layout (beside_column e)) text =
+    beside ∙ sym (label_pieces-whole layout is (code_cell layout (beside_column e)) text) in
+    let second : label.below ≡ label_pieces layout (code_cell layout e.start.display) text =
+    below ∙ sym (label_pieces-whole layout is (code_cell layout e.start.display) text) in
+    ap (λ x. record { beside = x; below = label.below }) first
+    ∙ ap (λ x. record { beside = label_pieces layout (code_cell layout (beside_column e)) text; below = x }) second
 
 pub label_pieces-cut : (layout : Layout) → layout.label_lines ≡ true → (cell : ℕ) (text : List ℕ)
     → label_pieces layout cell text ≡ cut_pieces (layout.label_end - cell) text

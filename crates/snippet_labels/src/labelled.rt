@@ -35,10 +35,15 @@ pub(crate) fn labelled_entries<'a>(
     ensures looked { IfOk result (λ labelled. map (λ e. e.looked) labelled.items
         ≡ reverse (range_with_len 0 (length entries.now))) }
 {
+    let cuts = layout.label_lines;
     let mut labelled = Vec::with_capacity(alloc, entries.len())?;
     for i in (0..entries.len()).rev() {
         let given = &entries[i];
-        let label = drawn_label(alloc, dropped, layout, given)?;
+        let label = if cuts {
+            cut_label(alloc, layout, &shifted(given, dropped))?
+        } else {
+            whole_label(alloc, given)?
+        };
         labelled.push(PlacedEntry {
             entry: shifted(given, dropped),
             label,
@@ -57,27 +62,6 @@ fn shifted<'a>(entry: &LineAnnotation<'a>, dropped: usize) -> LineAnnotation<'a>
     shifted.start.display = entry.start.display.saturating_sub(dropped);
     shifted.end.display = entry.end.display.saturating_sub(dropped);
     shifted
-}
-
-/// The label of an entry, where this many columns of its line are dropped on the left: its text, or nothing.
-///
-/// # Errors
-///
-/// There is no memory for the text.
-fn drawn_label<'a>(
-    alloc: Global,
-    dropped: usize,
-    layout: Layout,
-    entry: &LineAnnotation<'a>,
-) -> Result<DrawnLabel<'a>, AllocError>
-    requires place { HasPlace entry.now }
-    ensures value { IfOk result (λ label. label ≡ spec.label_of_entry layout (shifted dropped entry.now)) }
-{
-    if layout.label_lines {
-        cut_label(alloc, layout, &shifted(entry, dropped))
-    } else {
-        whole_label(alloc, entry)
-    }
 }
 
 /// The label of an entry where labels have one piece.
