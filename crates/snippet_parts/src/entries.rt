@@ -12,12 +12,12 @@ pub struct LineAnnotation<'a> {
     pub start: Loc,
     /// Where it ends; on one line at least one column after its start.
     pub end: Loc,
-    /// How it is marked.
-    pub kind: AnnotationKind,
     /// What is said of it.
     pub label: Label<'a>,
     /// Which part of a span it stands for.
     pub annotation_type: LineAnnotationType,
+    /// How it is marked.
+    pub kind: AnnotationKind,
     /// Whether the source itself is coloured as the mark is.
     pub highlight_source: bool,
 }
