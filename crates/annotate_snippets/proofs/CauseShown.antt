@@ -2,7 +2,7 @@
 use Rattle.std.proofs.lemmas.Grind.{common_steps}
 use Rattle.annotate_snippets.proofs.Common.{◌≡◌, ℕ, ◌+◌, ◌≤◌, ◌==◌, ◌&&◌, Bool, true, false, cond, Option, None, Some, List, []}
 use Rattle.annotate_snippets.proofs.Common.{◌∷◌, ◌++◌, drop, map, refl, sym, ap, subst, ◌∙◌, arith, Contains, list_any, IsSomeAnd}
-use Rattle.annotate_snippets.proofs.Common.{cow_str_bytes, All-append, All-cons, All-head, All-map, All-nil, All-tail, Annotation, Snippet, Cause, row_at, Cell}
+use Rattle.annotate_snippets.proofs.Common.{cow_str_bytes, IsUtf8, All-append, All-cons, All-head, All-map, All-nil, All-tail, Annotation, Snippet, Cause, row_at, Cell}
 use Rattle.annotate_snippets.proofs.Common.{IsSpan, KeptLine, annotated_lines, is_long, shown_lines, is_marking, first_line, last_line, IsLocation}
 use Rattle.annotate_snippets.proofs.Common.{primary_place, IsFree, Location, primary_place-location, HasBarRoom, LineView, CanBeShown, infos_free, origin_row}
 use Rattle.annotate_snippets.proofs.Common.{primary_start, snippet_head, OriginLayout, OriginLocation, origin_row-text, snippet_head-free, closing_row-free}
@@ -12,7 +12,6 @@ use Rattle.annotate_snippets.proofs.Common.{NamedRow, cells_of, lines_named, oth
 use Rattle.annotate_snippets.proofs.Common.{place_named, NamesLocation, HasNoFeed, closing_row, separator_row}
 use Rattle.std.specs.List.{All}
 use Rattle.annotate_snippets.proofs.PageWords.{snippet_rows}
-use Rattle.annotate_snippets.proofs.AreTexts.{IsTextCause}
 use Rattle.annotate_snippets.proofs.Ascending.{IsAscending, ascends}
 use Rattle.annotate_snippets.proofs.ElementShown.{ElementShown}
 use Rattle.annotate_snippets.proofs.InfoLines.{bounds_ordered, info_at, infos_seen, lines_ready}
@@ -108,7 +107,7 @@ snippet_cells r layout around s = grind (arith, cells_of-append, cells_of-others
 
 -- the rows of a snippet show it
 pub cause_shown : (r : Renderer) (layout : Layout) (around : ElementContext) (found : List Cell) (s : Snippet Annotation) → IsDrawable s
-    → HasRoomFor r layout (Cause s) → IsTextCause s → ElementShown r layout around found (Cause s)
+    → HasRoomFor r layout (Cause s) → IsUtf8 (cow_str_bytes s.source.text) → ElementShown r layout around found (Cause s)
 cause_shown r layout around found s drawable room texts =
     let src = numbered_source s in
     let closes : Bool = closes_with around in
@@ -145,7 +144,7 @@ cause_shown r layout around found s drawable room texts =
       };
       free = free_named (snippet_rows r layout around s) (subst (All IsFree) (sym cells) all_free);
       one_line = λ plain.
-          let own : All HasNoFeed lines = lines_one_line r layout closes s after named.are named.drawn named.begins texts.utf8
+          let own : All HasNoFeed lines = lines_one_line r layout closes s after named.are named.drawn named.begins texts
           (whole_labels layout.label_lines s.markers.items plain.1) in
           let below : All HasNoFeed (lines ++ tail) = All-append HasNoFeed lines tail own (after_one_line r layout around) in
           subst (All HasNoFeed) (sym cells) (All-append HasNoFeed head (lines ++ tail) (head_one_line r layout around s plain.0) below);

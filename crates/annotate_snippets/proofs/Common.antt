@@ -152,7 +152,7 @@ pub use Rattle.snippet_model.specs.declared.snippet.Title.{Title}
 pub use Rattle.snippet_parts.proofs.AmongLemmas.{any_cases, map_cases, Among, among_filter, among_in_order, among_map, any_among, filter_cases, in_order_cases}
 pub use Rattle.snippet_parts.proofs.AmongLemmas.{among_left, among_right, append_cases, among_filter_map}
 pub use Rattle.snippet_parts.proofs.CountedWords.{reached_source}
-pub use Rattle.snippet_parts.proofs.EntryFacts.{places-fit, depths-fit, each-line, labels-fit, texts-fit, untouched-parts, wide-count, singles-on, label-texts}
+pub use Rattle.snippet_parts.proofs.EntryFacts.{places-fit, depths-fit, each-line, labels-fit, texts-fit, untouched-parts, wide-count, singles-on}
 pub use Rattle.snippet_parts.proofs.EntryFacts.{depth-within, characters-fit}
 pub use Rattle.snippet_parts.proofs.KeptPartLemmas.{none-unkept, lines_ordered}
 pub use Rattle.snippet_parts.proofs.LineCounts.{length-in_order, parts_on-few}
@@ -174,7 +174,6 @@ pub use Rattle.snippet_parts.specs.Depths.{depth_among, places_of, same_place, s
 pub use Rattle.snippet_parts.specs.Entries.{Ascends, is_wide_entry, is_bar, is_single_part}
 pub use Rattle.snippet_parts.specs.EntryBounds.{HasColumnRoom, HasDepthWithin, AllEntries}
 pub use Rattle.snippet_parts.specs.Kept.{shown_lines, kept_lines, keeps, with_between}
-pub use Rattle.snippet_parts.specs.Located.{HasTextLabel}
 pub use Rattle.snippet_parts.specs.Location.{IsLocation, primary_place, start_at}
 pub use Rattle.snippet_parts.specs.LongSpans.{bar_lines}
 pub use Rattle.snippet_parts.specs.Mark.{is_marking, touches, is_single_line, is_marked_on, end_column, start_column, is_wide, qualifies_for_marks, span_width}

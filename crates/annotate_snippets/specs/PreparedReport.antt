@@ -12,7 +12,6 @@ use Rattle.snippet_lines.specs.Lines.{source_lines}
 use Rattle.snippet_lines.specs.IsSpan.{IsSpan}
 use Rattle.snippet_parts.specs.Annotated.{annotated_lines, deepest}
 use Rattle.snippet_parts.specs.OnLine.{seen_kept}
-use Rattle.snippet_parts.specs.Located.{HasTextLabel}
 use Rattle.snippet_suggest.specs.PreparedSuggestion.{IsPrepared, IsSuggestible}
 use Rattle.annotate_snippets.specs.declared.renderer.preprocess.PreparedCause.{PreparedCause}
 use Rattle.annotate_snippets.specs.declared.renderer.preprocess.PreparedElement.{PreparedElement}
@@ -51,11 +50,10 @@ element_of (Origin origin) = element.Origin origin.now
 element_of (Padding padding) = element.Padding padding.now
 
 -- what was prepared of an annotated snippet is its own: the lines of its source, those that are kept, and the depth of its spans. Its
--- source and its labels are UTF-8, as each `str` is
+-- source is UTF-8, as each `str` is
 pub record IsCausePrepared (c : PreparedCause) : Type 0 where
   pub drawable : IsDrawable c.snippet.now
   pub utf8 : IsUtf8 (cow_str_bytes c.snippet.now.source.text)
-  pub labels : All HasTextLabel c.snippet.now.markers.items
   pub few : IsCount (length c.snippet.now.markers.items)
   pub map_is : c.map ≡ numbered_source c.snippet.now
   pub kept_are : map seen_kept c.kept.items ≡ annotated_lines c.snippet.now.fold (numbered_source c.snippet.now) c.snippet.now.markers.items

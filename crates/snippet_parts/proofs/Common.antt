@@ -39,7 +39,7 @@ pub use Rattle.snippet_parts.specs.Least.{least, greatest}
 pub use Rattle.snippet_parts.specs.LinePlaces.{IsLinePlace}
 pub use Rattle.snippet_parts.specs.LineStretches.{is_seen, is_held, holds_line}
 pub use Rattle.snippet_parts.specs.LineTable.{entry_at, table_entry, IsLineTable, LineEntry}
-pub use Rattle.snippet_parts.specs.Located.{IsLocated, annotations_of, is_long_span, is_short_span, short_part, span_entry, HasTextLabel, AreBars, is_alone_on}
+pub use Rattle.snippet_parts.specs.Located.{IsLocated, annotations_of, is_long_span, is_short_span, short_part, span_entry, AreBars, is_alone_on}
 pub use Rattle.snippet_parts.specs.Location.{primary_place, secondary_place, least_place, start_at, IsLocation}
 pub use Rattle.snippet_parts.specs.LongSpans.{seen_long, HasFit, bar_lines}
 pub use Rattle.snippet_parts.specs.MapStarts.{starts_of}

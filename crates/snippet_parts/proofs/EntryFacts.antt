@@ -7,7 +7,7 @@ use Rattle.snippet_parts.proofs.Common.{All-head, All-tail, All-same, All-weaker
 use Rattle.snippet_parts.proofs.Common.{sum_by-cons, sum_by-append, Annotation, AnnotationKind, AnnotationFits, LineAnnotation, LongExtent, AnnotatedLineInfo}
 use Rattle.snippet_parts.proofs.Common.{KeptLine, kept_line, is_long, long_entry, long_place, long_spans, long_parts, depth_of, deepest, single_part}
 use Rattle.snippet_parts.proofs.Common.{made_parts, parts_on, bar_lines, same_place, depth_among, greatest_depth, AllEntries, HasCharacterRoom, HasColumnRoom}
-use Rattle.snippet_parts.proofs.Common.{HasShortLabel, HasDepthWithin, seen_kept, is_untouched, Source, HasTextLabel, is_marking, is_single_line, touches}
+use Rattle.snippet_parts.proofs.Common.{HasShortLabel, HasDepthWithin, seen_kept, is_untouched, Source, is_marking, is_single_line, touches}
 use Rattle.snippet_parts.proofs.Common.{is_marked_on, is_wide, first_line, last_line, is_single_part, is_wide_entry, IsSpan, length-text_at-source}
 use Rattle.snippet_model.specs.Fits.{TextFits}
 use Rattle.snippet_parts.proofs.DepthLemmas.{depths-within}
@@ -120,26 +120,6 @@ labels-fit s marks ks infos same fit =
     mapped a among = of-mark cow_str_bytes a.label (All-contains AnnotationFits marks a fit among)
 
     long : (a : Annotation) → Contains marks a → (kind : AnnotationKind) → HoldsOfSpan Short s (depth_of s marks a) (record (long_entry s a) { kind = kind })
-    long a among kind = record { start = tt; bars = λ k d within. tt; end = mapped a among; again = mapped a among }
-
--- the labels of the entries of a line are UTF-8, where those of the annotations are
-pub label-texts : (s : Source) (marks : List Annotation) (k : ℕ) → All HasTextLabel marks
-    → All (λ p. IfSome p.label IsUtf8) (parts_on s marks k)
-label-texts s marks k texts =
-    All-filter (λ (p : LineAnnotation). eqb p.start.line (s.first + k)) IsText (made_parts s marks)
-    (made-all IsText s marks (λ a among is. mapped a among) (λ a among is kind. long a among kind))
-  where
-    IsText : LineAnnotation → Type 0
-    IsText p = IfSome p.label IsUtf8
-
-    of-mark : {X : Type 0} (f : X → List ℕ) (label : Option X) → IfSome label (λ t. IsUtf8 (f t)) → IfSome (option_map f label) IsUtf8
-    of-mark f None text = tt
-    of-mark f (Some t) text = text
-
-    mapped : (a : Annotation) → Contains marks a → IfSome (option_map cow_str_bytes a.label) IsUtf8
-    mapped a among = of-mark cow_str_bytes a.label (All-contains HasTextLabel marks a texts among)
-
-    long : (a : Annotation) → Contains marks a → (kind : AnnotationKind) → HoldsOfSpan IsText s (depth_of s marks a) (record (long_entry s a) { kind = kind })
     long a among kind = record { start = tt; bars = λ k d within. tt; end = mapped a among; again = mapped a among }
 
 -- ---- depths

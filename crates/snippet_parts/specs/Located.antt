@@ -1,9 +1,8 @@
 -- Spans, each with its place in a source.
-use Rattle.std.specs.Prelude.{◌≡◌, ℕ, ◌+◌, ◌-◌, ◌<◌, ◌≤◌, ◌==◌, ◌&&◌, nat_le, nat_lt, max, min, Bool, IfSome, true, not, List, map}
+use Rattle.std.specs.Prelude.{◌≡◌, ℕ, ◌+◌, ◌-◌, ◌<◌, ◌≤◌, ◌==◌, ◌&&◌, nat_le, nat_lt, max, min, Bool, true, not, List, map}
 use Rattle.std.specs.List.{list_any, range_with_len}
 use Rattle.std.specs.Option.{option_map}
 use Rattle.std.specs.Cow.{cow_str_bytes}
-use Rattle.std.specs.Str.{IsUtf8}
 use Rattle.snippet_model.specs.declared.snippet.Annotation.{Annotation}
 use Rattle.snippet_parts.specs.declared.entries.LineAnnotation.{LineAnnotation}
 use Rattle.snippet_parts.specs.declared.bars.Bars.{Bars}
@@ -50,10 +49,6 @@ pub record IsLocated (s : Source) (l : LocatedSpan) : Type 0 where
   pub end_display : IsSourceEnd l.end.display
   pub start_char : IsOffset l.start.char
   pub bars : is_long_span l ≡ true → AreBars s.text l.first l.last l.bars
-
--- the label of an annotation, if it has one, is UTF-8, as each `str` is
-abbrev pub HasTextLabel : Annotation → Type 0
-HasTextLabel a = IfSome a.label (λ t. IsUtf8 (cow_str_bytes t))
 
 -- the annotations of such spans
 abbrev pub annotations_of : List LocatedSpan → List Annotation

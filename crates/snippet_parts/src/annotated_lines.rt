@@ -9,7 +9,7 @@ ghost use Rattle.snippet_parts.specs.declared.entries.LineAnnotation.{LineAnnota
 ghost use Rattle.snippet_parts.specs.KeptEntries.{line_with};
 ghost use Rattle.snippet_lines.specs.Lines.{source_lines, text_at};
 ghost use Rattle.snippet_lines.specs.IsSpan.{IsSpan};
-ghost use Rattle.snippet_parts.specs.Located.{HasTextLabel, IsLocated, annotations_of};
+ghost use Rattle.snippet_parts.specs.Located.{IsLocated, annotations_of};
 
 use crate::entries::{AnnotatedLineInfo, LineAnnotation};
 use crate::kept::{is_among, kept_lines, seen_lines};
@@ -33,7 +33,6 @@ pub(crate) fn annotated_lines<'a>(
     ensures deepest { IfOk result (λ drawn. drawn.0 ≡ spec.deepest source.now annotations.now) }
     ensures lines { IfOk result (λ drawn. map seen_kept drawn.1.items
         ≡ spec.annotated_lines fold source.now annotations.now) }
-    ensures labels { IfOk result (λ drawn. All HasTextLabel annotations.now) }
 {
     // Most snippets have one span or two, whose places need no list.
     let mut known = None;

@@ -1,11 +1,9 @@
 //! Spans, each with its place in a source, which is looked for once.
 ghost use Rattle.std.specs.Prelude.{◌≡◌, ◌<◌, ◌≤◌, All, IfOk, IfSome, length, true};
-ghost use Rattle.std.specs.Cow.{cow_str_bytes};
-ghost use Rattle.std.specs.Str.{IsUtf8};
 ghost use Rattle.snippet_lines.specs.Lines.{source_lines};
 ghost use Rattle.snippet_lines.specs.IsSpan.{IsSpan};
 ghost use Rattle.snippet_parts.specs.LinePlaces.{IsLinePlace};
-ghost use Rattle.snippet_parts.specs.Located.{AreBars, HasTextLabel, IsLocated, annotations_of};
+ghost use Rattle.snippet_parts.specs.Located.{AreBars, IsLocated, annotations_of};
 ghost use Rattle.snippet_parts.specs.Mark as mark;
 
 use crate::bars::{Bars, bars_between};
@@ -15,7 +13,6 @@ use crate::source_map::SourceMap;
 use snippet_lines::place::Loc;
 use snippet_model::snippet::{Annotation, AnnotationKind};
 use std::alloc::{AllocError, Global};
-use std::borrow::CowStr;
 
 /// A span, and where it stands.
 #[derive(Clone, Copy, Debug)]
@@ -42,7 +39,6 @@ pub(crate) fn located_spans<'a>(
     requires spans { All (λ a. IsSpan source.now.text a.span.start a.span.end) annotations.now }
     ensures annotations { IfOk result (λ located. annotations_of located.items ≡ annotations.now) }
     ensures located { IfOk result (λ located. All (IsLocated source.now) located.items) }
-    ensures labels { IfOk result (λ located. All HasTextLabel annotations.now) }
 {
     let mut located = Vec::with_capacity(alloc, annotations.len())?;
     let mut known = None;
@@ -63,9 +59,7 @@ pub(crate) fn located_span<'a>(
     ensures known { IfSome known.new (IsLinePlace source.now) }
     ensures annotation { result.annotation.now ≡ annotation.now }
     ensures located { IsLocated source.now result }
-    ensures label { HasTextLabel annotation.now }
 {
-    reveal_text(&annotation.label);
     let (start, end) = locations_near(source, known, annotation.span.start..annotation.span.end);
     let first = start.line - source.line_start();
     let last = end.line - source.line_start();
@@ -76,15 +70,6 @@ pub(crate) fn located_span<'a>(
         start,
         end,
         bars: span_bars(source, annotation.kind, first, last),
-    }
-}
-
-/// For the prover alone: a label is a text, so its bytes are those of its characters.
-fn reveal_text(label: &Option<CowStr<'_>>)
-    ensures utf8 { IfSome label.now (λ t. IsUtf8 (cow_str_bytes t)) }
-{
-    if let Some(label) = label {
-        let _text = label.as_str();
     }
 }
 

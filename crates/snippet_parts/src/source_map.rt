@@ -15,7 +15,6 @@ ghost use Rattle.snippet_parts.specs.Depths.{places_of, share_line};
 ghost use Rattle.snippet_parts.specs.Chains.{IsLongestChain};
 ghost use Rattle.snippet_parts.specs.Entries.{Ascends};
 ghost use Rattle.snippet_parts.specs.Marked.{first_line, last_line};
-ghost use Rattle.snippet_parts.specs.Located.{HasTextLabel};
 ghost use Rattle.snippet_parts.specs.OnLine.{numbers_of_lines, AreEntriesOn, seen_kept};
 ghost use Rattle.snippet_parts.specs.LineStretches.{is_seen};
 ghost use Rattle.snippet_model.specs.declared.snippet.Annotation.{Annotation};
@@ -282,8 +281,6 @@ impl<'a> SourceMap<'a> {
         ensures entries { IfOk result (λ drawn. All (λ info. AreEntriesOn self.now annotations.now
             (info.line_index - self.now.first) info.annotations.items) drawn.1.items) }
         ensures deepest { IfOk result (λ drawn. drawn.0 ≡ spec.deepest self.now annotations.now) }
-        // Each label is a text.
-        ensures labels { IfOk result (λ drawn. All HasTextLabel annotations.now) }
         // The greatest depth is the length of a longest list of places, each of which shares a line with the next.
         ensures longest { IfOk result (λ drawn. IsLongestChain
             (places_of (map spec.long_place (spec.long_spans self.now annotations.now))) drawn.0) }

@@ -61,7 +61,6 @@ returns c =
     record {
       known = c.locations_near.ensures.known;
       annotation = refl;
-      label = c.reveal_text.ensures.utf8;
       located = record {
         span = c.requires.span;
         first = first_is;

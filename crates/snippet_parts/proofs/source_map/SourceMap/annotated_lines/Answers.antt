@@ -21,7 +21,6 @@ returns c =
       keep = IfOk-weaker drawn _ _ (λ d lines. lines-kept c.args.fold s marks d.1.items lines) are.lines;
       entries = IfOk-weaker drawn _ _ (λ d lines. lines-entries c.args.fold s marks d.1.items lines c.requires.spans) are.lines;
       deepest = are.deepest;
-      labels = are.labels;
       longest = IfOk-weaker drawn _ _ (λ d is. subst (IsLongestChain places) (sym is) (longest-chain places)) are.deepest;
       distinct = annotations-distinct s marks;
     }
