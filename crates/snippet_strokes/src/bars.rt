@@ -17,6 +17,9 @@ use snippet_parts::{LineAnnotation, LineAnnotationType};
 use snippet_style::DecorStyle;
 use std::alloc::AllocError;
 
+/// For how many bars a list has room at first. A longer one grows from there.
+const BAR_ROOM: usize = 16;
+
 /// A bar that an entry of a line opens or closes.
 #[derive(Clone, Copy, Debug)]
 pub(crate) struct OpenBar {
@@ -111,7 +114,10 @@ pub(crate) fn bars_apart(
 {
     let mut apart = room;
     apart.clear();
-    apart.reserve(bars.len().saturating_add(others.len()))?;
+    let most = bars.len().saturating_add(others.len());
+    if most > 0 {
+        apart.reserve(most.max(BAR_ROOM))?;
+    }
     add_bars_apart(&mut apart, bars, others)?;
     Ok(apart)
 }
