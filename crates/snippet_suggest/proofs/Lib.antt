@@ -4,6 +4,7 @@ pub mod BareLemmas
 pub mod BodyLaws
 pub mod ByKind
 pub mod CellExamples
+pub mod CutLabels
 pub mod Examples
 pub mod GlyphLemmas
 pub mod GutterFits
