@@ -1,11 +1,10 @@
 -- A row of cells that is added to a grid, as runs.
-use Rattle.snippet_grid.proofs.Common.{◌≡◌, ℕ, ◌+◌, ◌-◌, ◌<◌, ◌≤◌, List, [], ◌∷◌, ◌++◌, length, map, take, drop, get_or}
-use Rattle.snippet_grid.proofs.Common.{refl, sym, ap, ◌∙◌, arith, inl, inr, subst, All, range_with_len, cases_eq, cases_lt, append-nil, append_assoc}
-use Rattle.snippet_grid.proofs.Common.{drop_all, ext_get_or, get_or-drop, get_or-map, get_or-take, get_or_append_left, get_or_default, get_or_past, get_or_push}
-use Rattle.snippet_grid.proofs.Common.{length-drop, length-map, length-take, length_push, same_lists, take_all, All-append, All-nil, All-push}
-use Rattle.snippet_grid.proofs.Common.{get_or-map-range_with_len, length-map-range_with_len, AddsRow, AddsStretch, RowAt, row_at, BeginsWith, Differ, EndsBy}
-use Rattle.snippet_grid.proofs.Common.{FitIn, IsGrid, IsRow, IsRun, cells_to, grid_shown, run_cell, shown_cell, cell_of, ch_of, Run, StyledChar, Cell, SPACE}
-use Rattle.snippet_grid.proofs.Common.{MainHeaderMsg}
+use Rattle.snippet_grid.proofs.Common.{common_steps, ◌≡◌, ℕ, ◌+◌, ◌-◌, ◌<◌, ◌≤◌, List, [], ◌∷◌, ◌++◌, length, map, take, drop, get_or, refl, sym, ap, ◌∙◌}
+use Rattle.snippet_grid.proofs.Common.{arith, inl, inr, All, range_with_len, cases_eq, cases_lt, append_assoc, drop_all, ext_get_or, get_or-drop, get_or-map}
+use Rattle.snippet_grid.proofs.Common.{get_or-take, get_or_append_left, get_or_default, get_or_past, get_or_push, length-drop, length-map, length-take}
+use Rattle.snippet_grid.proofs.Common.{length_push, same_lists, All-append, All-nil, All-push, get_or-map-range_with_len, length-map-range_with_len, AddsRow}
+use Rattle.snippet_grid.proofs.Common.{AddsStretch, RowAt, row_at, BeginsWith, Differ, EndsBy, FitIn, IsGrid, IsRow, IsRun, cells_to, grid_shown, run_cell}
+use Rattle.snippet_grid.proofs.Common.{shown_cell, cell_of, ch_of, Run, StyledChar, Cell, SPACE, MainHeaderMsg}
 use Rattle.snippet_grid.proofs.CopyLemmas.{shown_past}
 use Rattle.snippet_grid.proofs.ReplacedRow.{IsExchanged, IsGrid-put, put_elsewhere}
 use Rattle.snippet_grid.proofs.GridShown.{count_shown, row_shown, same_row}
@@ -31,21 +30,7 @@ pub record RowSoFar (text : List ℕ) (row : ℕ) (cells : List StyledChar) (old
 
 -- at first there is none
 pub so_far_none : (text : List ℕ) (row : ℕ) (cells : List StyledChar) (old new : List Run) → new ≡ old → RowSoFar text row cells old new 0
-so_far_none text row cells old new same =
-    record {
-      within = omega arith;
-      added = [];
-      is = same ∙ sym (append-nil old);
-      is_row = record {
-        are_runs = All-nil (λ run. IsRun text run);
-        in_row = All-nil (λ run. run.row ≡ row);
-        ordered = λ a b d below within. absurd (omega (arith, within));
-        apart = λ a b d below within. absurd (omega (arith, within));
-      };
-      ends = All-nil (λ run. run.cell + run.count ≤ 0);
-      shows = λ c d below. absurd (omega (arith, below));
-      stops = λ k d within. absurd (omega (arith, within));
-    }
+so_far_none text row cells old new same = grind (arith, common_steps, All-nil)
 
 -- a blank needs none
 pub so_far_blank : (text : List ℕ) (row : ℕ) (cells : List StyledChar) (old new : List Run) (n : ℕ) (first : StyledChar) → n < length cells
@@ -136,37 +121,16 @@ module _ (old_text text : List ℕ) (runs now : List Run) (widths : List ℕ) (r
   wider = widths ++ length cells ∷ []
 
   above : (k : ℕ) (d : Run) → k < length runs → (get_or runs k d).row < row
-  above k d within = elim (cases_lt (get_or runs k d).row (length widths)) [
-    | inl low ↦ omega (arith, low, here)
-    | inr past ↦ absurd (omega (arith, grid.inside k d within, get_or_past widths (get_or runs k d).row 0 past, (grid.are_runs k d within).some))
-  ]
+  above k d within = grind (arith, common_steps, get_or_past)
 
   at_end : RowAt runs row (length runs) (length runs)
-  at_end =
-      record {
-        ordered = omega arith;
-        within = omega arith;
-        above = above;
-        inside = λ k d low high. absurd (omega (arith, low, high));
-        below = λ k d low high. absurd (omega (arith, low, high));
-      }
+  at_end = grind (arith, common_steps, above)
 
   in_place : now ≡ take (length runs) runs ++ adds.added ++ drop (length runs) runs
-  in_place = adds.is ∙ ap (λ rs. rs ++ adds.added) (sym (take_all (length runs) runs (omega arith)))
-      ∙ sym (append-nil (take (length runs) runs ++ adds.added))
-      ∙ ap (λ rs. take (length runs) runs ++ adds.added ++ rs) (sym (drop_all (length runs) runs (omega arith)))
+  in_place = grind (arith, common_steps, drop_all)
 
   put : IsExchanged old_text text runs now adds.added row (length runs) (length runs)
-  put =
-      record {
-        at = at_end;
-        grows = grows;
-        are_runs = grid.are_runs;
-        ordered = grid.ordered;
-        apart = grid.apart;
-        is_row = adds.is_row;
-        is = in_place;
-      }
+  put = grind (arith, common_steps, at_end, in_place)
 
   width_same : (r : ℕ) → r < length widths → get_or wider r 0 ≡ get_or widths r 0
   width_same r within = get_or_append_left widths (length cells ∷ []) 0 r within
@@ -175,9 +139,7 @@ module _ (old_text text : List ℕ) (runs now : List Run) (widths : List ℕ) (r
   width_here = get_or_push widths (length cells) 0 row (sym here)
 
   fits : FitIn wider now
-  fits = subst (FitIn wider) (sym adds.is) (All-append (λ run. run.cell + run.count ≤ get_or wider run.row 0) runs adds.added
-      (λ k d within. omega (arith, grid.inside k d within, width_same (get_or runs k d).row (omega (arith, above k d within, here))))
-      (λ k d within. omega (arith, adds.ends k d within, ap (λ r. get_or wider r 0) (adds.is_row.in_row k d within), width_here)))
+  fits = grind (arith, common_steps, All-append, width_same, above, width_here)
 
   pub grid_added : IsGrid text now wider
   grid_added = IsGrid-put old_text text runs now adds.added widths wider row (length runs) (length runs) put fits

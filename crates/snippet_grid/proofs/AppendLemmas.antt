@@ -1,15 +1,12 @@
 -- What a grid becomes where cells are added after those of a row.
-use Rattle.snippet_grid.proofs.Common.{◌≡◌, ◌≢◌, ℕ, ◌+◌, ◌-◌, ◌<◌, ◌≤◌, max, map, set, List, [], ◌∷◌, ◌++◌, length, take, drop, replicate}
-use Rattle.snippet_grid.proofs.Common.{get_or, refl, sym, ap, ◌∙◌, arith, inl, inr, chars-nil, encodes-chars, cases_eq, cases_lt, append-nil}
-use Rattle.snippet_grid.proofs.Common.{append_assoc, get_or_past, get_or-set_same, get_or-set_other, set-get_or, length-append, length-drop, length-set}
-use Rattle.snippet_grid.proofs.Common.{places, same_lists, take_all, linked, row_at, cells_written, changed_within, Cell, SPACE, text_cells}
-use Rattle.snippet_grid.proofs.Common.{written, ElementStyle, slice_index_or-written_inside, length-written, written_end, AddsToRow, GridRow, appended}
-use Rattle.std.specs.Str.{chars}
-use Rattle.std.specs.Str.{IsUtf8}
+use Rattle.snippet_grid.proofs.Common.{common_steps, ◌≡◌, ◌≢◌, ℕ, ◌+◌, ◌-◌, ◌<◌, ◌≤◌, map, set, List, [], ◌∷◌, ◌++◌, length, take, drop, replicate, get_or}
+use Rattle.snippet_grid.proofs.Common.{refl, sym, ap, ◌∙◌, arith, inl, inr, chars-nil, encodes-chars, cases_eq, cases_lt, append-nil, append_assoc, get_or_past}
+use Rattle.snippet_grid.proofs.Common.{get_or-set_same, get_or-set_other, set-get_or, length-set, places, same_lists, linked, row_at, cells_written}
+use Rattle.snippet_grid.proofs.Common.{changed_within, Cell, SPACE, text_cells, written, ElementStyle, slice_index_or-written_inside, length-written}
+use Rattle.snippet_grid.proofs.Common.{written_end, AddsToRow, GridRow, appended}
+use Rattle.std.specs.Str.{chars, IsUtf8}
 use Rattle.std.proofs.Math.Utf8.{encodes}
 use Rattle.snippet_grid.specs.Calls.{cells_linked}
-use Rattle.std.proofs.Math.ListN.{drop_of_length-le}
-use Rattle.std.proofs.Math.Seq.{drop-append_seam, take-append_seam}
 use Rattle.snippet_grid.proofs.ReplaceLemmas.{changed_within_none, changed_within_one}
 
 -- a text, by its characters, after a row's cells
@@ -68,16 +65,10 @@ appended-appended rows row (x ∷ xs) (y ∷ ys) =
 changed_to_end : {X : Type 0} (f : X → X) (start end : ℕ) (xs : List X) → start ≤ end → length xs ≤ end
     → changed_within f start end xs ≡ take start xs ++ map f (drop start xs)
 unfolding changed_within
-changed_to_end f start end xs before within =
-    let part : take (end - start) (drop start xs) ≡ drop start xs = take_all (end - start) (drop start xs) (omega (arith, length-drop start xs)) in
-    let rest : drop (max start end) xs ≡ [] = drop_of_length-le xs (omega arith) in
-    ap (λ ys. take start xs ++ map f ys ++ drop (max start end) xs) part ∙ ap (λ zs. take start xs ++ map f (drop start xs) ++ zs) rest
-    ∙ append-nil (take start xs ++ map f (drop start xs))
+changed_to_end f start end xs before within = grind (arith, common_steps)
 
 changed_after : {X : Type 0} (f : X → X) (end : ℕ) (xs ys : List X) → length xs + length ys ≤ end → changed_within f (length xs) end (xs ++ ys) ≡ xs ++ map f ys
-changed_after f end xs ys within =
-    changed_to_end f (length xs) end (xs ++ ys) (omega (arith, within)) (omega (arith, within, length-append xs ys))
-    ∙ ap (λ zs. zs ++ map f (drop (length xs) (xs ++ ys))) (take-append_seam xs ys) ∙ ap (λ zs. xs ++ map f zs) (drop-append_seam xs ys)
+changed_after f end xs ys within = grind (arith, common_steps, changed_to_end)
 
 -- the rows beside the one that was put in its place
 placed-other : (rows : List (List Cell)) (row : ℕ) (r s : List Cell) (k : ℕ) (d : List Cell) → k ≢ row
@@ -128,11 +119,7 @@ written_past blank xs new at past =
 -- cells that are written past a row's end stand after it and spaces
 pub written-appended : (rows : List (List Cell)) (row at : ℕ) (cells : List Cell) → length (row_at rows row) ≤ at → 0 < length cells
     → cells_written rows row at cells ≡ appended rows row (replicate (at - length (row_at rows row)) SPACE ++ cells)
-written-appended rows row at cells past some =
-    let r : List Cell = row_at rows row in
-    let gap : List Cell = replicate (at - length r) SPACE in
-    ap (λ (new : List Cell). written [] rows row (new ∷ [])) (written_past SPACE r cells at past ∙ append_assoc r gap cells)
-    ∙ sym (appended-is rows row (gap ++ cells) (omega (arith, some, length-append gap cells)))
+written-appended rows row at cells past some = grind (arith, common_steps, written_past, appended-is)
 
 -- a space after spaces
 replicate-more : (count : ℕ) → 0 < count → replicate (count - 1) SPACE ++ SPACE ∷ [] ≡ replicate count SPACE
@@ -141,24 +128,13 @@ replicate-more count some = same_lists _ _ (grind (arith, places)) (λ k d h. gr
 -- spaces up to a cell
 pub spaces_added : (old new : List (List Cell)) (row end count : ℕ) → end ≡ length (row_at old row) → 0 < count
     → new ≡ cells_written old row (end + count - 1) (SPACE ∷ []) → new ≡ appended old row (replicate count SPACE)
-spaces_added old new row end count size some is =
-    let gap : end + count - 1 - length (row_at old row) ≡ count - 1 = omega (arith, size, some) in
-    is ∙ written-appended old row (end + count - 1) (SPACE ∷ []) (omega (arith, size, some)) (omega arith)
-    ∙ ap (λ n. appended old row (replicate n SPACE ++ SPACE ∷ [])) gap ∙ ap (appended old row) (replicate-more count some)
+spaces_added old new row end count size some is = grind (arith, common_steps, size, some, is, written-appended, replicate-more count some)
 
 -- a row below all others
 pub appended-below : (rows : List (List Cell)) (cells : List Cell) → 0 < length cells → appended rows (length rows) cells ≡ rows ++ cells ∷ []
-appended-below rows cells some =
-    let none : row_at rows (length rows) ≡ [] = get_or_past rows (length rows) [] (omega arith) in
-    appended-is rows (length rows) cells some ∙ ap (λ (r : List Cell). written [] rows (length rows) ((r ++ cells) ∷ [])) none
-    ∙ written_end [] rows (cells ∷ [])
+appended-below rows cells some = grind (arith, common_steps, get_or_past, appended-is, written_end)
 
 -- cells more in a row of a grid
 pub row_more : (start old new : GridRow) (cells more : List Cell) → new.number ≡ old.number → new.grid ≡ appended old.grid old.number more
     → AddsToRow start old cells → AddsToRow start new (cells ++ more)
-row_more start old new cells more same is adds =
-    record {
-      number = same ∙ adds.number;
-      grid = is ∙ ap (λ n. appended old.grid n more) adds.number ∙ ap (λ rows. appended rows start.number more) adds.grid
-          ∙ appended-appended start.grid start.number cells more;
-    }
+row_more start old new cells more same is adds = grind (arith, common_steps, adds.number, old.grid, start.number, adds.grid, appended-appended, start.grid)

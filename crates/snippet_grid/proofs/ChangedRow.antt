@@ -1,7 +1,7 @@
 -- A row whose cells are changed part by part.
-use Rattle.snippet_grid.proofs.Common.{◌≡◌, ◌≢◌, ℕ, ◌*◌, ◌+◌, ◌-◌, ◌<◌, ◌≤◌, List, length, get_or, refl, sym, ap, ◌∙◌}
-use Rattle.snippet_grid.proofs.Common.{arith, inl, inr, All, cases_lt, cases_eq, changed_by, IsChanged, IsBlankRun, IsPartOfRow, ShowsSpan, Cell, SPACE, IsRun}
-use Rattle.snippet_grid.proofs.Common.{IsRow, IsPart, IsPut, BeginsWith, EndsBy, Precedes, run_cell, shown_cell, Change, Run}
+use Rattle.snippet_grid.proofs.Common.{common_steps, ◌≡◌, ◌≢◌, ℕ, ◌*◌, ◌+◌, ◌-◌, ◌<◌, ◌≤◌, List, length, get_or, refl, sym, ap, ◌∙◌, arith, inl, inr, All}
+use Rattle.snippet_grid.proofs.Common.{cases_lt, cases_eq, changed_by, IsChanged, IsBlankRun, IsPartOfRow, ShowsSpan, Cell, SPACE, IsRun, IsRow, IsPart, IsPut}
+use Rattle.snippet_grid.proofs.Common.{BeginsWith, EndsBy, Precedes, run_cell, shown_cell, Change, Run}
 use Rattle.snippet_grid.proofs.CopyLemmas.{piece_cell, within_yes, within_before, within_after, span_joined}
 use Rattle.snippet_grid.proofs.RowWoven.{painted_unheld, shown_cell-run}
 use Rattle.snippet_grid.proofs.ShownLemmas.{pick, painted-grown, holds_inside, holds_elsewhere, holds_before, holds-after}
@@ -126,9 +126,7 @@ change_next old now mid new runs_old runs_now runs_new part changed row from to 
 -- the other rows stay
 pub put_stays : (now mid new : List ℕ) (runs_now runs_new : List Run) (changed : Run) (r c : ℕ) → BeginsWith now mid → All (λ x. IsRun now x) runs_now
     → IsPut mid new runs_now runs_new changed → r ≢ changed.row → shown_cell new runs_new r c ≡ shown_cell now runs_now r c
-put_stays now mid new runs_now runs_new changed r c grows are put other =
-    put.shows r c ∙ pick (run_cell mid changed c) (shown_cell mid runs_now r c) (holds_elsewhere changed r c (λ same. other (sym same)))
-    ∙ painted-grown now mid r c SPACE runs_now grows are
+put_stays now mid new runs_now runs_new changed r c grows are put other = grind (arith, common_steps, put.shows, pick, holds_elsewhere, painted-grown)
 
 -- a part of a row, in a grid that shows the same row
 pub part_same : (text : List ℕ) (row from to : ℕ) (g h : ℕ → Cell) (part : Run) → ((c : ℕ) → g c ≡ h c) → IsPartOfRow text row from to g part

@@ -1,8 +1,7 @@
 -- Codes of which one more is made.
-use Rattle.snippet_grid.proofs.Common.{◌≡◌, ◌≢◌, ℕ, ◌<◌, arith, Bool, true, false, if◌then◌else◌, List, [], ◌∷◌, ◌++◌, Option, length, zero, suc}
-use Rattle.snippet_grid.proofs.Common.{get_or, refl, sym, ap, ◌∙◌, subst, encode_utf8_all, AllZip, IsCodeOf, StyleCode, Nothing, Usual, Other}
-use Rattle.snippet_grid.proofs.Common.{opening_bytes, style_at, styles_in}
-use Rattle.snippet_grid.proofs.Common.{code, color_code, effect_code, effect_codes, reset, is_plain_style, no_effects, plain_style, Color, Effects}
+use Rattle.snippet_grid.proofs.Common.{common_steps, ◌≡◌, ◌≢◌, ℕ, ◌<◌, arith, Bool, true, false, if◌then◌else◌, List, [], ◌∷◌, ◌++◌, Option, length, zero, suc}
+use Rattle.snippet_grid.proofs.Common.{get_or, refl, sym, ap, ◌∙◌, subst, encode_utf8_all, AllZip, IsCodeOf, StyleCode, Nothing, Usual, Other, opening_bytes}
+use Rattle.snippet_grid.proofs.Common.{style_at, styles_in, code, color_code, effect_code, reset, is_plain_style, no_effects, plain_style, Color, Effects}
 use Rattle.snippet_grid.proofs.Common.{encode-opening, reset-bytes, bold-alone, plain_is_plain, Style, Stylesheet}
 use Rattle.std.proofs.Common.{append-nil}
 use Rattle.std.specs.Prelude.{codes}
@@ -52,8 +51,4 @@ style_with bold fg = record plain_style { fg = fg; effects = bold_effects bold }
 -- the code of such a style is that of bold type and that of the colour
 pub usual_text : (s : Style) (text : List ℕ) → s ≡ style_with s.effects.bold s.fg
     → text ≡ effect_code s.effects.bold 1 ++ color_code 0 (codes "38") s.fg → text ≡ opening_bytes s
-usual_text s text same is =
-    let bold = bold_effects s.effects.bold in
-    let color : List ℕ = color_code 0 (codes "38") s.fg in
-    is ∙ ap (λ (l : List ℕ). l ++ color) (sym (bold-alone bold refl)) ∙ sym (append-nil (effect_codes bold ++ color))
-    ∙ sym (encode-opening (style_with s.effects.bold s.fg)) ∙ sym (ap opening_bytes same)
+usual_text s text same is = grind (arith, common_steps, s.effects.bold, s.fg, bold-alone, encode-opening)

@@ -69,6 +69,7 @@ pub use Rattle.std.proofs.Common.{◌/◌}
 pub use Rattle.std.proofs.Math.Nat.{div-lt_self}
 pub use Rattle.std.proofs.lemmas.Bool.{cases_lt, cases_eq, false≢true, and_parts, cases_Bool, lt-ltb, le-ltb, and_from, and_left, and_right, le-leb, lt-leb}
 pub use Rattle.std.proofs.lemmas.Bool.{eqb-true, true≢false, eq-eqb, ne_eqb, leb-true}
+pub use Rattle.std.proofs.lemmas.Grind.{common_steps}
 pub use Rattle.std.proofs.lemmas.Cmp.{nat_list_eq_equiv}
 pub use Rattle.std.proofs.lemmas.Grind.{flat_map-append}
 pub use Rattle.std.proofs.lemmas.Iterator.{YieldsList-from_chars}

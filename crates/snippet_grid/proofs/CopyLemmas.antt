@@ -1,10 +1,9 @@
 -- Runs that are copied, cut and moved.
-use Rattle.snippet_grid.proofs.Common.{◌≡◌, ℕ, ◌+◌, ◌-◌, ◌<◌, ◌≤◌, List, [], ◌∷◌, ◌++◌, length, take, drop, get_or, refl}
-use Rattle.snippet_grid.proofs.Common.{sym, ap, ◌∙◌, arith, Bool, true, false, inl, inr, subst, All, nat_lt, nat_le, min, max, take_more, get_or_default}
-use Rattle.snippet_grid.proofs.Common.{get_or-take, get_or-drop, cases_lt, cases_eq, and_from, and_left, and_right, le-leb, lt-leb, lt-ltb, le-ltb}
-use Rattle.snippet_grid.proofs.Common.{option_copied, num_touched, Cell, SPACE, IsRun, IsPart, BeginsWith, ShowsMore, ShowsCopy, AddsRun, IsRow, EndsBy}
-use Rattle.snippet_grid.proofs.Common.{Precedes, run_bytes, run_chars, run_cell, holds, painted_over, shown_cell, Run, ◌^◌, replicate, None}
-use Rattle.snippet_grid.proofs.Common.{length-replicate, get_or-replicate, get_or_past, chars-IsAscii, IsUtf8, IsBlankRun, is_within, ShowsSpan, NoStyle}
+use Rattle.snippet_grid.proofs.Common.{common_steps, ◌≡◌, ℕ, ◌+◌, ◌-◌, ◌<◌, ◌≤◌, List, [], ◌∷◌, ◌++◌, length, take, get_or, refl, sym, ap, ◌∙◌, arith, Bool}
+use Rattle.snippet_grid.proofs.Common.{true, false, inl, inr, subst, All, nat_lt, nat_le, min, max, take_more, get_or_default, cases_lt, cases_eq, and_from}
+use Rattle.snippet_grid.proofs.Common.{and_left, and_right, le-leb, lt-leb, lt-ltb, le-ltb, option_copied, num_touched, Cell, SPACE, IsRun, IsPart, BeginsWith}
+use Rattle.snippet_grid.proofs.Common.{ShowsMore, ShowsCopy, AddsRun, IsRow, EndsBy, Precedes, run_cell, holds, painted_over, shown_cell, Run, ◌^◌, replicate}
+use Rattle.snippet_grid.proofs.Common.{None, length-replicate, get_or-replicate, get_or_past, chars-IsAscii, IsUtf8, IsBlankRun, is_within, ShowsSpan, NoStyle}
 use Rattle.std.specs.Bool.{if◌then◌else◌}
 use Rattle.std.specs.Prelude.{◌&&◌}
 use Rattle.std.specs.Str.{chars}
@@ -42,9 +41,7 @@ num_touched-append from to (run ∷ xs) ys = omega (arith, num_touched-append fr
 -- one more run is touched, or not
 touched_more : (from to n : ℕ) (runs : List Run) (run : Run) → n < length runs → run ≡ get_or runs n run
     → num_touched from to (take (n + 1) runs) ≡ num_touched from to (take n runs) + num_touched from to (run ∷ [])
-touched_more from to n runs run within read =
-    ap (λ (xs : List Run). num_touched from to xs) (take_more runs n run within ∙ ap (λ (x : Run). take n runs ++ x ∷ []) (sym read))
-    ∙ num_touched-append from to (take n runs) (run ∷ [])
+touched_more from to n runs run within read = grind (arith, common_steps, take_more, num_touched-append)
 
 touched_one : (from to : ℕ) (run : Run) → max run.cell from < min (run.cell + run.count) to → num_touched from to (run ∷ []) ≡ 1
 touched_one from to run some = ap (λ k. k + 0) (pick 1 0 (lt-ltb (max run.cell from) (min (run.cell + run.count) to) some))
@@ -61,22 +58,7 @@ pub record CopySoFar (old now : List ℕ) (out_old out_now runs : List Run) (row
 
 -- before any run is copied the row is as it was
 pub copy_start : (old : List ℕ) (out runs : List Run) (row from to at : ℕ) → IsRow old row out → EndsBy at out → CopySoFar old old out out runs row from to at 0
-copy_start old out runs row from to at is ends =
-    record {
-      grows = BeginsWith-same old;
-      is_row = is;
-      ends = λ k d within. omega (arith, ends k d within);
-      tight = λ m all k d within. omega (arith, ends k d within);
-      before = λ k d first within j e inside. omega (arith, ends j e inside);
-      shows = λ r c. elim (cases_lt c at) [
-        | inl before ↦ sym (pick SPACE (shown_cell old out r c) (copied_before from to at c before))
-        | inr low ↦ elim (cases_lt c (at + (to - from))) [
-          | inl high ↦ shown_past old r c at SPACE out ends low ∙ sym (pick SPACE (shown_cell old out r c) (copied_yes from to at c low high))
-          | inr after ↦ sym (pick SPACE (shown_cell old out r c) (copied_after from to at c after))
-        ]
-      ];
-      count = omega arith;
-    }
+copy_start old out runs row from to at is ends = grind (arith, common_steps, BeginsWith-same, pick, copied_before, shown_past, copied_yes, copied_after)
 
 -- a cell of a piece is the cell of the run that it was cut from
 pub piece_cell : (old now : List ℕ) (run part piece : Run) (from at start end c : ℕ) → BeginsWith old now → IsRun old run
@@ -84,16 +66,7 @@ pub piece_cell : (old now : List ℕ) (run part piece : Run) (from at start end 
     → piece.end ≡ part.end → piece.role ≡ part.role → option_copied piece.link ≡ option_copied part.link → piece.cell ≤ c
     → c < piece.cell + (end - start) → run_cell now piece c ≡ run_cell old run (from + (c - at))
 piece_cell old now run part piece from at start end c grows is cut low from_le cell starts ends role link above below =
-    let cs = run_chars old run in
-    let bytes : run_bytes now piece ≡ run_bytes now part = ap (λ s. take (piece.end - s) (drop s now)) starts
-    ∙ ap (λ e. take (e - part.start) (drop part.start now)) ends in
-    let characters : run_chars now piece ≡ take (end - start) (drop (start - run.cell) cs) = ap chars bytes ∙ cut.chars_are
-    ∙ ap (λ (t : List ℕ). take (end - start) (drop (start - run.cell) (chars t))) (run_bytes-grown old now run grows is) in
-    let i : ℕ = c - piece.cell in
-    let index : (start - run.cell) + i ≡ from + (c - at) - run.cell = omega arith in
-    let ch : get_or (run_chars now piece) i 32 ≡ get_or cs (from + (c - at) - run.cell) 32 = ap (λ (x : List ℕ). get_or x i 32) characters
-    ∙ get_or-take (end - start) (drop (start - run.cell) cs) i 32 (omega arith) ∙ get_or-drop (start - run.cell) cs i 32 ∙ ap (λ k. get_or cs k 32) index in
-    cell_same (run_cell now piece c) (run_cell old run (from + (c - at))) ch (role ∙ cut.role) (link ∙ cut.link)
+    grind (arith, common_steps, piece.end, part.start, run.cell, cut.chars_are, run_bytes-grown, piece.cell, cell_same, cut.role, cut.link)
 
 -- one more run was copied
 copied_cell : (old now : List ℕ) (run part piece : Run) (from to at start end r c : ℕ) (before outside : Cell) → BeginsWith old now → IsRun old run
@@ -251,30 +224,11 @@ pub span_joined : (t0 t1 t2 : List ℕ) (o0 o1 o2 : List Run) (row from mid to :
     → ((c : ℕ) → from ≤ c → c < mid → g c ≡ k c) → ((c : ℕ) → mid ≤ c → c < to → h c ≡ k c) → ShowsSpan t0 t1 o0 o1 row from mid g
     → ShowsSpan t1 t2 o1 o2 row mid to h → ShowsSpan t0 t2 o0 o2 row from to k
 span_joined t0 t1 t2 o0 o1 o2 row from mid to g h k first_le second_le first_is second_is first second =
-    λ c.
-    let s0 = shown_cell t0 o0 row c in
-    let s1 = shown_cell t1 o1 row c in
-    elim (cases_lt c from) [
-      | inl before ↦ second c ∙ pick (h c) s1 (within_before mid to c (omega arith)) ∙ first c ∙ pick (g c) s0 (within_before from mid c before)
-          ∙ sym (pick (k c) s0 (within_before from to c before))
-      | inr low ↦ elim (cases_lt c mid) [
-        | inl left ↦ second c ∙ pick (h c) s1 (within_before mid to c left) ∙ first c ∙ pick (g c) s0 (within_yes from mid c low left) ∙ first_is c low left
-            ∙ sym (pick (k c) s0 (within_yes from to c low (omega arith)))
-        | inr right ↦ elim (cases_lt c to) [
-          | inl high ↦ second c ∙ pick (h c) s1 (within_yes mid to c right high) ∙ second_is c right high ∙ sym (pick (k c) s0 (within_yes from to c low high))
-          | inr after ↦ second c ∙ pick (h c) s1 (within_after mid to c after) ∙ first c ∙ pick (g c) s0 (within_after from mid c right)
-              ∙ sym (pick (k c) s0 (within_after from to c after))
-        ]
-      ]
-    ]
+    grind (arith, common_steps, pick, within_before, within_yes, within_after)
 
 -- a list of spaces has a space everywhere
 spaces_at : (n k : ℕ) → (let cs : List ℕ = replicate n 32 in get_or cs k 32 ≡ 32)
-spaces_at n k =
-    elim (cases_lt k n) [
-      | inl within ↦ get_or-replicate {A = ℕ} n k 32 32 within
-      | inr past ↦ get_or_past {X = ℕ} (replicate n 32) k 32 (omega (arith, length-replicate {A = ℕ} n 32))
-    ]
+spaces_at n k = grind (arith, common_steps, get_or_past)
 
 -- spaces that were put at the end of the text
 pub IsGap-pushed : (old new : List ℕ) (run : Run) (row from to n : ℕ) → IsUtf8 old → IsUtf8 new → from < to → to < 2 ^ 64 → n ≡ to - from

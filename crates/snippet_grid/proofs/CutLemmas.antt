@@ -1,10 +1,9 @@
 -- A text cut after its first characters.
-use Rattle.snippet_grid.proofs.Common.{◌≡◌, ℕ, ◌+◌, ◌-◌, ◌<◌, ◌≤◌, true, List, ◌++◌, length, take, drop, sym, ap, ◌∙◌}
-use Rattle.snippet_grid.proofs.Common.{subst, arith, encode_utf8, encode_utf8_all, is_utf8, option_copied, encodes-chars, encodes-append, length-le-encodes}
-use Rattle.snippet_grid.proofs.Common.{IsUtf8-take, IsUtf8-append, IsUtf8-from_is_utf8, is_utf8-from_IsUtf8, places, same_lists, take-append-drop, drop-take}
-use Rattle.snippet_grid.proofs.Common.{take-take, length-append, length-take-le, length-drop, IsRun, IsPart, run_bytes, run_chars, Run, bytes_of}
-use Rattle.std.proofs.Common.{chars}
-use Rattle.std.proofs.Common.{IsUtf8}
+use Rattle.snippet_grid.proofs.Common.{common_steps, ◌≡◌, ℕ, ◌+◌, ◌-◌, ◌<◌, ◌≤◌, true, List, ◌++◌, length, take, drop, sym, ap, ◌∙◌, subst, arith, encode_utf8}
+use Rattle.snippet_grid.proofs.Common.{encode_utf8_all, is_utf8, option_copied, encodes-chars, encodes-append, length-le-encodes, IsUtf8-take, IsUtf8-append}
+use Rattle.snippet_grid.proofs.Common.{IsUtf8-from_is_utf8, is_utf8-from_IsUtf8, places, same_lists, take-append-drop, drop-take, take-take, length-append}
+use Rattle.snippet_grid.proofs.Common.{length-take-le, length-drop, IsRun, IsPart, run_bytes, run_chars, Run, bytes_of}
+use Rattle.std.proofs.Common.{chars, IsUtf8}
 use Rattle.snippet_grid.proofs.RunLemmas.{stretch, length-stretch_of, IsUtf8-run_bytes}
 pub use Rattle.snippet_style.proofs.CutLemmas.{text_parts, cut_boundary, cut_front, cut_back, bytes-push, IsNext, take-next, drop-next, bytes_within}
 pub use Rattle.snippet_style.proofs.CutLemmas.{bytes_next}
@@ -34,10 +33,7 @@ bytes_single cs n single within =
 -- and a run of as many bytes as cells is cut after as many bytes as cells
 pub run_single : (text : List ℕ) (run : Run) (n : ℕ) → IsUtf8 text → IsRun text run → run.end - run.start ≡ run.count → n ≤ run.count
     → n ≡ bytes_of (take n (run_chars text run))
-run_single text run n utf8 is single within =
-    let bytes = run_bytes text run in
-    let whole : bytes_of (run_chars text run) ≡ length bytes = ap length (encodes-chars bytes (IsUtf8-run_bytes text run utf8 is)) in
-    sym (bytes_single (run_chars text run) n (omega (arith, whole, run_long text run is, single, is.counted)) (omega (arith, is.counted, within)))
+run_single text run n utf8 is single within = grind (arith, common_steps, encodes-chars, IsUtf8-run_bytes, bytes_single, run_long, is.counted)
 
 -- how far the first n characters have come
 pub record CutSoFar (count : ℕ) (cs : List ℕ) (n at left : ℕ) : Type 0 where
@@ -47,24 +43,15 @@ pub record CutSoFar (count : ℕ) (cs : List ℕ) (n at left : ℕ) : Type 0 whe
 -- a cut moves on past one more character
 pub cut_next : (count : ℕ) (cs : List ℕ) (n m at left c len : ℕ) → IsNext cs n c → m ≡ n + 1 → 0 < left → len ≡ length (encode_utf8 c)
     → CutSoFar count cs n at left → CutSoFar count cs m (at + len) (left - 1)
-cut_next count cs n m at left c len next one some is_len so_far =
-    let front = ap (λ k. take k cs) one ∙ take-next cs n c next in
-    record {
-      bytes = omega (arith, so_far.bytes, ap bytes_of front, bytes-push (take n cs) c, is_len);
-      left_is = omega (arith, so_far.left_is);
-    }
+cut_next count cs n m at left c len next one some is_len so_far = grind (arith, common_steps, take-next, so_far.bytes, bytes-push, so_far.left_is)
 
 -- a cut that has no character left to pass stands after the first characters
 pub cut_here : (count : ℕ) (cs : List ℕ) (n at left : ℕ) → left ≡ 0 → CutSoFar count cs n at left → at ≡ bytes_of (take count cs)
-cut_here count cs n at left none so_far =
-    let same : n ≡ count = omega (arith, so_far.left_is) in
-    so_far.bytes ∙ ap (λ k. bytes_of (take k cs)) same
+cut_here count cs n at left none so_far = grind (arith, common_steps, so_far.left_is, so_far.bytes)
 
 -- a cut that has passed all characters stands after the first characters
 pub cut_all : (count : ℕ) (cs : List ℕ) (n at left : ℕ) → length cs ≤ n → count ≤ length cs → CutSoFar count cs n at left → at ≡ bytes_of (take count cs)
-cut_all count cs n at left all within so_far =
-    let same : n ≡ count = omega (arith, so_far.left_is) in
-    so_far.bytes ∙ ap (λ k. bytes_of (take k cs)) same
+cut_all count cs n at left all within so_far = grind (arith, common_steps, so_far.left_is, so_far.bytes)
 
 -- a stretch within a stretch
 stretch_within : (text : List ℕ) (s e a b : ℕ) → a ≤ b → b ≤ e - s → e ≤ length text → stretch text (s + a) (s + b) ≡ drop a (take b (stretch text s e))

@@ -1,13 +1,12 @@
 -- The rows of cells that runs show, and what a run over others writes there.
-use Rattle.snippet_grid.proofs.Common.{◌≡◌, ◌≢◌, ℕ, ◌+◌, List, [], ◌∷◌, ◌++◌, length, refl, sym, ap, ◌∙◌, arith, inl, inr}
-use Rattle.snippet_grid.proofs.Common.{subst, get_or_past, get_or_push, cases_lt, length-written, slice_index_or-written_before, slice_index_or-written_inside}
-use Rattle.snippet_grid.proofs.Common.{slice_index_or-written_after, written_end, written_last, Cell, SPACE, written, row_at, cells_written, WritesCells}
-use Rattle.snippet_grid.proofs.Common.{◌^◌, ◌-◌, ◌<◌, ◌≤◌, max, map, take, get_or, false, All, None, Result, Ok, Err, OnErr, encode_utf8}
-use Rattle.snippet_grid.proofs.Common.{encode_utf8_all, append-nil, same_lists, get_or_default, nil_from_length, length-map-range_with_len}
-use Rattle.snippet_grid.proofs.Common.{get_or-map-range_with_len, cases_eq, encodes-chars, chars_from_encodes, range_with_len, option_copied, is_utf8, IsUtf8}
-use Rattle.snippet_grid.proofs.Common.{length-text_cells, slice_index_or-text_cells, cell_at, text_cells, IsRun, BeginsWith, ShowsMore, FitIn, IsGrid, IsWord}
-use Rattle.snippet_grid.proofs.Common.{IsWidened, run_bytes, run_chars, run_cell, holds, painted_over, shown_cell, grid_shown, ElementStyle, Run, Stored}
-use Rattle.snippet_grid.proofs.Common.{stored}
+use Rattle.snippet_grid.proofs.Common.{common_steps, ◌≡◌, ◌≢◌, ℕ, ◌+◌, List, [], ◌∷◌, ◌++◌, length, refl, sym, ap, ◌∙◌, arith, inl, inr, subst, get_or_past}
+use Rattle.snippet_grid.proofs.Common.{get_or_push, cases_lt, length-written, slice_index_or-written_before, slice_index_or-written_inside}
+use Rattle.snippet_grid.proofs.Common.{slice_index_or-written_after, written_end, written_last, Cell, SPACE, written, row_at, cells_written, WritesCells, ◌^◌}
+use Rattle.snippet_grid.proofs.Common.{◌-◌, ◌<◌, ◌≤◌, max, map, get_or, false, All, None, Result, Ok, Err, OnErr, encode_utf8, encode_utf8_all, append-nil}
+use Rattle.snippet_grid.proofs.Common.{same_lists, get_or_default, nil_from_length, length-map-range_with_len, get_or-map-range_with_len, cases_eq}
+use Rattle.snippet_grid.proofs.Common.{encodes-chars, chars_from_encodes, range_with_len, option_copied, is_utf8, IsUtf8, length-text_cells}
+use Rattle.snippet_grid.proofs.Common.{slice_index_or-text_cells, cell_at, text_cells, IsRun, BeginsWith, ShowsMore, FitIn, IsGrid, IsWord, IsWidened}
+use Rattle.snippet_grid.proofs.Common.{run_chars, run_cell, holds, painted_over, shown_cell, grid_shown, ElementStyle, Run, Stored, stored}
 use Rattle.std.specs.List.{slice_index_or}
 use Rattle.std.specs.Str.{chars}
 use Rattle.snippet_grid.proofs.RunLemmas.{stretch, stretch_added, BeginsWith-append, BeginsWith-le, IsUtf8-stretch, front_grown, is_utf8-end}
@@ -17,16 +16,12 @@ use Rattle.snippet_grid.proofs.ShownLemmas.{All-tail, pick, cell_same, painted-g
 -- writing below all rows appends one
 pub cells_written_below : (rows : List (List Cell)) (at : ℕ) (cells : List Cell)
     → cells_written rows (length rows) at cells ≡ rows ++ written SPACE [] at cells ∷ []
-cells_written_below rows at cells =
-    ap (λ row. written [] rows (length rows) (written SPACE row at cells ∷ [])) (get_or_past rows (length rows) [] (omega arith))
-    ∙ written_end [] rows (written SPACE [] at cells ∷ [])
+cells_written_below rows at cells = grind (arith, common_steps, get_or_past, written_end)
 
 -- writing in the last row
 pub cells_written_last : (rows : List (List Cell)) (row : List Cell) (at : ℕ) (cells : List Cell)
     → cells_written (rows ++ row ∷ []) (length rows) at cells ≡ rows ++ written SPACE row at cells ∷ []
-cells_written_last rows row at cells =
-    ap (λ r. written [] (rows ++ row ∷ []) (length rows) (written SPACE r at cells ∷ [])) (get_or_push rows row [] (length rows) refl)
-    ∙ written_last [] rows row (written SPACE row at cells)
+cells_written_last rows row at cells = grind (arith, common_steps, get_or_push, written_last)
 
 -- the row that was written
 pub row_at-cells_written_same : (rows : List (List Cell)) (row at : ℕ) (cells : List Cell)
@@ -39,12 +34,7 @@ row_at-cells_written_same rows row at cells =
 -- the other rows
 pub row_at-cells_written_other : (rows : List (List Cell)) (row at : ℕ) (cells : List Cell) (r : ℕ) → r ≢ row
     → row_at (cells_written rows row at cells) r ≡ row_at rows r
-row_at-cells_written_other rows row at cells r other =
-    let new : List (List Cell) = written SPACE (row_at rows row) at cells ∷ [] in
-    elim (cases_lt r row) [
-      | inl above ↦ slice_index_or-written_before [] rows row new r above
-      | inr below ↦ slice_index_or-written_after [] rows row new r [] (omega arith)
-    ]
+row_at-cells_written_other rows row at cells r other = grind (arith, common_steps, slice_index_or-written_before, slice_index_or-written_after)
 
 -- a write, read cell by cell
 pub WritesCells-cells_written : (rows : List (List Cell)) (row at : ℕ) (cells : List Cell) → WritesCells rows (cells_written rows row at cells) row at cells
@@ -75,13 +65,7 @@ count_shown text runs widths = length-map-range_with_len (λ r. map (λ c. shown
 pub row_shown : (text : List ℕ) (runs : List Run) (widths : List ℕ) (r : ℕ)
     → row_at (grid_shown text runs widths) r ≡ map (λ c. shown_cell text runs r c) (range_with_len 0 (get_or widths r 0))
 unfolding grid_shown
-row_shown text runs widths r =
-    let line = λ (k : ℕ). map (λ c. shown_cell text runs k c) (range_with_len 0 (get_or widths k 0)) in
-    elim (cases_lt r (length widths)) [
-      | inl within ↦ get_or-map-range_with_len line 0 (length widths) r r [] within (omega arith)
-      | inr past ↦ get_or_past (map line (range_with_len 0 (length widths))) r [] (omega (arith, length-map-range_with_len line 0 (length widths)))
-          ∙ sym (ap (λ n. map (λ c. shown_cell text runs r c) (range_with_len 0 n)) (get_or_past widths r 0 past))
-    ]
+row_shown text runs widths r = grind (arith, common_steps, get_or-map-range_with_len, get_or_past, length-map-range_with_len)
 
 -- a row of a shown grid is as long as its width says
 pub width_shown : (text : List ℕ) (runs : List Run) (widths : List ℕ) (r : ℕ) → length (row_at (grid_shown text runs widths) r) ≡ get_or widths r 0
@@ -103,14 +87,7 @@ unheld text widths r c d (run ∷ runs) fit past =
 -- a cell of a shown grid is what the runs show there
 pub cell_shown : (text : List ℕ) (runs : List Run) (widths : List ℕ) (r c : ℕ) → FitIn widths runs
     → cell_at (grid_shown text runs widths) r c ≡ shown_cell text runs r c
-cell_shown text runs widths r c fit =
-    let line = λ (k : ℕ). shown_cell text runs r k in
-    let n = get_or widths r 0 in
-    ap (λ (cells : List Cell). get_or cells c SPACE) (row_shown text runs widths r) ∙ elim (cases_lt c n) [
-      | inl within ↦ get_or-map-range_with_len line 0 n c c SPACE within (omega arith)
-      | inr past ↦ get_or_past (map line (range_with_len 0 n)) c SPACE (omega (arith, length-map-range_with_len line 0 n))
-          ∙ sym (unheld text widths r c SPACE runs fit past)
-    ]
+cell_shown text runs widths r c fit = grind (arith, common_steps, row_shown, get_or-map-range_with_len, get_or_past, length-map-range_with_len, unheld)
 
 -- rows that show the same
 pub same_row : (old new : List ℕ) (runs now : List Run) (w v : List ℕ) (r : ℕ) → get_or v r 0 ≡ get_or w r 0
@@ -207,35 +184,11 @@ pub IsWord-pushed : (old new word : List ℕ) (run : Run) (row at : ℕ) (role :
     → at + length (chars word) < 2 ^ 64 → new ≡ old ++ word → run.row ≡ row → run.cell ≡ at → run.count ≡ length (chars word) → run.start ≡ length old
     → run.end ≡ length new → run.role ≡ role → option_copied run.link ≡ None → IsWord new row at role word run
 IsWord-pushed old new word run row at role utf8 utf8_new some fits pushed row_is cell_is count start end role_is unlinked =
-    let grows : BeginsWith old new = subst (λ (t : List ℕ). BeginsWith old t) (sym pushed) (BeginsWith-append old word) in
-    let bytes : run_bytes new run ≡ word = ap (λ s. stretch new s run.end) start ∙ ap (λ e. stretch new (length old) e) end
-    ∙ ap (λ (t : List ℕ). stretch t (length old) (length t)) pushed ∙ stretch_added old word in
-    record {
-      is_run = record {
-        ordered = omega (arith, start, end, BeginsWith-le old new grows);
-        within = omega (arith, end);
-        starts = ap (λ s. is_utf8 (take s new)) start ∙ ap is_utf8 (front_grown old new (length old) grows (omega arith)) ∙ is_utf8-end old utf8;
-        ends = ap (λ e. is_utf8 (take e new)) end ∙ is_utf8-end new utf8_new;
-        counted = count ∙ sym (ap (λ (t : List ℕ). length (chars t)) bytes);
-        some = omega (arith, count);
-        fits = omega (arith, count, cell_is);
-      };
-      row_is = row_is;
-      cell_is = cell_is;
-      role_is = role_is;
-      unlinked = unlinked;
-      chars_are = ap chars bytes;
-    }
+    grind (arith, common_steps, BeginsWith-append, run.end, stretch_added, BeginsWith-le, front_grown, is_utf8-end)
 
 -- rows that are wider hold what they held
 pub FitIn-widened : (w v : List ℕ) (row end : ℕ) (runs : List Run) → IsWidened w v row end → FitIn w runs → FitIn v runs
-FitIn-widened w v row end runs wide fit =
-    λ k d within.
-    let run = get_or runs k d in
-    elim (cases_eq run.row row) [
-      | inl here ↦ omega (arith, fit k d within, wide.here, ap (λ r. get_or w r 0) here, ap (λ r. get_or v r 0) here)
-      | inr other ↦ omega (arith, fit k d within, wide.others run.row other)
-    ]
+FitIn-widened w v row end runs wide fit = grind (arith, common_steps, wide.here, wide.others)
 
 -- where a word's run ends
 pub word_end : (text : List ℕ) (row at : ℕ) (role : ElementStyle) (word : List ℕ) (run : Run) → IsWord text row at role word run
@@ -262,9 +215,7 @@ IsGrid-grown old new runs now w v grows same widths grid =
 -- a text that has grown shows the same grid of the same runs
 pub grid_grown : (old new : List ℕ) (runs now : List Run) (w v : List ℕ) → BeginsWith old new → now ≡ runs → v ≡ w → IsGrid old runs w
     → grid_shown new now v ≡ grid_shown old runs w
-grid_grown old new runs now w v grows same widths grid =
-    ap (λ (l : List Run). grid_shown new l v) same ∙ ap (λ (x : List ℕ). grid_shown new runs x) widths
-    ∙ grid_same old new runs runs w (λ r c. painted-grown old new r c SPACE runs grows grid.are_runs)
+grid_grown old new runs now w v grows same widths grid = grind (arith, common_steps, grid_same, painted-grown, grid.are_runs)
 
 -- a fact of what a refused call leaves
 pub on_err_from : {T E P : Type 0} (r : Result T E) → P → OnErr r P
@@ -279,20 +230,11 @@ grid_none text runs widths none =
 
 -- a text that has a byte has a character
 pub chars_some : (text : List ℕ) → IsUtf8 text → 0 < length text → 0 < length (chars text)
-chars_some text utf8 some =
-    let whole : encode_utf8_all (chars text) ≡ text = encodes-chars text utf8 in
-    elim (cases_lt 0 (length (chars text))) [
-      | inl h ↦ h
-      | inr none ↦
-          let empty : chars text ≡ [] = nil_from_length (chars text) (omega (arith, none)) in
-          absurd (omega (arith, ap length (sym whole ∙ ap encode_utf8_all empty)))
-    ]
+chars_some text utf8 some = grind (arith, common_steps, encodes-chars text utf8, utf8, nil_from_length)
 
 -- a grid that was read
 pub IsGrid-read : (t s : List ℕ) (runs now : List Run) (w v : List ℕ) → s ≡ t → now ≡ runs → v ≡ w → IsGrid t runs w → IsGrid s now v
-IsGrid-read t s runs now w v text same widths grid =
-    subst (λ (x : List ℕ). IsGrid x now v) (sym text) (subst (λ (l : List Run). IsGrid t l v) (sym same)
-    (subst (λ (x : List ℕ). IsGrid t runs x) (sym widths) grid))
+IsGrid-read t s runs now w v text same widths grid = grind (arith, common_steps)
 
 -- the same text, runs and widths show the same grid
 pub grid_read : (t s : List ℕ) (runs now : List Run) (w v : List ℕ) → s ≡ t → now ≡ runs → v ≡ w → grid_shown s now v ≡ grid_shown t runs w

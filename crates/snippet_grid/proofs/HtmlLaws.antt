@@ -1,11 +1,11 @@
 -- The laws of a grid's rows as HTML: read as HTML, the text is the plain text of the rows; its tags are its own; and each character
 -- stands in the class of its cell's role, and in the link of the cell.
-use Rattle.snippet_grid.proofs.Common.{◌≡◌, ℕ, Bool, true, ◌&&◌, if◌then◌else◌, nat_eq, List, [], ◌∷◌, ◌++◌, refl, sym, ap}
-use Rattle.snippet_grid.proofs.Common.{◌∙◌, inl, inr, and_parts, cases_Bool, append_assoc, flat_map-append, same_text, flat_map, list_all, HtmlLook}
-use Rattle.snippet_grid.proofs.Common.{HtmlPiece, Text, SpanStart, SpanEnd, AnchorStart, AnchorEnd, anchor_ended, anchor_started, tags_between, cells_html}
-use Rattle.snippet_grid.proofs.Common.{class_of, ended, further_html, level_class, html_look_of, plain_look, row_html, rows_html, same_html_look, span_ended}
-use Rattle.snippet_grid.proofs.Common.{span_started, started, ReadChar, chars_of_cells, chars_of_rows, feed_read, further_text, plain_text, row_text, Cell}
-use Rattle.snippet_grid.proofs.Common.{ElementStyle, MainHeaderMsg, HeaderMsg, LineAndColumn, Quotation, NoStyle, LineNumber, UnderlinePrimary, LabelPrimary}
+use Rattle.snippet_grid.proofs.Common.{common_steps, arith, ◌≡◌, ℕ, Bool, true, ◌&&◌, if◌then◌else◌, nat_eq, List, [], ◌∷◌, ◌++◌, refl, sym, ap, ◌∙◌, inl, inr}
+use Rattle.snippet_grid.proofs.Common.{and_parts, cases_Bool, append_assoc, flat_map-append, same_text, flat_map, list_all, HtmlLook, HtmlPiece, Text}
+use Rattle.snippet_grid.proofs.Common.{SpanStart, SpanEnd, AnchorStart, AnchorEnd, anchor_ended, anchor_started, tags_between, cells_html, class_of, ended}
+use Rattle.snippet_grid.proofs.Common.{further_html, level_class, html_look_of, plain_look, row_html, rows_html, same_html_look, span_ended, span_started}
+use Rattle.snippet_grid.proofs.Common.{started, ReadChar, chars_of_cells, chars_of_rows, feed_read, further_text, plain_text, row_text, Cell, ElementStyle}
+use Rattle.snippet_grid.proofs.Common.{MainHeaderMsg, HeaderMsg, LineAndColumn, Quotation, NoStyle, LineNumber, UnderlinePrimary, LabelPrimary}
 use Rattle.snippet_grid.proofs.Common.{UnderlineSecondary, LabelSecondary, Level, Addition, Removal, LevelInner, Error, Warning, Info, Note, Help, map}
 use Rattle.snippet_grid.proofs.Common.{append-nil, AllZip, join_with_byte, Piece, Char, piece_text, Prints, PrintsRow, PrintsFurther, PrintsRows, Stylesheet}
 use Rattle.std.specs.Str.{chars}
@@ -42,11 +42,7 @@ says_started : (look : HtmlLook) → flat_map piece_says (started look) ≡ []
 says_started look = says_both (span_started look.class) (anchor_started look.address) (says_span_started look.class) (says_anchor_started look.address)
 
 says_between : (last next : HtmlLook) → flat_map piece_says (tags_between last next) ≡ []
-says_between last next = elim (cases_Bool (same_html_look last next)) [
-  | inl same ↦ ap (λ (b : Bool). flat_map piece_says (if b then [] else (ended last ++ started next))) same
-  | inr other ↦ ap (λ (b : Bool). flat_map piece_says (if b then [] else (ended last ++ started next))) other
-      ∙ says_both (ended last) (started next) (says_ended last) (says_started next)
-]
+says_between last next = grind (arith, common_steps, cases_Bool, says_both, says_ended, says_started)
 
 says_cells : (level : LevelInner) (last : HtmlLook) (cells : List Cell) → flat_map piece_says (cells_html level last cells) ≡ row_text cells
 says_cells level last [] = says_ended last
@@ -58,26 +54,18 @@ says_cells level last (cell ∷ cells) =
 
 says_further : (level : LevelInner) (rows : List (List Cell)) → flat_map piece_says (further_html level rows) ≡ further_text rows
 says_further level [] = refl
-says_further level (row ∷ rows) =
-    flat_map-append piece_says (Text 10 ∷ row_html level row) (further_html level rows)
-    ∙ ap (λ (t : List ℕ). (10 ∷ t) ++ flat_map piece_says (further_html level rows)) (says_cells level plain_look row)
-    ∙ ap (λ (t : List ℕ). (10 ∷ row_text row) ++ t) (says_further level rows)
+says_further level (row ∷ rows) = grind (arith, common_steps, flat_map-append, says_cells, says_further level rows)
 
 -- the pieces of rows say their plain text
 pub says_rows : (level : LevelInner) (rows : List (List Cell)) → flat_map piece_says (rows_html level rows) ≡ plain_text rows
 says_rows level [] = refl
-says_rows level (row ∷ rows) =
-    flat_map-append piece_says (row_html level row) (further_html level rows)
-    ∙ ap (λ (t : List ℕ). t ++ flat_map piece_says (further_html level rows)) (says_cells level plain_look row)
-    ∙ ap (λ (t : List ℕ). row_text row ++ t) (says_further level rows)
+says_rows level (row ∷ rows) = grind (arith, common_steps, flat_map-append, says_cells, says_further)
 
 -- ---- tags
 
 pub made-append : (ps qs : List HtmlPiece) → list_all is_made ps ≡ true → list_all is_made qs ≡ true → list_all is_made (ps ++ qs) ≡ true
 made-append [] qs first second = second
-made-append (p ∷ ps) qs first second =
-    let parts = and_parts _ _ first in
-    ap (λ (b : Bool). b && list_all is_made (ps ++ qs)) parts.0 ∙ made-append ps qs parts.1 second
+made-append (p ∷ ps) qs first second = grind (arith, common_steps)
 
 -- the class of a role ends no tag and no attribute, and begins no escape
 level_lacks : (level : LevelInner) → is_class (chars (level_class level)) ≡ true
@@ -124,10 +112,7 @@ made_ended : (look : HtmlLook) → list_all is_made (ended look) ≡ true
 made_ended look = made-append (anchor_ended look.address) (span_ended look.class) (made_anchor_ended look.address) (made_span_ended look.class)
 
 made_started : (level : LevelInner) (cell : Cell) → list_all is_made (started (html_look_of level cell)) ≡ true
-made_started level cell =
-    let look = html_look_of level cell in
-    made-append (span_started look.class) (anchor_started look.address) (made_span_started look.class (class_lacks level cell.role))
-    (made_anchor_started look.address)
+made_started level cell = grind (arith, common_steps, made-append, made_span_started, class_lacks, cell.role, made_anchor_started)
 
 made_between : (level : LevelInner) (last : HtmlLook) (cell : Cell) → list_all is_made (tags_between last (html_look_of level cell)) ≡ true
 made_between level last cell =
@@ -187,14 +172,10 @@ read_span_end [] ps = refl
 read_span_end (c ∷ cs) ps = refl
 
 read_started : (look : HtmlLook) (ps : List HtmlPiece) → chars_read plain_look (started look ++ ps) ≡ chars_read look ps
-read_started look ps =
-    ap (chars_read plain_look) (append_assoc (span_started look.class) (anchor_started look.address) ps)
-    ∙ read_span look.class (anchor_started look.address ++ ps) ∙ read_anchor look.class look.address ps
+read_started look ps = grind (arith, common_steps, look.class, look.address, read_span, read_anchor)
 
 read_ended : (look : HtmlLook) (ps : List HtmlPiece) → chars_read look (ended look ++ ps) ≡ chars_read plain_look ps
-read_ended look ps =
-    ap (chars_read look) (append_assoc (anchor_ended look.address) (span_ended look.class) ps)
-    ∙ read_anchor_end look.class look.address (span_ended look.class ++ ps) ∙ read_span_end look.class ps
+read_ended look ps = grind (arith, common_steps, look.address, look.class, read_anchor_end, read_span_end)
 
 -- what stands in the same is the same
 same_is : (a b : HtmlLook) → same_html_look a b ≡ true → a ≡ b
@@ -203,12 +184,7 @@ same_is a b same =
     look_is a b.class b.address (same_text a.class b.class (sym parts.0)) (same_text a.address b.address (sym parts.1))
 
 read_between : (last next : HtmlLook) (ps : List HtmlPiece) → chars_read last (tags_between last next ++ ps) ≡ chars_read next ps
-read_between last next ps = elim (cases_Bool (same_html_look last next)) [
-  | inl same ↦ ap (λ (b : Bool). chars_read last ((if b then [] else (ended last ++ started next)) ++ ps)) same
-      ∙ ap (λ (l : HtmlLook). chars_read l ps) (same_is last next same)
-  | inr other ↦ ap (λ (b : Bool). chars_read last ((if b then [] else (ended last ++ started next)) ++ ps)) other
-      ∙ ap (chars_read last) (append_assoc (ended last) (started next) ps) ∙ read_ended last (started next ++ ps) ∙ read_started next ps
-]
+read_between last next ps = grind (arith, common_steps, cases_Bool, same_is, read_ended, read_started)
 
 read_cells : (level : LevelInner) (last : HtmlLook) (cells : List Cell) (ps : List HtmlPiece)
     → chars_read last (cells_html level last cells ++ ps) ≡ chars_of_cells level cells ++ chars_read plain_look ps
@@ -227,23 +203,13 @@ row_read level row ps = read_cells level plain_look row ps
 further_read : (level : LevelInner) (rows : List (List Cell)) (ps : List HtmlPiece) → chars_read plain_look (further_html level rows ++ ps)
     ≡ flat_map (λ below. feed_read ∷ chars_of_cells level below) rows ++ chars_read plain_look ps
 further_read level [] ps = refl
-further_read level (row ∷ rows) ps =
-    let more = flat_map (λ below. feed_read ∷ chars_of_cells level below) rows in
-    ap (chars_read plain_look) (append_assoc (Text 10 ∷ row_html level row) (further_html level rows) ps)
-    ∙ ap (λ (rs : List ReadChar). feed_read ∷ rs) (row_read level row (further_html level rows ++ ps)
-    ∙ ap (λ (rs : List ReadChar). chars_of_cells level row ++ rs) (further_read level rows ps)
-    ∙ sym (append_assoc (chars_of_cells level row) more (chars_read plain_look ps)))
+further_read level (row ∷ rows) ps = grind (arith, common_steps, row_read, further_read level rows ps)
 
 -- and so does each character of rows
 pub rows_chars : (level : LevelInner) (rows : List (List Cell)) (ps : List HtmlPiece)
     → chars_read plain_look (rows_html level rows ++ ps) ≡ chars_of_rows level rows ++ chars_read plain_look ps
 rows_chars level [] ps = refl
-rows_chars level (row ∷ rows) ps =
-    let more = flat_map (λ below. feed_read ∷ chars_of_cells level below) rows in
-    ap (chars_read plain_look) (append_assoc (row_html level row) (further_html level rows) ps)
-    ∙ row_read level row (further_html level rows ++ ps)
-    ∙ ap (λ (rs : List ReadChar). chars_of_cells level row ++ rs) (further_read level rows ps)
-    ∙ sym (append_assoc (chars_of_cells level row) more (chars_read plain_look ps))
+rows_chars level (row ∷ rows) ps = grind (arith, common_steps, row_read, further_read)
 
 -- The text of a printed grid as one list of pieces, with a line feed before each row but the first.
 -- the text is a grid's rows, printed under a sheet in a group of this level

@@ -1,14 +1,12 @@
 -- What a text in HTML reads as: piece by piece, without tags and with escapes undone, it is the characters of its pieces; and its tags
 -- are those of its pieces.
-use Rattle.snippet_grid.proofs.Common.{cells_alike}
-use Rattle.snippet_grid.proofs.Common.{◌≡◌, ◌==◌, ℕ, zero, suc, replicate, ◌<◌, Bool, true, false, codes, ◌&&◌, if◌then◌else◌, nat_eq}
-use Rattle.snippet_grid.proofs.Common.{List, [], ◌∷◌, ◌++◌, length, Option, map, refl, sym, ap, ◌∙◌, arith, encode_utf8, encode_utf8_all}
-use Rattle.snippet_grid.proofs.Common.{append_assoc, append-nil, flat_map-append, false≢true, encodes-append, encodes-chars, nat_list_eq_equiv, IsUtf8}
-use Rattle.snippet_grid.proofs.Common.{AddsHtml, AnchorStart, HtmlGoes, HtmlLook, HtmlPiece, SpanStart, Text, anchor_started, tags_between, cells_html, ended}
-use Rattle.snippet_grid.proofs.Common.{escape}
-use Rattle.snippet_grid.proofs.Common.{escaped, further_html, html_bytes, span_started, html_text, look_at, piece_html, row_html, rows_html, same_html_look}
-use Rattle.snippet_grid.proofs.Common.{started, Cell, ElementStyle, LevelInner, not, None, Some, and_parts, eqb-true, flat_map, list_all, SpanEnd, AnchorEnd}
-use Rattle.snippet_grid.proofs.Common.{html_says, piece_tag, tags_of, unescaped, without_tags}
+use Rattle.snippet_grid.proofs.Common.{common_steps, cells_alike, ◌≡◌, ◌==◌, ℕ, zero, suc, replicate, ◌<◌, Bool, true, false, codes, ◌&&◌, if◌then◌else◌}
+use Rattle.snippet_grid.proofs.Common.{nat_eq, List, [], ◌∷◌, ◌++◌, length, Option, map, refl, sym, ap, ◌∙◌, arith, encode_utf8, encode_utf8_all, append_assoc}
+use Rattle.snippet_grid.proofs.Common.{append-nil, flat_map-append, false≢true, encodes-append, encodes-chars, nat_list_eq_equiv, IsUtf8, AddsHtml, AnchorStart}
+use Rattle.snippet_grid.proofs.Common.{HtmlGoes, HtmlLook, HtmlPiece, SpanStart, Text, anchor_started, tags_between, cells_html, ended, escape, escaped}
+use Rattle.snippet_grid.proofs.Common.{html_bytes, span_started, html_text, look_at, piece_html, row_html, rows_html, same_html_look, started, Cell}
+use Rattle.snippet_grid.proofs.Common.{ElementStyle, LevelInner, not, None, Some, and_parts, eqb-true, flat_map, list_all, SpanEnd, AnchorEnd, html_says}
+use Rattle.snippet_grid.proofs.Common.{piece_tag, tags_of, unescaped, without_tags}
 use Rattle.std.specs.Str.{chars}
 use lib.Pointwise.{pointwise}
 use Rattle.snippet_grid.proofs.ReplaceLemmas.{space_bytes}
@@ -26,9 +24,7 @@ not_true false is = refl
 
 pub lacks-append : (x : ℕ) (a b : List ℕ) → lacks x a ≡ true → lacks x b ≡ true → lacks x (a ++ b) ≡ true
 lacks-append x [] b first second = second
-lacks-append x (c ∷ cs) b first second =
-    let parts = and_parts _ _ first in
-    ap (λ (t : Bool). t && lacks x (cs ++ b)) parts.0 ∙ lacks-append x cs b parts.1 second
+lacks-append x (c ∷ cs) b first second = grind (arith, common_steps)
 
 -- an escape, by the tests that it makes
 abbrev pub escape_by : (amp lt gt quot apostrophe : Bool) → ℕ → List ℕ
@@ -116,21 +112,15 @@ is_made other = true
 
 -- the text of a tag that begins with this and goes on so
 pub tag_text : (head body rest : List ℕ) → ((60 ∷ head) ++ (body ++ codes "\">")) ++ rest ≡ 60 ∷ ((head ++ (body ++ codes "\"")) ++ 62 ∷ rest)
-tag_text head body rest =
-    ap (λ (t : List ℕ). 60 ∷ t) (append_assoc head (body ++ codes "\">") rest ∙ ap (λ (t : List ℕ). head ++ t) (append_assoc body (codes "\">") rest)
-    ∙ ap (λ (t : List ℕ). head ++ t) (sym (append_assoc body (codes "\"") (62 ∷ rest))) ∙ sym (append_assoc head (body ++ codes "\"") (62 ∷ rest)))
+tag_text head body rest = grind (arith, common_steps)
 
 tag_dropped : (head body rest : List ℕ) → lacks 62 head ≡ true → lacks 62 body ≡ true
     → without_tags false (((60 ∷ head) ++ (body ++ codes "\">")) ++ rest) ≡ without_tags false rest
-tag_dropped head body rest in_head in_body =
-    ap (without_tags false) (tag_text head body rest)
-    ∙ inside (head ++ (body ++ codes "\"")) rest (lacks-append 62 head (body ++ codes "\"") in_head (lacks-append 62 body (codes "\"") in_body refl))
+tag_dropped head body rest in_head in_body = grind (arith, common_steps, tag_text, inside, lacks-append)
 
 tag_found : (head body rest : List ℕ) → lacks 62 head ≡ true → lacks 62 body ≡ true
     → tags_of None (((60 ∷ head) ++ (body ++ codes "\">")) ++ rest) ≡ (head ++ (body ++ codes "\"")) ∷ tags_of None rest
-tag_found head body rest in_head in_body =
-    ap (tags_of None) (tag_text head body rest)
-    ∙ one_tag [] (head ++ (body ++ codes "\"")) rest (lacks-append 62 head (body ++ codes "\"") in_head (lacks-append 62 body (codes "\"") in_body refl))
+tag_found head body rest in_head in_body = grind (arith, common_steps, tag_text, one_tag, lacks-append)
 
 piece_outside : (p : HtmlPiece) (rest : List ℕ) → is_made p ≡ true → without_tags false (piece_html p ++ rest) ≡ piece_escaped p ++ without_tags false rest
 piece_outside (Text ch) rest made = outside (escape ch) rest (escape_lacks_less ch)
@@ -202,9 +192,7 @@ adds_none old new is = is ∙ sym (append-nil old)
 
 -- some pieces were added, and then others
 pub adds_both : (ps qs : List HtmlPiece) (old mid new : List ℕ) → AddsHtml ps old mid → AddsHtml qs mid new → AddsHtml (ps ++ qs) old new
-adds_both ps qs old mid new first second =
-    second ∙ ap (λ (t : List ℕ). t ++ html_bytes qs) first ∙ append_assoc old (html_bytes ps) (html_bytes qs)
-    ∙ ap (λ (t : List ℕ). old ++ t) (sym (html-append ps qs))
+adds_both ps qs old mid new first second = grind (arith, common_steps, html-append)
 
 -- the pieces of characters are these, escaped
 pub text_html : (cs : List ℕ) → html_text (map Text cs) ≡ escaped cs
@@ -231,11 +219,7 @@ adds_line_feed old new is = is ∙ ap (λ (t : List ℕ). old ++ t) (sym (append
 -- three texts were added, in order
 pub adds_three : (a b c old one two new : List ℕ) → one ≡ old ++ encode_utf8_all a → two ≡ one ++ encode_utf8_all b → new ≡ two ++ encode_utf8_all c
     → new ≡ old ++ encode_utf8_all (a ++ (b ++ c))
-adds_three a b c old one two new first second third =
-    third ∙ ap (λ (t : List ℕ). t ++ encode_utf8_all c) (second ∙ ap (λ (t : List ℕ). t ++ encode_utf8_all b) first)
-    ∙ append_assoc (old ++ encode_utf8_all a) (encode_utf8_all b) (encode_utf8_all c)
-    ∙ append_assoc old (encode_utf8_all a) (encode_utf8_all b ++ encode_utf8_all c)
-    ∙ ap (λ (t : List ℕ). old ++ t) (ap (λ (t : List ℕ). encode_utf8_all a ++ t) (sym (encodes-append b c)) ∙ sym (encodes-append a (b ++ c)))
+adds_three a b c old one two new first second third = grind (arith, common_steps, encodes-append)
 
 -- the text of one piece was added
 pub adds_piece : (p : HtmlPiece) (old new : List ℕ) → new ≡ old ++ encode_utf8_all (piece_html p) → AddsHtml (p ∷ []) old new
@@ -272,9 +256,7 @@ between_same look = ap (λ (b : Bool). if b then [] else (ended look ++ started 
 -- what has this class and this address
 pub look_is : (look : HtmlLook) (class address : List ℕ) → look.class ≡ class → look.address ≡ address
     → look ≡ (let made : HtmlLook = record { class = class; address = address } in made)
-look_is look class address first second =
-    ap (λ (c : List ℕ). (let made : HtmlLook = record { class = c; address = look.address } in made)) first
-    ∙ ap (λ (a : List ℕ). (let made : HtmlLook = record { class = class; address = a } in made)) second
+look_is look class address first second = grind (arith, common_steps, look.address)
 
 -- cells after one that stands in the same
 alike_html : (level : LevelInner) (role : ElementStyle) (link : Option Url) (word : List ℕ) (more : List Cell)
@@ -290,10 +272,7 @@ stretch_html : (level : LevelInner) (last : HtmlLook) (role : ElementStyle) (lin
     → cells_html level last (cells_alike role link word ++ more)
     ≡ (tags_between last (look_at level role link) ++ map Text word) ++ cells_html level (look_at level role link) more
 stretch_html level last role link [] more some = absurd (omega arith)
-stretch_html level last role link (ch ∷ word) more some =
-    let look = look_at level role link in
-    ap (λ (ps : List HtmlPiece). tags_between last look ++ (Text ch ∷ ps)) (alike_html level role link word more)
-    ∙ sym (append_assoc (tags_between last look) (Text ch ∷ map Text word) (cells_html level look more))
+stretch_html level last role link (ch ∷ word) more some = grind (arith, common_steps, alike_html)
 
 -- ---- a row
 
@@ -301,17 +280,7 @@ stretch_html level last role link (ch ∷ word) more some =
 pub html_stretch : (level : LevelInner) (last : HtmlLook) (role : ElementStyle) (link : Option Url) (word : List ℕ) (done : List Cell) (old now new : List ℕ)
     → 0 < length word → AddsHtml (tags_between last (look_at level role link) ++ map Text word) now new → HtmlGoes level last done old now
     → HtmlGoes level (look_at level role link) (done ++ cells_alike role link word) old new
-html_stretch level last role link word done old now new some added goes more =
-    let look = look_at level role link in
-    let cells = cells_alike role link word in
-    let tags : List HtmlPiece = tags_between last look ++ map Text word in
-    let rest : List HtmlPiece = cells_html level look more in
-    ap (λ (cs : List Cell). old ++ html_bytes (row_html level cs)) (append_assoc done cells more)
-    ∙ goes (cells ++ more)
-    ∙ ap (λ (ps : List HtmlPiece). now ++ html_bytes ps) (stretch_html level last role link word more some)
-    ∙ ap (λ (t : List ℕ). now ++ t) (html-append tags rest)
-    ∙ sym (append_assoc now (html_bytes tags) (html_bytes rest))
-    ∙ ap (λ (t : List ℕ). t ++ html_bytes rest) (sym added)
+html_stretch level last role link word done old now new some added goes more = grind (arith, common_steps, stretch_html, html-append)
 
 -- a row was closed
 pub html_closed : (level : LevelInner) (last : HtmlLook) (row : List Cell) (old now new : List ℕ) → AddsHtml (ended last) now new
@@ -325,9 +294,4 @@ html_closed level last row old now new added goes =
 pub rows_html-more : (level : LevelInner) (rows : List (List Cell)) (row : List Cell) → 0 < length rows
     → rows_html level (rows ++ row ∷ []) ≡ rows_html level rows ++ (Text 10 ∷ row_html level row)
 rows_html-more level [] row some = absurd (omega arith)
-rows_html-more level (head ∷ rows) row some =
-    let last : List HtmlPiece = Text 10 ∷ row_html level row in
-    ap (λ (ps : List HtmlPiece). row_html level head ++ ps)
-    (flat_map-append (λ (r : List Cell). Text 10 ∷ row_html level r) rows (row ∷ [])
-    ∙ ap (λ (ps : List HtmlPiece). further_html level rows ++ ps) (append-nil last))
-    ∙ sym (append_assoc (row_html level head) (further_html level rows) last)
+rows_html-more level (head ∷ rows) row some = grind (arith, common_steps, flat_map-append)

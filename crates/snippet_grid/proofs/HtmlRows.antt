@@ -1,8 +1,7 @@
 -- A row of HTML that grows by spaces and by words, and rows one below another.
-use Rattle.snippet_grid.proofs.Common.{◌≡◌, ℕ, ◌<◌, List, [], ◌∷◌, ◌++◌, length, refl, sym, ap, ◌∙◌, subst, arith, append_assoc, append-nil, encode_utf8}
-use Rattle.snippet_grid.proofs.Common.{string_bytes}
-use Rattle.snippet_grid.proofs.Common.{AddsHtml, AddsHtmlCells, Cell, HtmlRow, IsHtml, IsHtmlBegun, LevelInner, Text, cells_html, html_bytes, row_html}
-use Rattle.snippet_grid.proofs.Common.{rows_html}
+use Rattle.snippet_grid.proofs.Common.{common_steps, ◌≡◌, ℕ, ◌<◌, List, [], ◌∷◌, ◌++◌, length, refl, sym, ap, ◌∙◌, subst, arith, append_assoc, append-nil}
+use Rattle.snippet_grid.proofs.Common.{encode_utf8, string_bytes, AddsHtml, AddsHtmlCells, Cell, HtmlRow, IsHtml, IsHtmlBegun, LevelInner, cells_html}
+use Rattle.snippet_grid.proofs.Common.{html_bytes, row_html, rows_html}
 use Rattle.snippet_grid.proofs.HtmlReads.{adds_both, adds_line_feed, rows_html-more}
 
 -- no cell is printed of a row that begins
@@ -29,12 +28,5 @@ html_more start before after some more second first =
 pub html_rows_more : (level : LevelInner) (old now fed new : List ℕ) (rows : List (List Cell)) (row : List Cell) → (length rows ≡ 0 → fed ≡ now)
     → (0 < length rows → fed ≡ now ++ encode_utf8 10) → AddsHtml (rows_html level rows) old now → AddsHtml (row_html level row) fed new
     → AddsHtml (rows_html level (rows ++ row ∷ [])) old new
-html_rows_more level old now fed new [] row first broken above added =
-    subst (λ ps. AddsHtml ps old new) (sym (append-nil (row_html level row)))
-    (subst (λ (t : List ℕ). AddsHtml (row_html level row) t new) (first refl ∙ above ∙ append-nil old) added)
-html_rows_more level old now fed new (head ∷ rows) row first broken above added =
-    let fed_on : AddsHtml (Text 10 ∷ []) now fed = adds_line_feed now fed (broken (omega arith)) in
-    let with_row : AddsHtml ((Text 10 ∷ []) ++ row_html level row) now new =
-    adds_both (Text 10 ∷ []) (row_html level row) now fed new fed_on added in
-    subst (λ ps. AddsHtml ps old new) (sym (rows_html-more level (head ∷ rows) row (omega arith)))
-    (adds_both (rows_html level (head ∷ rows)) (Text 10 ∷ row_html level row) old now new above with_row)
+html_rows_more level old now fed new [] row first broken above added = grind (arith, common_steps)
+html_rows_more level old now fed new (head ∷ rows) row first broken above added = grind (arith, common_steps, adds_line_feed, adds_both, rows_html-more)

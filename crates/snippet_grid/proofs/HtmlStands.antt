@@ -1,8 +1,8 @@
 -- What each character of a text in HTML stands in, as it is read: what it stands in by the pieces of the text.
-use Rattle.snippet_grid.proofs.Common.{◌≡◌, ℕ, Bool, true, false, not, ◌&&◌, if◌then◌else◌, nat_eq, List, [], ◌∷◌, ◌++◌, None, Some}
-use Rattle.snippet_grid.proofs.Common.{codes, refl, sym, ap, ◌∙◌, map, and_parts, eqb-true, append_assoc, append-nil, list_all, HtmlLook, HtmlPiece, Text}
-use Rattle.snippet_grid.proofs.Common.{SpanStart, SpanEnd, AnchorStart, AnchorEnd, escape, escaped, html_text, plain_look, CharInTags, InTags, InText, InTag}
-use Rattle.snippet_grid.proofs.Common.{InEscape, after_tag, as_read, html_reads, quoted, reads, tags_in, unescaped}
+use Rattle.snippet_grid.proofs.Common.{common_steps, arith, ◌≡◌, ℕ, Bool, true, false, not, ◌&&◌, if◌then◌else◌, nat_eq, List, [], ◌∷◌, ◌++◌, None, Some, codes}
+use Rattle.snippet_grid.proofs.Common.{refl, sym, ap, ◌∙◌, map, and_parts, eqb-true, append_assoc, append-nil, list_all, HtmlLook, HtmlPiece, Text, SpanStart}
+use Rattle.snippet_grid.proofs.Common.{SpanEnd, AnchorStart, AnchorEnd, escaped, html_text, plain_look, CharInTags, InTags, InText, InTag, after_tag, as_read}
+use Rattle.snippet_grid.proofs.Common.{html_reads, quoted, reads, tags_in, unescaped}
 use Rattle.std.specs.Str.{chars}
 use Rattle.snippet_grid.proofs.HtmlLaws.{chars_read}
 use Rattle.snippet_grid.proofs.HtmlReads.{escape_by, escaped_lacks_greater, is_made, lacks, lacks-append, not_true, tag_text, undone}
@@ -34,10 +34,7 @@ char_read false false false true e tags ch rest amp lt gt quot apostrophe =
     ap (λ (x : ℕ). in_tags tags x ∷ reads tags InText rest) (sym (eqb-true ch 34 quot))
 char_read false false false false true tags ch rest amp lt gt quot apostrophe =
     ap (λ (x : ℕ). in_tags tags x ∷ reads tags InText rest) (sym (eqb-true ch 39 apostrophe))
-char_read false false false false false tags ch rest amp lt gt quot apostrophe =
-    let read : CharInTags = record { ch = ch; tags = tags } in
-    ap (λ (t : Bool). if t then reads tags (InTag []) rest else if nat_eq ch 38 then reads tags (InEscape []) rest else (read ∷ reads tags InText rest)) lt
-    ∙ ap (λ (t : Bool). if t then reads tags (InEscape []) rest else (read ∷ reads tags InText rest)) amp
+char_read false false false false false tags ch rest amp lt gt quot apostrophe = grind (arith, common_steps)
 
 -- what has no quote stands before the quote
 before_quote : (text rest : List ℕ) → lacks 34 text ≡ true → quoted (text ++ 34 ∷ rest) ≡ text
@@ -58,9 +55,7 @@ no_escapes (c ∷ cs) none =
 -- what was escaped reads as it was
 escaped_undone : (text : List ℕ) → unescaped None (escaped text) ≡ text
 escaped_undone [] = refl
-escaped_undone (ch ∷ text) =
-    undone (nat_eq ch 38) (nat_eq ch 60) (nat_eq ch 62) (nat_eq ch 34) (nat_eq ch 39) ch (escaped text) refl refl refl refl refl
-    ∙ ap (λ (t : List ℕ). ch ∷ t) (escaped_undone text)
+escaped_undone (ch ∷ text) = grind (arith, common_steps, undone, escaped_undone text)
 
 lacks_quote : (a b c d e : Bool) (ch : ℕ) → nat_eq ch 34 ≡ d → lacks 34 (escape_by a b c d e ch) ≡ true
 lacks_quote true b c d e ch is = refl
@@ -72,22 +67,16 @@ lacks_quote false false false false false ch is = ap (λ (t : Bool). not t && tr
 
 escaped_lacks_quote : (text : List ℕ) → lacks 34 (escaped text) ≡ true
 escaped_lacks_quote [] = refl
-escaped_lacks_quote (ch ∷ text) =
-    lacks-append 34 (escape ch) (escaped text) (lacks_quote (nat_eq ch 38) (nat_eq ch 60) (nat_eq ch 62) (nat_eq ch 34) (nat_eq ch 39) ch refl)
-    (escaped_lacks_quote text)
+escaped_lacks_quote (ch ∷ text) = grind (arith, common_steps, lacks-append, lacks_quote, escaped_lacks_quote text)
 
 -- after the tag that begins a class, or a link, that stands open
 class_opened : (tags : InTags) (class : List ℕ) → lacks 34 class ≡ true → lacks 38 class ≡ true
     → after_tag tags (codes "span class=\"" ++ (class ++ codes "\"")) ≡ record tags { class = class }
-class_opened tags class no_quote no_escape =
-    ap (λ (v : List ℕ). (let now : InTags = record tags { class = v } in now))
-    (ap (unescaped None) (before_quote class [] no_quote) ∙ no_escapes class no_escape)
+class_opened tags class no_quote no_escape = grind (arith, common_steps, before_quote, no_escapes)
 
 link_opened : (tags : InTags) (address : List ℕ)
     → after_tag tags (codes "a href=\"" ++ (escaped address ++ codes "\"")) ≡ record tags { address = address }
-link_opened tags address =
-    ap (λ (v : List ℕ). (let now : InTags = record tags { address = v } in now))
-    (ap (unescaped None) (before_quote (escaped address) [] (escaped_lacks_quote address)) ∙ escaped_undone address)
+link_opened tags address = grind (arith, common_steps, before_quote, escaped_lacks_quote, escaped_undone)
 
 no_chars : chars [] ≡ []
 unfolding chars
@@ -96,9 +85,7 @@ no_chars = refl
 -- a tag that begins with this and goes on so is read, and what stands open then is read on
 tag_passed : (tags : InTags) (head body rest : List ℕ) → lacks 62 head ≡ true → lacks 62 body ≡ true
     → reads tags InText (((60 ∷ head) ++ (body ++ codes "\">")) ++ rest) ≡ reads (after_tag tags (head ++ (body ++ codes "\""))) InText rest
-tag_passed tags head body rest in_head in_body =
-    ap (reads tags InText) (tag_text head body rest)
-    ∙ tag_read tags [] (head ++ (body ++ codes "\"")) rest (lacks-append 62 head (body ++ codes "\"") in_head (lacks-append 62 body (codes "\"") in_body refl))
+tag_passed tags head body rest in_head in_body = grind (arith, common_steps, tag_text, tag_read, lacks-append)
 
 -- what is read of the text of some pieces: the characters of the pieces, each with the class and the address that are open there
 pub pieces_read : (look : HtmlLook) (ps : List HtmlPiece) → list_all is_made ps ≡ true
@@ -136,6 +123,4 @@ pieces_read look (AnchorEnd ∷ ps) made =
 
 -- what is read of the text of pieces at whose beginning nothing is open
 pub html_reads_pieces : (ps : List HtmlPiece) → list_all is_made ps ≡ true → html_reads (html_text ps) ≡ map as_read (chars_read plain_look ps)
-html_reads_pieces ps made =
-    ap (λ (none : List ℕ). (let tags : InTags = record { class = none; address = none } in reads tags InText (html_text ps))) (sym no_chars)
-    ∙ pieces_read plain_look ps made
+html_reads_pieces ps made = grind (arith, common_steps, no_chars, pieces_read plain_look ps made, made)

@@ -1,18 +1,11 @@
 -- A row that begins, and grows by spaces and by words.
-use Rattle.snippet_grid.proofs.Common.{◌≡◌, ℕ, zero, suc, List, [], ◌∷◌, ◌++◌, map, replicate, None, Some, refl, sym, ap, ◌∙◌, subst, append_assoc, append-nil}
-use Rattle.snippet_grid.proofs.Common.{option_copied, string_bytes, linked, AddsCells, IsBegun, IsPrinted, PrintedRow, PrintsCells, cells_alike, style_at}
-use Rattle.snippet_grid.proofs.Common.{Cell, SPACE, text_cells, ElementStyle, NoStyle, LevelInner, Stylesheet}
+use Rattle.snippet_grid.proofs.Common.{common_steps, arith, ◌≡◌, ℕ, zero, suc, List, [], ◌∷◌, ◌++◌, map, replicate, None, Some, refl, ap, ◌∙◌, subst}
+use Rattle.snippet_grid.proofs.Common.{append_assoc, string_bytes, linked, AddsCells, IsBegun, IsPrinted, PrintedRow, cells_alike, Cell, SPACE, text_cells}
+use Rattle.snippet_grid.proofs.Common.{ElementStyle, NoStyle, LevelInner, Stylesheet}
 
 -- no cell is printed of a row that begins
 pub none_printed : (sheet : Stylesheet) (level : LevelInner) (row : PrintedRow) → IsBegun sheet level row → IsPrinted [] (string_bytes row.text) row
-none_printed sheet level row begun =
-    let codes = row.codes.now in
-    record {
-      goes = λ rest more prints.
-          let styled = subst (λ place. PrintsCells codes row.level (Some (style_at codes place)) (option_copied row.last.link) rest more) begun.plain prints in
-          let bare = subst (λ link. PrintsCells codes row.level (Some codes.none) link rest more) (ap option_copied begun.unlinked) styled in
-          record { pieces = rest; text_is = refl; prints = bare };
-    }
+none_printed sheet level row begun = grind (arith, common_steps, row.level, row.last.link, begun.plain, row.codes.now.none, begun.unlinked)
 
 -- spaces as cells
 pub spaces_alike : (n : ℕ) → cells_alike NoStyle None (replicate n 32) ≡ replicate n SPACE
@@ -27,12 +20,7 @@ linked_alike role url (ch ∷ word) =
 
 -- no cells were added
 pub adds_none : (row : PrintedRow) → AddsCells row row []
-adds_none row =
-    record {
-      sheet = refl;
-      level = refl;
-      printed = λ cells old printed. subst (λ (done : List Cell). IsPrinted done old row) (sym (append-nil cells)) printed;
-    }
+adds_none row = grind (arith, common_steps)
 
 -- cells were added, and then others
 pub adds_more : (start before after : PrintedRow) (some more : List Cell) → AddsCells before after more → AddsCells start before some

@@ -1,10 +1,9 @@
 -- What becomes of the runs that a run touches: what the first holds before it, the run, and what the last holds after.
-use Rattle.snippet_grid.proofs.Common.{◌≡◌, ℕ, suc, ◌+◌, ◌-◌, ◌<◌, ◌≤◌, List, [], ◌∷◌, ◌++◌, length, take, drop, set}
-use Rattle.snippet_grid.proofs.Common.{get_or, refl, sym, ap, ◌∙◌, arith, false, inl, inr, subst, All, if◌then◌else◌, places, same_lists, take_all}
-use Rattle.snippet_grid.proofs.Common.{take_more, get_or_default, get_or-take, get_or-drop, get_or-set_same, get_or-set_other, length-set, length-drop}
-use Rattle.snippet_grid.proofs.Common.{All-cons, All-nil, cases_lt, cases_eq, true≢false, Cell, SPACE, IsRun, IsRow, IsPart, BeginsWith, ShowsMore, AddsRun}
-use Rattle.snippet_grid.proofs.Common.{EndsBy, Precedes, Differ, Continues, Touches, IsClear, IsJoined, AreTouchedRuns, IsFront, IsBack, ArePieces, IsPut}
-use Rattle.snippet_grid.proofs.Common.{run_chars, run_cell, holds, painted_over, shown_cell, Run}
+use Rattle.snippet_grid.proofs.Common.{common_steps, ◌≡◌, ℕ, suc, ◌+◌, ◌-◌, ◌<◌, ◌≤◌, List, [], ◌∷◌, ◌++◌, length, take, drop, set, get_or, refl, sym, ap, ◌∙◌}
+use Rattle.snippet_grid.proofs.Common.{arith, false, inl, inr, subst, All, if◌then◌else◌, same_lists, take_all, take_more, get_or_default, get_or-take}
+use Rattle.snippet_grid.proofs.Common.{get_or-drop, length-drop, All-cons, All-nil, cases_lt, cases_eq, true≢false, Cell, SPACE, IsRun, IsRow, IsPart}
+use Rattle.snippet_grid.proofs.Common.{BeginsWith, ShowsMore, AddsRun, EndsBy, Precedes, Differ, Continues, Touches, IsClear, IsJoined, AreTouchedRuns, IsFront}
+use Rattle.snippet_grid.proofs.Common.{IsBack, ArePieces, IsPut, run_chars, run_cell, holds, painted_over, shown_cell, Run}
 use Rattle.snippet_grid.proofs.ShownLemmas.{painted-append, run_cell-grown, ShowsMore-joined, AddsRun-joined, pick, cell_same, holds_inside, holds_elsewhere}
 use Rattle.snippet_grid.proofs.ShownLemmas.{AddsRun-pushed, ShowsMore-pushed, holds_before, holds-after}
 use Rattle.snippet_grid.proofs.CopyLemmas.{shown_past}
@@ -38,50 +37,21 @@ part_shows text run part from to r c d cut low high same =
     ]
 
 unheld_before : (r c : ℕ) (runs : List Run) → All (λ x. x.row ≡ r → c < x.cell) runs → All (λ x. holds x r c ≡ false) runs
-unheld_before r c runs all =
-    λ k d within. elim (cases_eq (get_or runs k d).row r) [
-      | inl here ↦ holds_before (get_or runs k d) r c (all k d within here)
-      | inr other ↦ holds_elsewhere (get_or runs k d) r c other
-    ]
+unheld_before r c runs all = grind (arith, common_steps, holds_before, holds_elsewhere)
 
 unheld_after : (r c : ℕ) (runs : List Run) → All (λ x. x.row ≡ r → x.cell + x.count ≤ c) runs → All (λ x. holds x r c ≡ false) runs
-unheld_after r c runs all =
-    λ k d within. elim (cases_eq (get_or runs k d).row r) [
-      | inl here ↦ holds-after (get_or runs k d) r c (all k d within here)
-      | inr other ↦ holds_elsewhere (get_or runs k d) r c other
-    ]
+unheld_after r c runs all = grind (arith, common_steps, holds-after, holds_elsewhere)
 
 -- no runs are a row
 pub IsRow-none : (text : List ℕ) (row : ℕ) → IsRow text row []
-IsRow-none text row =
-    record {
-      are_runs = λ k d within. absurd (omega arith);
-      in_row = λ k d within. absurd (omega arith);
-      ordered = λ i j d below within. absurd (omega arith);
-      apart = λ i j d below within. absurd (omega arith);
-    }
+IsRow-none text row = grind (arith, common_steps)
 
 IsRow-one : (text : List ℕ) (row : ℕ) (run : Run) → IsRun text run → run.row ≡ row → IsRow text row (run ∷ [])
-IsRow-one text row run is here =
-    record {
-      are_runs = All-cons (λ x. IsRun text x) run [] is (All-nil _);
-      in_row = All-cons (λ x. x.row ≡ row) run [] here (All-nil _);
-      ordered = λ i j d below within. absurd (omega arith);
-      apart = λ i j d below within. absurd (omega arith);
-    }
+IsRow-one text row run is here = grind (arith, common_steps, All-cons, All-nil)
 
 -- nothing stands before the run
 pub IsFront-none : (text : List ℕ) (runs : List Run) (run : Run) → All (λ x. run.cell ≤ x.cell) runs → IsFront text runs run []
-IsFront-none text runs run all =
-    record {
-      is_row = IsRow-none text run.row;
-      shows = λ r c before. sym (painted_unheld text r c SPACE runs (unheld_before r c runs (λ k d within here. omega (arith, all k d within))));
-      ends = All-nil _;
-      follows = λ x some. All-nil _;
-      apart_follows = λ x some. All-nil _;
-      few = omega arith;
-      one = omega arith;
-    }
+IsFront-none text runs run all = grind (arith, common_steps, IsRow-none, run.row, painted_unheld, unheld_before, All-nil)
 
 -- where the first run begins after a cell, each does
 pub begin_after : (text : List ℕ) (run : Run) (runs : List Run) (n : ℕ) (d : Run) → AreTouchedRuns text run runs → n ≤ (get_or runs 0 d).cell
@@ -148,17 +118,7 @@ IsFront-some text (x ∷ runs) run first left is some read before cut =
 
 -- nothing stands after the run
 pub IsBack-none : (text : List ℕ) (runs : List Run) (run : Run) → All (λ x. x.cell + x.count ≤ run.cell + run.count) runs → IsBack text runs run []
-IsBack-none text runs run all =
-    record {
-      is_row = IsRow-none text run.row;
-      shows = λ r c past. sym (painted_unheld text r c SPACE runs (unheld_after r c runs (λ k d within here. omega (arith, all k d within))));
-      starts = All-nil _;
-      ends = λ n some. All-nil _;
-      after = λ y some. All-nil _;
-      apart_after = λ y some. All-nil _;
-      few = omega arith;
-      one = omega arith;
-    }
+IsBack-none text runs run all = grind (arith, common_steps, IsRow-none, run.row, painted_unheld, unheld_after, All-nil)
 
 -- the last run ends after the run
 pub IsBack-some : (text : List ℕ) (runs : List Run) (run last right : Run) (i from to : ℕ) → AreTouchedRuns text run runs → i + 1 ≡ length runs
@@ -299,10 +259,7 @@ ArePieces-two old new runs front pieces run touched is is_front is_back shows ar
 -- where nothing is touched, the run alone
 pub ArePieces-alone : (text : List ℕ) (run : Run) → IsRun text run → ArePieces text text [] (run ∷ []) run
 ArePieces-alone text run is =
-    let touched : AreTouchedRuns text run [] = record { is_row = IsRow-none text run.row; touch = All-nil _ } in
-    ArePieces-two text text [] [] (run ∷ []) run touched is (IsFront-none text [] run (All-nil _)) (IsBack-none text [] run (All-nil _))
-    (ShowsMore-pushed text [] (run ∷ []) run refl) (All-cons (λ x. IsRun text x) run [] is (All-nil _))
-    (AddsRun-pushed [] (run ∷ []) run (All-nil _) (λ d some. absurd (omega arith)) refl)
+    grind (arith, common_steps, IsRow-none, run.row, All-nil, ArePieces-two, IsFront-none, IsBack-none, ShowsMore-pushed, All-cons, AddsRun-pushed)
 
 -- with what the last run holds after it
 pub ArePieces-three : (t0 t1 t2 : List ℕ) (runs front begun pieces : List Run) (run right : Run) → AreTouchedRuns t0 run runs → IsRun t0 run
@@ -331,16 +288,7 @@ ArePieces-three t0 t1 t2 runs front begun pieces run right touched is is_front i
 
 -- all runs end before the run
 IsFront-all : (text : List ℕ) (runs : List Run) (run : Run) → IsRow text run.row runs → EndsBy run.cell runs → length runs ≤ 1 → IsFront text runs run runs
-IsFront-all text runs run is_row ends one =
-    record {
-      is_row = is_row;
-      shows = λ r c before. refl;
-      ends = ends;
-      follows = λ x all. all;
-      apart_follows = λ x all. all;
-      few = omega arith;
-      one = one;
-    }
+IsFront-all text runs run is_row ends one = grind (arith, common_steps)
 
 -- one run is touched, and the run goes on where it ends: it is made longer
 ArePieces-one : (old new : List ℕ) (first run whole : Run) → BeginsWith old new → AreTouchedRuns old run (first ∷ []) → IsRun old run → Continues first run
@@ -355,9 +303,7 @@ ArePieces-one old new first run whole grows touched is goes joined =
     (All-cons (λ x. IsRun new x) whole [] joined.is_run (All-nil _)) (AddsRun-joined old new runs 0 first run whole refl refl goes joined)
 
 set_split : {X : Type 0} (xs : List X) (start end : ℕ) (y : X) → end ≡ start + 1 → end ≤ length xs → set xs start y ≡ take start xs ++ (y ∷ []) ++ drop end xs
-set_split xs start end y one within =
-    same_lists _ _ (grind (arith, places, length-set xs start y)) (λ k d h.
-    grind (arith, places, length-set xs start y, cases_lt k start, cases_eq k start, get_or-set_other xs start k y d, get_or-set_same xs start y d))
+set_split xs start end y one within = grind (arith, common_steps, same_lists)
 
 -- what is put where it makes a single run longer
 pub IsPut-one : (old new : List ℕ) (runs : List Run) (run first whole : Run) (start end : ℕ) → end - start ≡ 1 → end ≤ length runs

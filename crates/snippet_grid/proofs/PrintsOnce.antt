@@ -1,7 +1,7 @@
 -- A grid has one printed text under a sheet.
-use Rattle.snippet_grid.proofs.Common.{◌≡◌, ℕ, List, [], ◌∷◌, ◌++◌, Option, None, Some, refl, sym, ap, ◌∙◌, inl, inr, subst, flat_map}
-use Rattle.snippet_grid.proofs.Common.{Cell, Piece, Char, Opening, Reset, LinkTo, LinkEnd, piece_text, next_style, next_link, PrintsCells, PrintsRow, Prints}
-use Rattle.snippet_grid.proofs.Common.{PrintsFurther, PrintsRows, LevelInner, Style, Stylesheet}
+use Rattle.snippet_grid.proofs.Common.{common_steps, arith, ◌≡◌, ℕ, List, [], ◌∷◌, ◌++◌, Option, None, Some, refl, sym, ap, ◌∙◌, inl, inr, subst, Cell, Piece}
+use Rattle.snippet_grid.proofs.Common.{Char, Opening, Reset, LinkTo, LinkEnd, next_style, next_link, PrintsCells, PrintsRow, Prints, PrintsFurther, PrintsRows}
+use Rattle.snippet_grid.proofs.Common.{LevelInner, Style, Stylesheet}
 use Rattle.snippet_grid.proofs.HtmlLaws.{PrintsPieces-from_prints}
 use Rattle.snippet_grid.proofs.WeaveLemmas.{Url, none≢some, some_same}
 use Rattle.snippet_grid.proofs.WovenLemmas.{nil≢cons}
@@ -65,8 +65,7 @@ cells_once sheet level style link (Reset old ∷ ps) (Char ch2 ∷ qs) cells (a_
 cells_once sheet level style link (Reset old ∷ ps) (Opening new2 ∷ qs) cells (a_style_is, _, _, _) (b_style_is, _, _) =
     absurd (none≢some (sym b_style_is ∙ a_style_is))
 cells_once sheet level style link (Reset old ∷ ps) (Reset old2 ∷ qs) cells (a_style, _, _, a_rest) (b_style, _, _, b_rest) =
-    ap (λ (s : Style). Reset s ∷ ps) (some_same (sym a_style ∙ b_style))
-    ∙ ap (λ (ts : List Piece). Reset old2 ∷ ts) (cells_once sheet level None link ps qs cells a_rest b_rest)
+    grind (arith, common_steps, some_same, cells_once sheet level None link ps qs cells a_rest b_rest)
 cells_once sheet level style link (Reset old ∷ ps) (LinkTo url2 ∷ qs) cells (a_style_is, a_next, _, _) (_, _, b_style_is, _) =
     absurd (a_next (sym b_style_is ∙ a_style_is))
 cells_once sheet level style link (Reset old ∷ ps) (LinkEnd ∷ qs) cells (_, _, a_ended, _) (b_there, b_differs, _, _) =
@@ -107,8 +106,7 @@ further_once : (sheet : Stylesheet) (level : LevelInner) (ps qs : List Piece) (r
     → PrintsFurther sheet level qs rows → ps ≡ qs
 further_once sheet level ps qs [] a b = a ∙ sym b
 further_once sheet level ps qs (row ∷ rows) (first, others, a_is, a, a_below) (first2, others2, b_is, b, b_below) =
-    a_is ∙ ap (λ (ts : List Piece). Char 10 ∷ ts) (rows_once sheet level first first2 others others2 row a b
-    (further_once sheet level others others2 rows a_below b_below)) ∙ sym b_is
+    grind (arith, common_steps, rows_once, further_once sheet level others others2 rows a_below b_below)
 
 pieces_once : (sheet : Stylesheet) (level : LevelInner) (ps qs : List Piece) (rows : List (List Cell)) → PrintsRows sheet level ps rows
     → PrintsRows sheet level qs rows → ps ≡ qs
@@ -120,6 +118,4 @@ pieces_once sheet level ps qs (row ∷ rows) (first, others, a_is, a, a_below) (
 pub Prints-unique : (sheet : Stylesheet) (level : LevelInner) (rows : List (List Cell)) (text other : List ℕ) → Prints sheet level rows text
     → Prints sheet level rows other → other ≡ text
 Prints-unique sheet level rows text other one two =
-    let a = PrintsPieces-from_prints sheet level rows text one in
-    let b = PrintsPieces-from_prints sheet level rows other two in
-    b.text_is ∙ ap (flat_map piece_text) (pieces_once sheet level b.pieces a.pieces rows b.prints a.prints) ∙ sym a.text_is
+    grind (arith, common_steps, PrintsPieces-from_prints sheet level rows text one, one, PrintsPieces-from_prints sheet level rows other two, two, pieces_once)

@@ -1,9 +1,8 @@
 -- A run that is put over others.
-use Rattle.snippet_grid.proofs.Common.{◌≡◌, ℕ, ◌+◌, ◌-◌, ◌<◌, ◌≤◌, ◌^◌, List, [], ◌∷◌, ◌++◌, length, take, drop, get_or}
-use Rattle.snippet_grid.proofs.Common.{refl, sym, ap, ◌∙◌, arith, inl, inr, subst, All, places, same_lists, get_or_default, get_or_append_left}
-use Rattle.snippet_grid.proofs.Common.{get_or-append_right, get_or-take, get_or-drop, length-append, length-take, length-drop, All-take, All-drop, All-append}
-use Rattle.snippet_grid.proofs.Common.{cases_lt, cases_eq, AllPairs, Cell, SPACE, IsRun, BeginsWith, AddsRun, IsRow, EndsBy, FitIn, Precedes, Differ, run_cell}
-use Rattle.snippet_grid.proofs.Common.{painted_over, shown_cell, Run, ◌≢◌, RowAt}
+use Rattle.snippet_grid.proofs.Common.{common_steps, ◌≡◌, ℕ, ◌+◌, ◌-◌, ◌<◌, ◌≤◌, ◌^◌, List, [], ◌∷◌, ◌++◌, length, take, drop, get_or, refl, sym, ap, ◌∙◌}
+use Rattle.snippet_grid.proofs.Common.{arith, inl, inr, subst, All, places, same_lists, get_or_default, get_or-append_right, get_or-take, get_or-drop}
+use Rattle.snippet_grid.proofs.Common.{length-take, length-drop, All-take, All-drop, All-append, cases_lt, cases_eq, AllPairs, Cell, IsRun, BeginsWith, AddsRun}
+use Rattle.snippet_grid.proofs.Common.{IsRow, EndsBy, FitIn, Precedes, Differ, run_cell, painted_over, shown_cell, Run, ◌≢◌, RowAt}
 use Rattle.snippet_grid.proofs.RunLemmas.{stretch, below_take, get_or-stretch}
 use Rattle.snippet_grid.proofs.ShownLemmas.{painted-append, All-tail, All-IsRun-grown, pick, holds_elsewhere}
 
@@ -16,14 +15,7 @@ abbrev pub AreApart : List Run → Type 0
 AreApart runs = AllPairs (λ a b. Differ a b) runs
 
 Precedes-trans : (a b c : Run) → Precedes a b → Precedes b c → Precedes a c
-Precedes-trans a b c first second =
-    record {
-      rows = omega (arith, first.rows, second.rows);
-      cells = λ same.
-          let one : a.row ≡ b.row = omega (arith, first.rows, second.rows, same) in
-          let two : b.row ≡ c.row = omega (arith, first.rows, second.rows, same) in
-          omega (arith, first.cells one, second.cells two);
-    }
+Precedes-trans a b c first second = grind (arith, common_steps, first.rows, second.rows, a.row, b.row, first.cells, second.cells)
 
 -- each run ends before the greatest cell
 abbrev pub AllFit : List Run → Type 0
@@ -86,35 +78,17 @@ split_three xs i j low high =
 -- what three parts show, where the outer two hold nothing of the row
 pub painted_middle : (text : List ℕ) (r c : ℕ) (xs ys zs : List Run) → All (λ x. x.row ≡ r → ⊥) xs → All (λ x. x.row ≡ r → ⊥) zs
     → shown_cell text (xs ++ ys ++ zs) r c ≡ shown_cell text ys r c
-painted_middle text r c xs ys zs left right =
-    painted-append text r c SPACE (xs ++ ys) zs ∙ painted_elsewhere text r c (painted_over text r c SPACE (xs ++ ys)) zs right
-    ∙ painted-append text r c SPACE xs ys ∙ ap (λ (d : Cell). painted_over text r c d ys) (painted_elsewhere text r c SPACE xs left)
+painted_middle text r c xs ys zs left right = grind (arith, common_steps, painted-append, painted_elsewhere)
 
 -- and where the middle holds nothing of the row
 pub painted_outer : (text : List ℕ) (r c : ℕ) (xs ys zs : List Run) → All (λ x. x.row ≡ r → ⊥) ys
     → shown_cell text (xs ++ ys ++ zs) r c ≡ painted_over text r c (shown_cell text xs r c) zs
-painted_outer text r c xs ys zs none =
-    painted-append text r c SPACE (xs ++ ys) zs ∙ ap (λ (d : Cell). painted_over text r c d zs)
-    (painted-append text r c SPACE xs ys ∙ painted_elsewhere text r c (shown_cell text xs r c) ys none)
+painted_outer text r c xs ys zs none = grind (arith, common_steps, painted-append, painted_elsewhere)
 
 -- what holds of the pairs of two lists and of each pair across holds of the pairs of both together
 pub AllPairs-append : {X : Type 0} (R : X → X → Type 0) (xs ys : List X) → AllPairs R xs → AllPairs R ys
     → ((i j : ℕ) (d : X) → i < length xs → j < length ys → R (get_or xs i d) (get_or ys j d)) → AllPairs R (xs ++ ys)
-AllPairs-append R xs ys left right across =
-    λ i j d below within.
-    elim (cases_lt j (length xs)) [
-      | inl j_left ↦ subst (λ b. R (get_or (xs ++ ys) i d) b) (sym (get_or_append_left xs ys d j j_left))
-          (subst (λ a. R a (get_or xs j d)) (sym (get_or_append_left xs ys d i (omega arith))) (left i j d below j_left))
-      | inr j_right ↦
-          let j_is = get_or-append_right xs ys (length xs) j d refl j_right in
-          let j_within : j - length xs < length ys = omega (arith, length-append xs ys) in
-          subst (λ b. R (get_or (xs ++ ys) i d) b) (sym j_is) (elim (cases_lt i (length xs)) [
-            | inl i_left ↦ subst (λ a. R a (get_or ys (j - length xs) d)) (sym (get_or_append_left xs ys d i i_left))
-                (across i (j - length xs) d i_left j_within)
-            | inr i_right ↦ subst (λ a. R a (get_or ys (j - length xs) d)) (sym (get_or-append_right xs ys (length xs) i d refl i_right))
-                (right (i - length xs) (j - length xs) d (omega arith) j_within)
-          ])
-    ]
+AllPairs-append R xs ys left right across = grind (arith, common_steps, get_or-append_right)
 
 -- the runs of one row
 pub IsRow-stretch : (text : List ℕ) (row : ℕ) (runs : List Run) (start end : ℕ) → start ≤ end → end ≤ length runs → All (λ x. IsRun text x) runs
@@ -190,19 +164,11 @@ ordered-put new runs now fresh row start end low high above below ordered is_row
 
 -- a part of the front or of the back of a list
 pub AllPairs-take : {X : Type 0} (R : X → X → Type 0) (n : ℕ) (xs : List X) → AllPairs R xs → AllPairs R (take n xs)
-AllPairs-take R n xs pairs =
-    λ i j d before within.
-    let short : j < n = below_take xs n j within in
-    let long : j < length xs = omega (arith, within, length-take n xs) in
-    subst (λ z. R (get_or (take n xs) i d) z) (sym (get_or-take n xs j d short))
-    (subst (λ z. R z (get_or xs j d)) (sym (get_or-take n xs i d (omega arith))) (pairs i j d before long))
+AllPairs-take R n xs pairs = grind (arith, common_steps, below_take)
 
 -- what holds of the pairs of a list holds of those of its rest
 pub AllPairs-drop : {X : Type 0} (R : X → X → Type 0) (n : ℕ) (xs : List X) → AllPairs R xs → AllPairs R (drop n xs)
-AllPairs-drop R n xs pairs =
-    λ i j d before within.
-    subst (λ z. R (get_or (drop n xs) i d) z) (sym (get_or-drop n xs j d))
-    (subst (λ z. R z (get_or xs (n + j) d)) (sym (get_or-drop n xs i d)) (pairs (n + i) (n + j) d (omega arith) (omega (arith, length-drop n xs))))
+AllPairs-drop R n xs pairs = grind (arith, common_steps)
 
 -- runs that touch differ still
 pub apart-put : (new : List ℕ) (runs now fresh : List Run) (row start end : ℕ) → start ≤ end → end ≤ length runs
@@ -247,22 +213,13 @@ fit-put widths new runs now fresh row start end low high inside fit is_row ends 
 -- The runs of a row that others took the place of.
 -- the runs above a row hold none of its cells, nor do those below it
 no_left : (runs : List Run) (row start end : ℕ) → RowAt runs row start end → All (λ x. x.row ≡ row → ⊥) (take start runs)
-no_left runs row start end at =
-    λ k d within same.
-    let short : k < start = below_take runs start k within in
-    omega (arith, at.above k d short, ap (λ (x : Run). x.row) (get_or-take start runs k d short))
+no_left runs row start end at = grind (arith, common_steps, below_take, at.above)
 
 no_right : (runs : List Run) (row start end : ℕ) → RowAt runs row start end → All (λ x. x.row ≡ row → ⊥) (drop end runs)
-no_right runs row start end at =
-    λ k d within same.
-    omega (arith, at.below (end + k) d (omega arith) (omega (arith, length-drop end runs)), ap (λ (x : Run). x.row) (get_or-drop end runs k d))
+no_right runs row start end at = grind (arith, common_steps, at.below)
 
 no_middle : (runs : List Run) (row start end r : ℕ) → RowAt runs row start end → r ≢ row → All (λ x. x.row ≡ r → ⊥) (stretch runs start end)
-no_middle runs row start end r at other =
-    λ k d within same.
-    let short : k < end - start = below_take (drop start runs) (end - start) k within in
-    let read : get_or (stretch runs start end) k d ≡ get_or runs (start + k) d = get_or-stretch runs start end k d within in
-    other (sym same ∙ ap (λ (x : Run). x.row) read ∙ at.inside (start + k) d (omega arith) (omega arith))
+no_middle runs row start end r at other = grind (arith, common_steps, below_take, get_or-stretch)
 
 -- a row shows what its own runs show
 pub row_shows : (text : List ℕ) (runs : List Run) (row start end c : ℕ) → RowAt runs row start end
@@ -274,9 +231,7 @@ row_shows text runs row start end c at =
 -- and after others took their place, what these show
 pub put_shows : (text : List ℕ) (runs now fresh : List Run) (row start end c : ℕ) → RowAt runs row start end → now ≡ take start runs ++ fresh ++ drop end runs
     → shown_cell text now row c ≡ shown_cell text fresh row c
-put_shows text runs now fresh row start end c at is =
-    ap (λ (l : List Run). shown_cell text l row c) is ∙ painted_middle text row c (take start runs) fresh (drop end runs) (no_left runs row start end at)
-    (no_right runs row start end at)
+put_shows text runs now fresh row start end c at is = grind (arith, common_steps, painted_middle, no_left, no_right)
 
 -- the other rows stay
 pub put_others : (text : List ℕ) (runs now fresh : List Run) (row start end r c : ℕ) → RowAt runs row start end → All (λ x. x.row ≡ row) fresh
@@ -290,18 +245,7 @@ put_others text runs now fresh row start end r c at in_row is other =
 -- as many runs are added as are put in, and as many are gone as stood there
 pub put_length : (runs now fresh : List Run) (row start end : ℕ) → RowAt runs row start end → now ≡ take start runs ++ fresh ++ drop end runs
     → length now + (end - start) ≡ length runs + length fresh
-put_length runs now fresh row start end at is =
-    omega (
-      arith,
-      at.ordered,
-      at.within,
-      ap length is,
-      length-append (take start runs ++ fresh) (drop end runs),
-      length-append
-          (take start runs) fresh,
-      length-take start runs,
-      length-drop end runs,
-    )
+put_length runs now fresh row start end at is = grind (arith, common_steps, at.ordered, at.within)
 
 -- the bounds of a row hold of the same runs under another name
 pub RowAt-read : (runs was : List Run) (row start end : ℕ) → was ≡ runs → RowAt was row start end → RowAt runs row start end
@@ -319,12 +263,4 @@ begins_fit text runs are = λ k d within. omega (arith, (are k d within).fits)
 
 -- no run of a row reaches past the row's end
 pub row_ends : (w : List ℕ) (runs : List Run) (row start end : ℕ) → RowAt runs row start end → FitIn w runs → EndsBy (get_or w row 0) (stretch runs start end)
-row_ends w runs row start end at fit =
-    λ k d within.
-    let short : k < end - start = below_take (drop start runs) (end - start) k within in
-    let read : get_or (stretch runs start end) k d ≡ get_or runs (start + k) d = get_or-stretch runs start end k d within in
-    let there : start + k < end = omega arith in
-    let x = get_or runs (start + k) d in
-    let row_is : x.row ≡ row = at.inside (start + k) d (omega arith) there in
-    let here : x.cell + x.count ≤ get_or w row 0 = omega (arith, fit (start + k) d (omega (arith, at.within)), ap (λ r. get_or w r 0) row_is) in
-    subst (λ (z : Run). z.cell + z.count ≤ get_or w row 0) (sym read) here
+row_ends w runs row start end at fit = grind (arith, common_steps, below_take, get_or-stretch, at.within)

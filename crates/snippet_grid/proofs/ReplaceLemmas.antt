@@ -1,12 +1,11 @@
 -- Lemmas on grids in which a stretch of a row gave its place to other cells.
-use Rattle.snippet_grid.proofs.Common.{cells_alike}
-use Rattle.snippet_grid.proofs.Common.{◌≡◌, ◌≢◌, ℕ, ◌+◌, ◌-◌, ◌<◌, ◌≤◌, max, min, List, [], ◌++◌, length, map, take, drop}
-use Rattle.snippet_grid.proofs.Common.{set, get_or, sym, ap, ◌∙◌, arith, inl, inr, subst, places, same_lists, get_or-map, get_or_past, get_or-set_same}
+use Rattle.snippet_grid.proofs.Common.{common_steps, cells_alike, ◌≡◌, ◌≢◌, ℕ, ◌+◌, ◌-◌, ◌<◌, ◌≤◌, max, min, List, [], ◌++◌, length, map, take, drop, set}
+use Rattle.snippet_grid.proofs.Common.{get_or, sym, ap, ◌∙◌, arith, inl, inr, subst, places, same_lists, get_or-map, get_or_past, get_or-set_same}
 use Rattle.snippet_grid.proofs.Common.{get_or-set_other, set-get_or, length-map, length-set, cases_lt, cases_eq, row_at, changed_within, cells_changed}
 use Rattle.snippet_grid.proofs.Common.{ChangesCells, Cell, SPACE, replaced_within, cells_replaced, ReplacesCells, ◌∷◌, replicate, refl, DecorStyle}
 use Rattle.snippet_grid.proofs.Common.{ElementStyle, LineNumber, text_cells, written, separator_of, separator_row, length-chars_le, written-nil, cells_written}
-use Rattle.snippet_grid.proofs.Common.{row_text, zero, suc, Option, Some, encode_utf8, encode_utf8_all, append_assoc, append-nil, replicate-append-replicate}
-use Rattle.snippet_grid.proofs.Common.{flat_map, opening, reset, PrintsStretch, Opening, Reset, piece_text, style_of, LevelInner, Style, Stylesheet}
+use Rattle.snippet_grid.proofs.Common.{row_text, zero, suc, Option, Some, encode_utf8, encode_utf8_all, append_assoc, replicate-append-replicate, flat_map}
+use Rattle.snippet_grid.proofs.Common.{opening, reset, PrintsStretch, Opening, Reset, piece_text, style_of, LevelInner, Style, Stylesheet}
 use Rattle.std.specs.List.{slice_index_or}
 use Rattle.std.proofs.Common.{chars}
 use Rattle.snippet_grid.proofs.GridShown.{cells_written_below, cells_written_last}
@@ -45,10 +44,7 @@ slice_index_or-changed_within_after f start end xs k d after = grind (arith, pla
 -- nothing is changed where the list has no element
 pub changed_within_none : {X : Type 0} (f : X → X) (start end : ℕ) (xs : List X) → min end (length xs) ≤ start → changed_within f start end xs ≡ xs
 changed_within_none f start end xs none =
-    same_lists _ _ (length-changed_within f start end xs) (λ k d h. elim (cases_lt k start) [
-      | inl before ↦ slice_index_or-changed_within_before f start end xs k d before
-      | inr not_before ↦ slice_index_or-changed_within_after f start end xs k d (omega (arith, h, length-changed_within f start end xs))
-    ])
+    grind (arith, common_steps, same_lists, length-changed_within, slice_index_or-changed_within_before, slice_index_or-changed_within_after)
 
 -- one element is changed
 pub changed_within_one : {X : Type 0} (f : X → X) (i : ℕ) (xs : List X) (d : X) → i < length xs
@@ -62,25 +58,12 @@ changed_within_one f i xs d within =
 -- the row that was changed
 pub row_at-cells_changed_same : (f : Cell → Cell) (rows : List (List Cell)) (row start end : ℕ)
     → row_at (cells_changed f rows row start end) row ≡ changed_within f start end (row_at rows row)
-row_at-cells_changed_same f rows row start end =
-    let change = changed_within f start end in
-    elim (cases_lt row (length rows)) [
-      | inl there ↦ slice_index_or-changed_within_inside change row (row + 1) rows row [] (omega arith) (omega arith) there
-      | inr past ↦
-          let no_cells : length (row_at rows row) ≡ 0 = ap length (get_or_past rows row [] past) in
-          ap (λ rs. row_at rs row) (changed_within_none change row (row + 1) rows (omega arith))
-          ∙ sym (changed_within_none f start end (row_at rows row) (omega arith))
-    ]
+row_at-cells_changed_same f rows row start end = grind (arith, common_steps, slice_index_or-changed_within_inside, get_or_past, changed_within_none)
 
 -- the other rows
 pub row_at-cells_changed_other : (f : Cell → Cell) (rows : List (List Cell)) (row start end : ℕ) (r : ℕ) → r ≢ row
     → row_at (cells_changed f rows row start end) r ≡ row_at rows r
-row_at-cells_changed_other f rows row start end r other =
-    let change = changed_within f start end in
-    elim (cases_lt r row) [
-      | inl above ↦ slice_index_or-changed_within_before change row (row + 1) rows r [] above
-      | inr below ↦ slice_index_or-changed_within_after change row (row + 1) rows r [] (omega arith)
-    ]
+row_at-cells_changed_other f rows row start end r other = grind (arith, common_steps, slice_index_or-changed_within_before, slice_index_or-changed_within_after)
 
 -- a grid with no cell there stays as it was
 pub cells_changed_none : (f : Cell → Cell) (rows : List (List Cell)) (row start end : ℕ) → min end (length (row_at rows row)) ≤ start
@@ -97,17 +80,16 @@ cells_changed_none f rows row start end none =
 pub ChangesCells-cells_changed : (f : Cell → Cell) (rows : List (List Cell)) (row start end : ℕ)
     → ChangesCells f rows (cells_changed f rows row start end) row start end
 ChangesCells-cells_changed f rows row start end =
-    let old = row_at rows row in
-    let same = row_at-cells_changed_same f rows row start end in
-    record {
-      inside = λ c from before within. ap (λ r. slice_index_or r c SPACE) same
-          ∙ slice_index_or-changed_within_inside f start end old c SPACE from before within;
-      before = λ c h. ap (λ r. slice_index_or r c SPACE) same ∙ slice_index_or-changed_within_before f start end old c SPACE h;
-      after = λ c h. ap (λ r. slice_index_or r c SPACE) same ∙ slice_index_or-changed_within_after f start end old c SPACE h;
-      others = row_at-cells_changed_other f rows row start end;
-      width = ap length same ∙ length-changed_within f start end old;
-      count = length-changed_within (changed_within f start end) row (row + 1) rows;
-    }
+    grind (
+      arith,
+      common_steps,
+      row_at-cells_changed_same,
+      slice_index_or-changed_within_inside,
+      slice_index_or-changed_within_before,
+      slice_index_or-changed_within_after,
+      row_at-cells_changed_other,
+      length-changed_within,
+    )
 
 -- the same of a grid that is known to be the one after the change
 pub ChangesCells-from_equal : (f : Cell → Cell) (old new : List (List Cell)) (row start end : ℕ) → new ≡ cells_changed f old row start end
@@ -135,27 +117,13 @@ replaced_past start end new xs past = grind arith
 pub row_at-cells_replaced_same : (rows : List (List Cell)) (row start end : ℕ) (cells : List Cell)
     → row_at (cells_replaced rows row start end cells) row ≡ replaced_within start end cells (row_at rows row)
 row_at-cells_replaced_same rows row start end cells =
-    let change = replaced_within start end cells in
-    elim (cases_lt row (length rows)) [
-      | inl there ↦ slice_index_or-changed_within_inside change row (row + 1) rows row [] (omega arith) (omega arith) there
-      | inr past ↦
-          let no_row : row_at rows row ≡ [] = get_or_past rows row [] past in
-          let kept : replaced_within start end cells (row_at rows row) ≡ row_at rows row = elim (cases_lt start end) [
-            | inl some ↦ replaced_past start end cells (row_at rows row) (omega (arith, ap length no_row))
-            | inr none ↦ replaced_empty start end cells (row_at rows row) none
-          ] in
-          ap (λ rs. row_at rs row) (changed_within_none change row (row + 1) rows (omega arith)) ∙ sym kept
-    ]
+    grind (arith, common_steps, slice_index_or-changed_within_inside, get_or_past, replaced_past, replaced_empty, changed_within_none)
 
 -- the other rows
 pub row_at-cells_replaced_other : (rows : List (List Cell)) (row start end : ℕ) (cells : List Cell) (r : ℕ) → r ≢ row
     → row_at (cells_replaced rows row start end cells) r ≡ row_at rows r
 row_at-cells_replaced_other rows row start end cells r other =
-    let change = replaced_within start end cells in
-    elim (cases_lt r row) [
-      | inl above ↦ slice_index_or-changed_within_before change row (row + 1) rows r [] above
-      | inr below ↦ slice_index_or-changed_within_after change row (row + 1) rows r [] (omega arith)
-    ]
+    grind (arith, common_steps, slice_index_or-changed_within_before, slice_index_or-changed_within_after)
 
 -- a grid whose row keeps its cells stays as it was
 cells_replaced_kept : (rows : List (List Cell)) (row start end : ℕ) (cells : List Cell) → replaced_within start end cells (row_at rows row) ≡ row_at rows row
@@ -181,14 +149,7 @@ cells_replaced_past rows row start end cells past =
 -- the cells before the stretch
 replaced_before : (start end : ℕ) (new xs : List Cell) (c : ℕ) → c < start
     → slice_index_or (replaced_within start end new xs) c SPACE ≡ slice_index_or xs c SPACE
-replaced_before start end new xs c before =
-    elim (cases_lt start end) [
-      | inl some ↦ elim (cases_lt (length xs) end) [
-        | inl past ↦ ap (λ ys. slice_index_or ys c SPACE) (replaced_past start end new xs past)
-        | inr within ↦ ap (λ ys. slice_index_or ys c SPACE) (replaced_there start end new xs some within) ∙ grind (arith, places)
-      ]
-      | inr none ↦ ap (λ ys. slice_index_or ys c SPACE) (replaced_empty start end new xs none)
-    ]
+replaced_before start end new xs c before = grind (arith, common_steps, replaced_past, replaced_there, replaced_empty)
 
 -- the cells in the place of the stretch, and those after them
 put_inside : (start end : ℕ) (new xs : List Cell) (k : ℕ) → start < end → end ≤ length xs → k < length new
@@ -207,21 +168,20 @@ put_length start end new xs some within = grind (arith, places)
 pub ReplacesCells-cells_replaced : (rows : List (List Cell)) (row start end : ℕ) (cells : List Cell)
     → ReplacesCells rows (cells_replaced rows row start end cells) row start end cells
 ReplacesCells-cells_replaced rows row start end cells =
-    let old = row_at rows row in
-    let same = row_at-cells_replaced_same rows row start end cells in
-    record {
-      inside = λ some within k h. ap (λ r. slice_index_or r (start + k) SPACE) (same ∙ replaced_there start end cells old some within)
-          ∙ put_inside start end cells old k some within h;
-      after = λ some within k. ap (λ r. slice_index_or r (start + length cells + k) SPACE) (same ∙ replaced_there start end cells old some within)
-          ∙ put_after start end cells old k some within;
-      width = λ some within. ap (λ (r : List Cell). length r + (end - start)) (same ∙ replaced_there start end cells old some within)
-          ∙ put_length start end cells old some within;
-      before = λ c h. ap (λ r. slice_index_or r c SPACE) same ∙ replaced_before start end cells old c h;
-      others = row_at-cells_replaced_other rows row start end cells;
-      count = length-changed_within (replaced_within start end cells) row (row + 1) rows;
-      empty = cells_replaced_empty rows row start end cells;
-      past = cells_replaced_past rows row start end cells;
-    }
+    grind (
+      arith,
+      common_steps,
+      row_at-cells_replaced_same,
+      replaced_there,
+      put_inside,
+      put_after,
+      put_length,
+      replaced_before,
+      row_at-cells_replaced_other,
+      length-changed_within,
+      cells_replaced_empty,
+      cells_replaced_past,
+    )
 
 -- the same of a grid that is known to be the one after the change
 pub ReplacesCells-from_equal : (old new : List (List Cell)) (row start end : ℕ) (cells : List Cell) → new ≡ cells_replaced old row start end cells
@@ -240,16 +200,12 @@ begun_by old new row at cells below writes =
 pub begun_by_text : (old new : List (List Cell)) (row at : ℕ) (text chs : List ℕ) → row ≡ length old → chars text ≡ chs → 0 < length chs
     → (0 < length text → new ≡ cells_written old row at (text_cells LineNumber (chars text)))
     → new ≡ old ++ (replicate at SPACE ++ text_cells LineNumber chs) ∷ []
-begun_by_text old new row at text chs below is some writes =
-    begun_by old new row at (text_cells LineNumber chs) below (writes (omega (arith, length-chars_le text, ap length is, some))
-    ∙ ap (λ cs. cells_written old row at (text_cells LineNumber cs)) is)
+begun_by_text old new row at text chs below is some writes = grind (arith, common_steps, begun_by, length-chars_le)
 
 -- a row that is begun by the separator alone
 pub separator_row-begun : (old new : List (List Cell)) (row gutter stroke : ℕ) (decor : DecorStyle) → row ≡ length old → stroke ≡ separator_of decor
     → new ≡ cells_written old row (gutter + 1) (text_cells LineNumber (stroke ∷ [])) → new ≡ old ++ separator_row decor gutter ∷ []
-separator_row-begun old new row gutter stroke decor below is writes =
-    begun_by old new row (gutter + 1) (text_cells LineNumber (separator_of decor ∷ [])) below
-    (writes ∙ ap (λ s. cells_written old row (gutter + 1) (text_cells LineNumber (s ∷ []))) is)
+separator_row-begun old new row gutter stroke decor below is writes = grind (arith, common_steps, begun_by)
 
 -- a row after a text was put into it: one with no bytes leaves it as it was
 abbrev pub texted : List ℕ → List Cell → ℕ → List Cell → List Cell
@@ -260,9 +216,7 @@ texted (b ∷ bs) row at cells = written SPACE row at cells
 pub text_put : (above mid new : List (List Cell)) (row : List Cell) (r at : ℕ) (bytes : List ℕ) (cells : List Cell) → mid ≡ above ++ row ∷ [] → r ≡ length above
     → (0 < length bytes → new ≡ cells_written mid r at cells) → (bytes ≡ [] → new ≡ mid) → new ≡ above ++ texted bytes row at cells ∷ []
 text_put above mid new row r at [] cells before last writes stays = stays refl ∙ before
-text_put above mid new row r at (b ∷ bs) cells before last writes stays =
-    writes (omega arith) ∙ ap (λ rows. cells_written rows r at cells) before ∙ ap (λ i. cells_written (above ++ row ∷ []) i at cells) last
-    ∙ cells_written_last above row at cells
+text_put above mid new row r at (b ∷ bs) cells before last writes stays = grind (arith, common_steps, cells_written_last)
 
 -- the characters of cells that are drawn
 pub row_text-text_cells : (role : ElementStyle) (cs : List ℕ) → row_text (text_cells role cs) ≡ cs
@@ -273,11 +227,7 @@ row_text-text_cells role (c ∷ cs) = ap (λ t. c ∷ t) (row_text-text_cells ro
 -- the codes between two styles
 pub codes_added : (last next : Style) (old mid new code : List ℕ) → code ≡ encode_utf8_all (reset last) → mid ≡ old ++ code
     → new ≡ mid ++ encode_utf8_all (opening next) → new ≡ old ++ flat_map piece_text (Reset last ∷ Opening next ∷ [])
-codes_added last next old mid new code is reset_added opened =
-    let before = encode_utf8_all (reset last) in
-    let after = encode_utf8_all (opening next) in
-    opened ∙ ap (λ (t : List ℕ). t ++ after) (reset_added ∙ ap (λ (t : List ℕ). old ++ t) is) ∙ append_assoc old before after
-    ∙ ap (λ (t : List ℕ). old ++ (before ++ t)) (sym (append-nil after))
+codes_added last next old mid new code is reset_added opened = grind (arith, common_steps)
 
 -- spaces after spaces
 pub more_spaces : (old mid new : List ℕ) (a b n : ℕ) → a + b ≡ n → mid ≡ old ++ replicate a 32 → new ≡ mid ++ replicate b 32 → new ≡ old ++ replicate n 32
@@ -289,9 +239,7 @@ more_spaces old mid new a b n sum first second =
 pub more_printed : (sheet : Stylesheet) (level : LevelInner) (style : Style) (role : ElementStyle) (link : Option Url) (word : List ℕ)
     (done : List Cell) (old now : List ℕ) → style ≡ style_of sheet level role → Goes sheet level (Some style) link done old now
     → Goes sheet level (Some style) link (done ++ cells_alike role link word) old (now ++ encode_utf8_all word)
-more_printed sheet level style role link [] done old now is goes =
-    subst (λ (cells : List Cell). Goes sheet level (Some style) link cells old (now ++ [])) (sym (append-nil done))
-    (subst (λ (t : List ℕ). Goes sheet level (Some style) link done old t) (sym (append-nil now)) goes)
+more_printed sheet level style role link [] done old now is goes = grind (arith, common_steps)
 more_printed sheet level style role link (ch ∷ word) done old now is goes =
     let cell : Cell = record { ch = ch; role = role; link = link } in
     let one : Goes sheet level (Some style) link (done ++ cell ∷ []) old (now ++ encode_utf8 ch) =

@@ -1,11 +1,10 @@
 -- A row in which a text took the place of some cells.
-use Rattle.snippet_grid.proofs.Common.{◌≡◌, ◌≢◌, ℕ, ◌<◌, List, [], ◌++◌, length, take, drop, get_or, refl, sym, ap, ◌∙◌, arith}
-use Rattle.snippet_grid.proofs.Common.{false, inl, inr, subst, All, min, Result, OnOk, same_lists, get_or_default, cases_lt, cases_eq, on_ok_weaker, RowAt}
-use Rattle.snippet_grid.proofs.Common.{ShowsSpan, is_within, row_at, cell_at, cells_changed, ChangesCells, Cell, SPACE, IsRun, IsRow, IsGrid, BeginsWith}
-use Rattle.snippet_grid.proofs.Common.{EndsBy, FitIn, shown_cell, grid_shown, Run, ◌+◌, ◌-◌, ◌≤◌, ◌^◌, None, get_or-take, get_or-drop}
-use Rattle.snippet_grid.proofs.Common.{length-drop, nil_from_length, All-append, chars-nil, slice_index_or-text_cells, ShowsReplaced, cells_replaced}
-use Rattle.snippet_grid.proofs.Common.{ReplacesCells, text_cells, IsWord, ShowsCopy, ShowsMore, run_cell, run_chars, ElementStyle, suc, ◌∷◌, max, lt-ltb}
-use Rattle.snippet_grid.proofs.Common.{le-ltb, num_touched, Precedes}
+use Rattle.snippet_grid.proofs.Common.{common_steps, ◌≡◌, ◌≢◌, ℕ, ◌<◌, List, [], ◌++◌, length, take, drop, get_or, refl, sym, ap, ◌∙◌, arith, false, inl, inr}
+use Rattle.snippet_grid.proofs.Common.{subst, All, min, Result, OnOk, same_lists, get_or_default, cases_lt, cases_eq, RowAt, ShowsSpan, is_within, row_at}
+use Rattle.snippet_grid.proofs.Common.{cell_at, cells_changed, ChangesCells, Cell, SPACE, IsRun, IsRow, IsGrid, BeginsWith, EndsBy, FitIn, shown_cell}
+use Rattle.snippet_grid.proofs.Common.{grid_shown, Run, ◌+◌, ◌-◌, ◌≤◌, ◌^◌, None, get_or-take, get_or-drop, length-drop, nil_from_length, All-append, chars-nil}
+use Rattle.snippet_grid.proofs.Common.{slice_index_or-text_cells, ShowsReplaced, cells_replaced, ReplacesCells, text_cells, IsWord, ShowsCopy, ShowsMore}
+use Rattle.snippet_grid.proofs.Common.{run_cell, run_chars, ElementStyle, suc, ◌∷◌, max, lt-ltb, le-ltb, num_touched, Precedes}
 use Rattle.std.specs.Bool.{if◌then◌else◌}
 use Rattle.snippet_grid.proofs.ReplaceLemmas.{ChangesCells-cells_changed, ChangesCells-from_equal, ReplacesCells-cells_replaced}
 use Rattle.snippet_grid.proofs.GridShown.{count_shown, width_shown, cell_shown, same_row}
@@ -124,20 +123,12 @@ grid_changed f old new runs now fresh w row start end last from to put is_last f
 -- the change of a grid, read cell by cell
 pub reads_changed : {T E : Type 0} (r : Result T E) (f : Cell → Cell) (old grid new : List (List Cell)) (row start end : ℕ) → old ≡ grid
     → OnOk r (new ≡ cells_changed f old row start end) → OnOk r (ChangesCells f grid new row start end)
-reads_changed r f old grid new row start end was is =
-    on_ok_weaker r (λ equal. ChangesCells-from_equal f grid new row start end
-    (equal ∙ ap (λ (rows : List (List Cell)). cells_changed f rows row start end) was)) is
+reads_changed r f old grid new row start end was is = grind (arith, common_steps, ChangesCells-from_equal)
 
 -- a text with no byte shows nothing
 pub span_empty : (text : List ℕ) (out : List Run) (row at : ℕ) (word : List ℕ) (g : ℕ → Cell) → length word ≤ 0
     → ShowsSpan text text out out row at (at + length (chars word)) g
-span_empty text out row at word g none =
-    λ c.
-    let no_char : length (chars word) ≡ 0 = ap (λ (w : List ℕ). length (chars w)) (nil_from_length word (omega (arith, none))) ∙ ap length chars-nil in
-    sym (elim (cases_lt c at) [
-      | inl before ↦ pick (g c) (shown_cell text out row c) (within_before at (at + length (chars word)) c before)
-      | inr low ↦ pick (g c) (shown_cell text out row c) (within_after at (at + length (chars word)) c (omega arith))
-    ])
+span_empty text out row at word g none = grind (arith, common_steps, nil_from_length, chars-nil, pick, within_before, within_after)
 
 -- a word that was added after some runs
 pub word_span : (t0 t1 t2 : List ℕ) (out now : List Run) (run : Run) (row at : ℕ) (role : ElementStyle) (word : List ℕ) → BeginsWith t0 t1
@@ -276,11 +267,7 @@ FitIn-replaced old new runs now fresh w v row start end put fit ends others =
 -- How many runs of a row have cells before a stretch, and after it.
 num_touched-le : (from to : ℕ) (runs : List Run) → num_touched from to runs ≤ length runs
 num_touched-le from to [] = omega arith
-num_touched-le from to (run ∷ runs) =
-    elim (cases_lt (max run.cell from) (min (run.cell + run.count) to)) [
-      | inl some ↦ omega (arith, num_touched-le from to runs, pick {X = ℕ} 1 0 (lt-ltb (max run.cell from) (min (run.cell + run.count) to) some))
-      | inr none ↦ omega (arith, num_touched-le from to runs, pick {X = ℕ} 1 0 (le-ltb (max run.cell from) (min (run.cell + run.count) to) none))
-    ]
+num_touched-le from to (run ∷ runs) = grind (arith, common_steps, run.cell, run.count, num_touched-le from to runs, pick)
 
 -- no run is touched that begins after the span
 none_touched : (from to : ℕ) (runs : List Run) → All (λ x. to ≤ x.cell) runs → num_touched from to runs ≡ 0

@@ -1,13 +1,12 @@
 -- The cells of a row, run by run, and rows that are printed one below another.
-use Rattle.snippet_grid.proofs.Common.{cells_alike}
-use Rattle.snippet_grid.proofs.Common.{◌≡◌, ℕ, ◌+◌, ◌-◌, ◌<◌, ◌≤◌, List, [], ◌∷◌, ◌++◌, length, take, drop, get_or}
-use Rattle.snippet_grid.proofs.Common.{replicate, refl, sym, ap, ◌∙◌, subst, arith, false, inl, inr, All, if◌then◌else◌}
-use Rattle.snippet_grid.proofs.Common.{same_lists, take-append-drop, drop_more, length-append, length-map, length-replicate, get_or-map, get_or-replicate}
-use Rattle.snippet_grid.proofs.Common.{get_or_default, get_or_append_left, get_or-append_right, get_or-drop, length-drop, length-map-range_with_len}
-use Rattle.snippet_grid.proofs.Common.{get_or-map-range_with_len, cases_lt, cases_eq, option_copied, Cell, SPACE, IsRun, IsRow, Precedes, run_chars, run_cell}
-use Rattle.snippet_grid.proofs.Common.{holds, painted_over, shown_cell, cells_to, BeginsRow, RowAt, LevelInner, Run, Stylesheet, map}
-use Rattle.snippet_grid.proofs.Common.{encode_utf8, append_assoc, append-nil, take_more, take_all, length-take, flat_map-append, range_with_len}
-use Rattle.snippet_grid.proofs.Common.{flat_map, row_at, grid_shown, Piece, Char, piece_text, PrintsFurther, WeavesRow, WeavesRows}
+use Rattle.snippet_grid.proofs.Common.{common_steps, cells_alike, ◌≡◌, ℕ, ◌+◌, ◌-◌, ◌<◌, ◌≤◌, List, [], ◌∷◌, ◌++◌, length, take, drop, get_or, replicate, refl}
+use Rattle.snippet_grid.proofs.Common.{sym, ap, ◌∙◌, subst, arith, false, inl, inr, All, if◌then◌else◌, same_lists, take-append-drop, drop_more, length-append}
+use Rattle.snippet_grid.proofs.Common.{length-map, length-replicate, get_or-map, get_or-replicate, get_or_default, get_or_append_left, get_or-append_right}
+use Rattle.snippet_grid.proofs.Common.{get_or-drop, length-drop, length-map-range_with_len, get_or-map-range_with_len, cases_lt, cases_eq, option_copied, Cell}
+use Rattle.snippet_grid.proofs.Common.{SPACE, IsRun, IsRow, Precedes, run_chars, run_cell, holds, painted_over, shown_cell, cells_to, BeginsRow, RowAt}
+use Rattle.snippet_grid.proofs.Common.{LevelInner, Run, Stylesheet, map, encode_utf8, append_assoc, append-nil, take_more, take_all, length-take}
+use Rattle.snippet_grid.proofs.Common.{flat_map-append, range_with_len, flat_map, row_at, grid_shown, Piece, Char, piece_text, PrintsFurther, WeavesRow}
+use Rattle.snippet_grid.proofs.Common.{WeavesRows}
 use Rattle.snippet_grid.proofs.ShownLemmas.{painted-append, All-tail, pick, holds_inside, holds_before, holds-after}
 use Rattle.snippet_grid.proofs.WeaveLemmas.{further-append}
 use Rattle.snippet_grid.proofs.RunLemmas.{stretch}
@@ -189,15 +188,7 @@ begins_first runs = record { within = omega arith; above = λ k d before. absurd
 
 -- the next row begins where a row ends
 pub begins_next : (runs : List Run) (from to row : ℕ) → RowAt runs row from to → BeginsRow runs to (row + 1)
-begins_next runs from to row at =
-    record {
-      within = at.within;
-      above = λ k d before. elim (cases_lt k from) [
-        | inl early ↦ omega (arith, at.above k d early)
-        | inr here ↦ omega (arith, at.inside k d here before)
-      ];
-      below = λ k d after within. omega (arith, at.below k d after within);
-    }
+begins_next runs from to row at = grind (arith, common_steps, at.within, at.above, at.below)
 
 -- a first row
 pub rows_one : (sheet : Stylesheet) (level : LevelInner) (old new : List ℕ) (row : List Cell) → WeavesRow sheet level row old new
@@ -209,9 +200,7 @@ rows_one sheet level old new row added =
 pub rows_more : (sheet : Stylesheet) (level : LevelInner) (old now fed new : List ℕ) (rows : List (List Cell)) (row : List Cell)
     → (length rows ≡ 0 → fed ≡ now) → (0 < length rows → fed ≡ now ++ encode_utf8 10) → WeavesRows sheet level rows old now
     → WeavesRow sheet level row fed new → WeavesRows sheet level (rows ++ row ∷ []) old new
-rows_more sheet level old now fed new [] row first broken above added =
-    let none : now ≡ old = above.text_is ∙ ap (λ (ps : List Piece). old ++ flat_map piece_text ps) above.are ∙ append-nil old in
-    rows_one sheet level old new row (subst (λ (t : List ℕ). WeavesRow sheet level row t new) (first refl ∙ none) added)
+rows_more sheet level old now fed new [] row first broken above added = grind (arith, common_steps, above.text_is, above.are, rows_one)
 rows_more sheet level old now fed new (head ∷ rows) row first broken above added =
     let more : List Piece = Char 10 ∷ added.pieces in
     let bytes : List ℕ = flat_map piece_text added.pieces in

@@ -1,10 +1,10 @@
 -- The fewest and the most runs of a row's cells, stretch by stretch.
-use Rattle.snippet_grid.proofs.Common.{◌≡◌, ℕ, zero, suc, ◌+◌, ◌<◌, ◌≤◌, List, [], ◌∷◌, length, map, Bool, true, false, not}
-use Rattle.snippet_grid.proofs.Common.{◌&&◌, ◌||◌, if◌then◌else◌, nat_eq, Option, None, Some, refl, sym, ap, ◌∙◌, subst, arith}
-use Rattle.snippet_grid.proofs.Common.{false≢true, same_text, nat_list_eq_equiv, range_with_len, option_eq, Cell, SPACE, ElementStyle, MainHeaderMsg}
-use Rattle.snippet_grid.proofs.Common.{HeaderMsg, LineAndColumn, Quotation, NoStyle, LineNumber, UnderlinePrimary, LabelPrimary, UnderlineSecondary}
-use Rattle.snippet_grid.proofs.Common.{LabelSecondary, Level, Addition, Removal, LevelInner, Error, Warning, Info, Note, Help, num_cells, Look, look_of}
-use Rattle.snippet_grid.proofs.Common.{same_level, same_role, same_look, goes_on, is_bare, fewest_after, most_after, most_runs}
+use Rattle.snippet_grid.proofs.Common.{common_steps, ◌≡◌, ℕ, zero, suc, ◌+◌, ◌<◌, ◌≤◌, List, [], ◌∷◌, length, map, Bool, true, false, not, ◌&&◌, ◌||◌}
+use Rattle.snippet_grid.proofs.Common.{if◌then◌else◌, nat_eq, Option, None, Some, refl, sym, ap, ◌∙◌, subst, arith, false≢true, same_text, nat_list_eq_equiv}
+use Rattle.snippet_grid.proofs.Common.{range_with_len, option_eq, Cell, SPACE, ElementStyle, MainHeaderMsg, HeaderMsg, LineAndColumn, Quotation, NoStyle}
+use Rattle.snippet_grid.proofs.Common.{LineNumber, UnderlinePrimary, LabelPrimary, UnderlineSecondary, LabelSecondary, Level, Addition, Removal, LevelInner}
+use Rattle.snippet_grid.proofs.Common.{Error, Warning, Info, Note, Help, num_cells, Look, look_of, same_level, same_role, same_look, goes_on, is_bare}
+use Rattle.snippet_grid.proofs.Common.{fewest_after, most_after, most_runs}
 use lib.Pointwise.{pointwise}
 
 -- ---- what it says that two looks are the same
@@ -112,18 +112,11 @@ going false b look cells h = absurd (false≢true h)
 
 -- a run goes on over cells of its look
 fewest_going : (look : Look) (cell : Cell) (cells : List Cell) → look ≡ look_of cell → fewest_after (Some look) (cell ∷ cells) ≡ fewest_after (Some look) cells
-fewest_going look cell cells same =
-    going (goes_on (Some look) cell) (is_bare cell) (look_of cell) cells (look_own look (look_of cell) same)
-    ∙ ap (λ (l : Look). fewest_after (Some l) cells) (sym same)
+fewest_going look cell cells same = grind (arith, common_steps, going, look_own)
 
 fewest_on : (f : ℕ → Cell) (look : Look) (m n a to rest : ℕ) → a + m ≡ to → n ≡ m + rest → ((c : ℕ) → a ≤ c → c < to → look ≡ look_of (f c))
     → fewest_after (Some look) (cells_at f a n) ≤ fewest_after (Some look) (cells_at f to rest)
-fewest_on f look zero n a to rest reach long same =
-    omega (
-      arith,
-      ap (λ k. fewest_after (Some look) (cells_at f k n)) (let here : a ≡ to = omega arith in here),
-      ap (λ k. fewest_after (Some look) (cells_at f to k)) (let all : n ≡ rest = omega arith in all),
-    )
+fewest_on f look zero n a to rest reach long same = grind (arith, common_steps)
 fewest_on f look (suc m) zero a to rest reach long same = absurd (omega arith)
 fewest_on f look (suc m) (suc n) a to rest reach long same =
     omega (
@@ -175,9 +168,7 @@ step false b look cells less more = (omega arith, omega arith)
 pub most_near : (look : Look) (cells : List Cell) → (most_after (Some look) cells ≤ most_after None cells) ×
     (most_after None cells ≤ 1 + most_after (Some look) cells)
 most_near look [] = (omega arith, omega arith)
-most_near look (cell ∷ cells) =
-    let after = most_near (look_of cell) cells in
-    let here = step (goes_on (Some look) cell) (is_bare cell) (look_of cell) cells after.0 after.1 in (omega (arith, here.0), omega (arith, here.1))
+most_near look (cell ∷ cells) = grind (arith, common_steps, most_near (look_of cell) cells, step)
 
 on : (g b : Bool) (look : Look) (cells : List Cell) → g ≡ true
     → most_after (Some look) cells ≤ (if g then 0 else 1) + most_after (if g && b then None else Some look) cells
@@ -187,12 +178,7 @@ on false b look cells h = absurd (false≢true h)
 
 most_on : (f : ℕ → Cell) (look : Look) (m n a to rest : ℕ) → a + m ≡ to → n ≡ m + rest → ((c : ℕ) → a ≤ c → c < to → look ≡ look_of (f c))
     → most_after (Some look) (cells_at f to rest) ≤ most_after (Some look) (cells_at f a n)
-most_on f look zero n a to rest reach long same =
-    omega (
-      arith,
-      ap (λ k. most_after (Some look) (cells_at f k n)) (let here : a ≡ to = omega arith in here),
-      ap (λ k. most_after (Some look) (cells_at f to k)) (let all : n ≡ rest = omega arith in all),
-    )
+most_on f look zero n a to rest reach long same = grind (arith, common_steps)
 most_on f look (suc m) zero a to rest reach long same = absurd (omega arith)
 most_on f look (suc m) (suc n) a to rest reach long same =
     let here : look ≡ look_of (f a) = same a (omega arith) (omega arith) in
@@ -225,13 +211,7 @@ most_run f look (suc m) (suc n) a to rest before some reach long same stops =
 -- after bare spaces that no run holds any can begin
 pub most_gap : (f : ℕ → Cell) (m n a to rest : ℕ) → a + m ≡ to → n ≡ m + rest → ((c : ℕ) → a ≤ c → c < to → f c ≡ SPACE)
     → most_after None (cells_at f to rest) ≤ most_after None (cells_at f a n)
-most_gap f zero n a to rest reach long space =
-    omega (
-      arith,
-      ap (λ k. most_after None (cells_at f k n)) (let here : a ≡ to = omega arith in here),
-      ap (λ k. most_after None (cells_at f to k))
-          (let all : n ≡ rest = omega arith in all),
-    )
+most_gap f zero n a to rest reach long space = grind (arith, common_steps)
 most_gap f (suc m) zero a to rest reach long space = absurd (omega arith)
 most_gap f (suc m) (suc n) a to rest reach long space =
     omega (

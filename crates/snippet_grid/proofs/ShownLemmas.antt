@@ -1,12 +1,11 @@
 -- What runs show, when one is added.
-use Rattle.snippet_grid.proofs.Common.{◌≡◌, ℕ, suc, ◌+◌, ◌-◌, ◌<◌, ◌≤◌, List, [], ◌∷◌, ◌++◌, length, take, set, get_or}
-use Rattle.snippet_grid.proofs.Common.{refl, sym, ap, ◌∙◌, arith, Bool, true, false, inl, inr, subst, All, Option, take_all, take_more, take_more_set}
-use Rattle.snippet_grid.proofs.Common.{length-set, length_push, get_or-set_same, get_or-set_other, get_or_push, get_or_default, get_or_append_left}
-use Rattle.snippet_grid.proofs.Common.{get_or-append_right, All-take, All-set, All-push, AllPairs, cases_lt, cases_eq, and_from, and_left, and_right, eq-eqb}
-use Rattle.snippet_grid.proofs.Common.{ne_eqb, le-leb, lt-leb, lt-ltb, le-ltb, option_copied, Cell, SPACE, IsRun, IsJoined, Continues, BeginsWith, ShowsMore}
-use Rattle.snippet_grid.proofs.Common.{run_chars, run_cell, holds, painted_over, shown_cell, Precedes, Differ, AddsRun, Run}
+use Rattle.snippet_grid.proofs.Common.{common_steps, ◌≡◌, ℕ, suc, ◌+◌, ◌-◌, ◌<◌, ◌≤◌, List, [], ◌∷◌, ◌++◌, length, take, set, get_or, refl, sym, ap, ◌∙◌, arith}
+use Rattle.snippet_grid.proofs.Common.{Bool, true, false, inl, inr, subst, All, take_all, take_more, take_more_set, length-set, length_push, get_or-set_same}
+use Rattle.snippet_grid.proofs.Common.{get_or-set_other, get_or_push, get_or_default, get_or_append_left, get_or-append_right, All-take, All-set, All-push}
+use Rattle.snippet_grid.proofs.Common.{AllPairs, cases_lt, cases_eq, and_from, and_left, and_right, eq-eqb, ne_eqb, le-leb, lt-leb, lt-ltb, le-ltb, Cell, SPACE}
+use Rattle.snippet_grid.proofs.Common.{IsRun, IsJoined, Continues, BeginsWith, ShowsMore, run_chars, run_cell, holds, painted_over, shown_cell, Precedes}
+use Rattle.snippet_grid.proofs.Common.{Differ, AddsRun, Run}
 use Rattle.std.specs.Bool.{if◌then◌else◌}
-use Rattle.std.specs.Str.{chars}
 use Rattle.snippet_grid.proofs.RunLemmas.{run_bytes-grown, IsRun-grown}
 
 -- painting two lists of runs is painting one after the other
@@ -18,9 +17,7 @@ painted-append text r c d (run ∷ xs) ys =
 
 -- a run shows the same cells once the text has grown
 pub run_cell-grown : (old new : List ℕ) (run : Run) (c : ℕ) → BeginsWith old new → IsRun old run → run_cell new run c ≡ run_cell old run c
-run_cell-grown old new run c grows is =
-    ap (λ (bytes : List ℕ). (let cell : Cell = record { ch = get_or (chars bytes) (c - run.cell) 32; role = run.role; link = option_copied run.link } in cell))
-    (run_bytes-grown old new run grows is)
+run_cell-grown old new run c grows is = grind (arith, common_steps, run.cell, run.role, run.link, run_bytes-grown)
 
 -- what holds of each of a list holds of each after the first
 pub All-tail : {X : Type 0} (P : X → Type 0) (x : X) (xs : List X) → All P (x ∷ xs) → All P xs
@@ -61,10 +58,7 @@ pick x y is = ap (λ (t : Bool). if t then x else y) is
 
 -- cells with the same character, role and link are the same
 pub cell_same : (a b : Cell) → a.ch ≡ b.ch → a.role ≡ b.role → a.link ≡ b.link → a ≡ b
-cell_same a b ch role link =
-    ap (λ (x : ℕ). (let cell : Cell = record { ch = x; role = a.role; link = a.link } in cell)) ch
-    ∙ ap (λ x. (let cell : Cell = record { ch = b.ch; role = x; link = a.link } in cell)) role
-    ∙ ap (λ (x : Option (List ℕ)). (let cell : Cell = record { ch = b.ch; role = b.role; link = x } in cell)) link
+cell_same a b ch role link = grind (arith, common_steps, a.role, a.link, b.ch, b.role)
 
 -- two runs made one show what both show
 joined_cell : (old new : List ℕ) (first second whole : Run) (r c : ℕ) (d : Cell) → IsRun old first → IsRun old second → Continues first second
@@ -144,16 +138,7 @@ ShowsMore-pushed text runs now run pushed =
     λ r c. ap (λ (xs : List Run). shown_cell text xs r c) pushed ∙ painted-append text r c SPACE runs (run ∷ [])
 
 pub AllPairs-push : {X : Type 0} (R : X → X → Type 0) (xs : List X) (y : X) → AllPairs R xs → All (λ x. R x y) xs → AllPairs R (xs ++ y ∷ [])
-AllPairs-push R xs y pairs all =
-    λ i j d below within.
-    let first : get_or (xs ++ y ∷ []) i d ≡ get_or xs i d = get_or_append_left xs (y ∷ []) d i (omega (arith, length_push xs y)) in
-    elim (cases_lt j (length xs)) [
-      | inl inside ↦ subst (λ b. R (get_or (xs ++ y ∷ []) i d) b) (sym (get_or_append_left xs (y ∷ []) d j inside))
-          (subst (λ a. R a (get_or xs j d)) (sym first) (pairs i j d below inside))
-      | inr last ↦
-          let is_last : length xs ≡ j = omega (arith, length_push xs y) in
-          subst (λ b. R (get_or (xs ++ y ∷ []) i d) b) (sym (get_or_push xs y d j is_last)) (subst (λ a. R a y) (sym first) (all i d (omega arith)))
-    ]
+AllPairs-push R xs y pairs all = grind (arith, common_steps, length_push, get_or_push)
 
 AllPairs-set_last : {X : Type 0} (R : X → X → Type 0) (xs : List X) (i : ℕ) (last y : X) → i + 1 ≡ length xs → last ≡ get_or xs i last → AllPairs R xs
     → ((x : X) → R x last → R x y) → AllPairs R (set xs i y)

@@ -1,9 +1,9 @@
 -- A put that takes only the runs which it meets: those before the run and after it, in its own row too, stay.
-use Rattle.snippet_grid.proofs.Common.{◌≡◌, ◌⊎◌, ℕ, suc, ◌+◌, ◌-◌, ◌<◌, ◌≤◌, List, [], ◌∷◌, ◌++◌, length, take, drop}
-use Rattle.snippet_grid.proofs.Common.{get_or, sym, ap, ◌∙◌, arith, true, false, inl, inr, subst, All, if◌then◌else◌, get_or_default, get_or-take}
-use Rattle.snippet_grid.proofs.Common.{get_or-drop, length-append, length-drop, All-take, All-drop, All-append, All-cons, cases_lt, cases_eq, AllPairs, Cell}
-use Rattle.snippet_grid.proofs.Common.{SPACE, IsRun, BeginsWith, ShowsMore, AddsRun, Precedes, Differ, BeginsAfter, BeginsBy, IsClear, Touches, AreTouchedRuns}
-use Rattle.snippet_grid.proofs.Common.{ArePieces, IsPut, EndsBy, run_cell, holds, painted_over, shown_cell, Run}
+use Rattle.snippet_grid.proofs.Common.{common_steps, ◌≡◌, ◌⊎◌, ℕ, suc, ◌+◌, ◌-◌, ◌<◌, ◌≤◌, List, [], ◌∷◌, ◌++◌, length, take, drop, get_or, sym, ap, ◌∙◌, arith}
+use Rattle.snippet_grid.proofs.Common.{true, false, inl, inr, subst, All, if◌then◌else◌, get_or_default, get_or-take, get_or-drop, length-append, length-drop}
+use Rattle.snippet_grid.proofs.Common.{All-take, All-drop, All-append, All-cons, cases_eq, AllPairs, Cell, SPACE, IsRun, BeginsWith, ShowsMore, AddsRun}
+use Rattle.snippet_grid.proofs.Common.{Precedes, Differ, BeginsAfter, BeginsBy, IsClear, Touches, AreTouchedRuns, ArePieces, IsPut, EndsBy, run_cell, holds}
+use Rattle.snippet_grid.proofs.Common.{painted_over, shown_cell, Run}
 use Rattle.snippet_grid.proofs.RunLemmas.{stretch, below_take, get_or-stretch}
 use Rattle.snippet_grid.proofs.ShownLemmas.{All-IsRun-grown, painted-append, painted-grown, pick, holds_inside, holds_elsewhere, holds_before, holds-after}
 use Rattle.snippet_grid.proofs.PutLemmas.{AreOrdered, AreApart, AllPairs-append, AllPairs-take, AllPairs-drop, split_three, IsRow-stretch, fit-put}
@@ -17,17 +17,7 @@ pub record Held (run : Run) (r c : ℕ) : Type 0 where
 
 -- a run holds a cell or it doesn't
 pub cases_held : (run : Run) (r c : ℕ) → Held run r c ⊎ (holds run r c ≡ false)
-cases_held run r c =
-    elim (cases_eq run.row r) [
-      | inr other ↦ inr (holds_elsewhere run r c other)
-      | inl here ↦ elim (cases_lt c run.cell) [
-        | inl before ↦ inr (holds_before run r c before)
-        | inr low ↦ elim (cases_lt c (run.cell + run.count)) [
-          | inl high ↦ inl record { row_is = here; low = low; high = high }
-          | inr after ↦ inr (holds-after run r c after)
-        ]
-      ]
-    ]
+cases_held run r c = grind (arith, common_steps, run.row, holds_elsewhere, run.cell, holds_before, run.count, holds-after)
 
 -- some run of a list holds the cell, or none does
 record SomeHeld (runs : List Run) (r c : ℕ) : Type 0 where

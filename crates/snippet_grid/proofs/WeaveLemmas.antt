@@ -1,8 +1,8 @@
 -- How a woven text grows by a cell, by a row's end and by a row.
-use Rattle.snippet_grid.proofs.Common.{◌≡◌, ◌≢◌, ◌⊎◌, ℕ, Bool, true, false, List, [], ◌∷◌, ◌++◌, Option, None, Some, refl, sym}
-use Rattle.snippet_grid.proofs.Common.{ap, ◌∙◌, inl, inr, subst, nat_eq, encode_utf8, encode_utf8_all, cases_Bool, false≢true, append_assoc, append-nil}
-use Rattle.snippet_grid.proofs.Common.{flat_map-append, nat_list_eq_equiv, same_text, flat_map, cases_style, reset, Cell, style_of, Piece, Char, Opening, Reset}
-use Rattle.snippet_grid.proofs.Common.{LinkTo, LinkEnd, piece_text, PrintsCells, PrintsRow, PrintsFurther, WeavesRow, LevelInner, Style, Stylesheet}
+use Rattle.snippet_grid.proofs.Common.{common_steps, arith, ◌≡◌, ◌≢◌, ◌⊎◌, ℕ, Bool, true, false, List, [], ◌∷◌, ◌++◌, Option, None, Some, refl, sym, ap, ◌∙◌}
+use Rattle.snippet_grid.proofs.Common.{inl, inr, subst, nat_eq, encode_utf8, encode_utf8_all, cases_Bool, false≢true, append_assoc, append-nil, flat_map-append}
+use Rattle.snippet_grid.proofs.Common.{nat_list_eq_equiv, same_text, flat_map, cases_style, reset, Cell, style_of, Piece, Char, Opening, Reset, LinkTo, LinkEnd}
+use Rattle.snippet_grid.proofs.Common.{piece_text, PrintsCells, PrintsRow, PrintsFurther, WeavesRow, LevelInner, Style, Stylesheet}
 use lib.Pointwise.{pointwise}
 pub use Rattle.snippet_grid.specs.OpenRow.{Completes, Goes}
 
@@ -47,12 +47,7 @@ GoesTo sheet level style link done old now cell =
 grown : (sheet : Stylesheet) (level : LevelInner) (done : List Cell) (old now new : List ℕ) (codes rest : List Piece) (more : List Cell)
     → new ≡ now ++ flat_map piece_text codes → Completes sheet level done old now (codes ++ rest) more → Completes sheet level done old new rest more
 grown sheet level done old now new codes rest more is completes =
-    record {
-      pieces = completes.pieces;
-      text_is = ap (λ (t : List ℕ). t ++ flat_map piece_text rest) is ∙ append_assoc now (flat_map piece_text codes) (flat_map piece_text rest)
-          ∙ ap (λ (t : List ℕ). now ++ t) (sym (flat_map-append piece_text codes rest)) ∙ completes.text_is;
-      prints = completes.prints;
-    }
+    grind (arith, common_steps, completes.pieces, flat_map-append, completes.text_is, completes.prints)
 
 -- the text did not grow
 kept : (sheet : Stylesheet) (level : LevelInner) (style : Option Style) (link : Option Url) (done : List Cell) (old now new : List ℕ) (cell : Cell) → new ≡ now
@@ -139,12 +134,7 @@ cell_printed sheet level style next link done old now ended changed begun new ce
 -- a row whose last cell was printed is whole
 whole : (sheet : Stylesheet) (level : LevelInner) (row : List Cell) (old now new : List ℕ) (rest : List Piece) → new ≡ now ++ flat_map piece_text rest
     → Completes sheet level row old now rest [] → WeavesRow sheet level row old new
-whole sheet level row old now new rest is completes =
-    record {
-      pieces = completes.pieces;
-      text_is = is ∙ completes.text_is;
-      are = subst (λ cells. PrintsRow sheet level completes.pieces cells) (append-nil row) completes.prints;
-    }
+whole sheet level row old now new rest is completes = grind (arith, common_steps, completes.pieces, completes.text_is, completes.prints)
 
 -- a row was closed
 pub row_closed : (sheet : Stylesheet) (level : LevelInner) (style : Style) (link : Option Url) (row : List Cell) (old now ended new : List ℕ)
@@ -168,12 +158,5 @@ pub further-append : (sheet : Stylesheet) (level : LevelInner) (ps qs : List Pie
     → PrintsFurther sheet level qs more → PrintsFurther sheet level (ps ++ qs) (rows ++ more)
 further-append sheet level ps qs [] more none prints =
     subst (λ (pieces : List Piece). PrintsFurther sheet level (pieces ++ qs) more) (sym none) prints
-further-append sheet level ps qs (row ∷ rows) more (first, others, split, prints, below) prints_more = (
-  first,
-  others ++ qs,
-  ap (λ (pieces : List Piece). pieces ++ qs) split
-      ∙ ap (λ (pieces : List Piece). Char 10 ∷ pieces) (append_assoc first others qs),
-  prints,
-  further-append sheet level others qs rows more below
-      prints_more,
-)
+further-append sheet level ps qs (row ∷ rows) more (first, others, split, prints, below) prints_more =
+    grind (arith, common_steps, further-append sheet level others qs rows more below prints_more)

@@ -1,8 +1,8 @@
 -- What printed rows are as a woven text: their plain text and their links are the rows' own, whatever the sheet; and
 -- without styles and links the text is the plain text.
-use Rattle.snippet_grid.proofs.Common.{◌≡◌, ◌≢◌, ℕ, suc, Bool, true, false, if◌then◌else◌, nat_eq, List, [], ◌∷◌, ◌++◌, Option}
-use Rattle.snippet_grid.proofs.Common.{None, Some, IfSome, All, refl, sym, ap, ◌∙◌, inl, inr, subst, encode_utf8, encode_utf8_all, and_parts, cases_Bool}
-use Rattle.snippet_grid.proofs.Common.{false≢true, All-nil, All-cons, All-head, All-tail, All-append, flat_map-append, nat_list_eq_equiv, same_text, flat_map}
+use Rattle.snippet_grid.proofs.Common.{common_steps, arith, ◌≡◌, ◌≢◌, ℕ, suc, Bool, true, false, if◌then◌else◌, nat_eq, List, [], ◌∷◌, ◌++◌, Option, None, Some}
+use Rattle.snippet_grid.proofs.Common.{IfSome, All, refl, sym, ap, ◌∙◌, inl, inr, subst, encode_utf8, encode_utf8_all, and_parts, cases_Bool, false≢true}
+use Rattle.snippet_grid.proofs.Common.{All-nil, All-cons, All-head, All-tail, All-append, flat_map-append, nat_list_eq_equiv, same_text, flat_map}
 use Rattle.snippet_grid.proofs.Common.{plain_is_plain, opening, reset, Cell, SPACE, row_text, further_text, plain_text, is_plain_style, style_of, level_style}
 use Rattle.snippet_grid.proofs.Common.{is_plain_sheet, Piece, Char, Opening, Reset, LinkTo, LinkEnd, piece_text, plain_piece, piece_link, next_style, next_link}
 use Rattle.snippet_grid.proofs.Common.{PrintsCells, PrintsRow, Prints, IsStyleOf, IsOfSheet, AreLinksEnded, IsWoven, link_begun, PrintsFurther, PrintsRows}
@@ -67,15 +67,13 @@ cells_links : (sheet : Stylesheet) (level : LevelInner) (style : Option Style) (
     → PrintsCells sheet level style link ps cells → flat_map piece_link ps ≡ links_after link cells
 cells_links sheet level style link [] cells (none, _, _) = ap (links_after link) (sym none)
 cells_links sheet level style link (Char ch ∷ ps) cells (cell, rest, split, _, _, same, prints) =
-    cells_links sheet level style link ps rest prints ∙ ap (λ (l : Option Url). links_after l rest) same
-    ∙ ap (λ (urls : List Url). urls ++ links_after cell.link rest) (sym (link_begun_same link cell.link same)) ∙ ap (links_after link) (sym split)
+    grind (arith, common_steps, cells_links sheet level style link ps rest prints, cell.link, link_begun_same)
 cells_links sheet level style link (Opening new ∷ ps) cells (_, _, prints) =
     cells_links sheet level (Some new) link ps cells prints
 cells_links sheet level style link (Reset old ∷ ps) cells (_, _, _, prints) =
     cells_links sheet level None link ps cells prints
 cells_links sheet level style link (LinkTo url ∷ ps) cells (none, next, _, prints) =
-    ap (λ (urls : List Url). url ∷ urls) (cells_links sheet level style (Some url) ps cells prints) ∙ links_begun url cells next
-    ∙ ap (λ (l : Option Url). links_after l cells) (sym none)
+    grind (arith, common_steps, cells_links sheet level style (Some url) ps cells prints, links_begun)
 cells_links sheet level style link (LinkEnd ∷ ps) cells (_, differs, _, prints) =
     cells_links sheet level style None ps cells prints ∙ links_ended link cells differs
 
@@ -94,8 +92,7 @@ cells_of_sheet sheet level style link (Opening new ∷ ps) cells of (_, next, pr
     let new_of = next_is_of sheet level cells new next in
     All-cons (λ p. IsOfSheet sheet p) (Opening new) ps new_of (cells_of_sheet sheet level (Some new) link ps cells new_of prints)
 cells_of_sheet sheet level style link (Reset old ∷ ps) cells of (was, _, _, prints) =
-    All-cons (λ p. IsOfSheet sheet p) (Reset old) ps (subst (λ (s : Option Style). IfSome s (λ t. IsStyleOf sheet t)) was of)
-    (cells_of_sheet sheet level None link ps cells tt prints)
+    grind (arith, common_steps, All-cons, cells_of_sheet sheet level None link ps cells tt prints)
 cells_of_sheet sheet level style link (LinkTo url ∷ ps) cells of (_, _, _, prints) =
     All-cons (λ p. IsOfSheet sheet p) (LinkTo url) ps tt (cells_of_sheet sheet level style (Some url) ps cells of prints)
 cells_of_sheet sheet level style link (LinkEnd ∷ ps) cells of (_, _, _, prints) =
@@ -142,18 +139,10 @@ record AreWoven (sheet : Stylesheet) (ps : List Piece) (plain : List ℕ) (links
 
 row_woven : (sheet : Stylesheet) (level : LevelInner) (ps : List Piece) (row : List Cell) → PrintsRow sheet level ps row
     → AreWoven sheet ps (row_text row) (links_after None row)
-row_woven sheet level ps row prints =
-    record {
-      plain_is = sym (cells_plain sheet level (Some sheet.none) None ps row prints);
-      links_are = sym (cells_links sheet level (Some sheet.none) None ps row prints);
-      of_sheet = row_of_sheet sheet level ps row prints;
-      ended = cells_ended sheet level (Some sheet.none) None ps row prints;
-    }
+row_woven sheet level ps row prints = grind (arith, common_steps, cells_plain, sheet.none, cells_links, row_of_sheet, cells_ended)
 
 none_woven : (sheet : Stylesheet) (ps : List Piece) → ps ≡ [] → AreWoven sheet ps [] []
-none_woven sheet ps none =
-    subst (λ (qs : List Piece). AreWoven sheet qs [] []) (sym none) record
-    { plain_is = refl; links_are = refl; of_sheet = All-nil (λ p. IsOfSheet sheet p); ended = refl }
+none_woven sheet ps none = grind (arith, common_steps, All-nil)
 
 woven-append : (sheet : Stylesheet) (ps qs : List Piece) (plain more : List ℕ) (links others : List Url) → AreWoven sheet ps plain links
     → AreWoven sheet qs more others → AreWoven sheet (ps ++ qs) (plain ++ more) (links ++ others)
@@ -170,13 +159,7 @@ woven-append sheet ps qs plain more links others first second =
 -- after a line feed
 woven-fed : (sheet : Stylesheet) (ps : List Piece) (plain : List ℕ) (links : List Url) → AreWoven sheet ps plain links
     → AreWoven sheet (Char 10 ∷ ps) (10 ∷ plain) links
-woven-fed sheet ps plain links woven =
-    record {
-      plain_is = ap (λ (t : List ℕ). 10 ∷ t) woven.plain_is;
-      links_are = woven.links_are;
-      of_sheet = All-cons (λ p. IsOfSheet sheet p) (Char 10) ps tt woven.of_sheet;
-      ended = woven.ended;
-    }
+woven-fed sheet ps plain links woven = grind (arith, common_steps, woven.plain_is, woven.links_are, All-cons, woven.of_sheet, woven.ended)
 
 further_woven : (sheet : Stylesheet) (level : LevelInner) (ps : List Piece) (rows : List (List Cell)) → PrintsFurther sheet level ps rows
     → AreWoven sheet ps (further_text rows) (links_of rows)
@@ -198,17 +181,7 @@ rows_woven sheet level ps (row ∷ rows) (first, others, split, prints, below) =
 -- a printed grid is a woven text, whose plain text and links are the rows' own
 pub IsWoven-from_prints : (sheet : Stylesheet) (level : LevelInner) (rows : List (List Cell)) (text : List ℕ) → Prints sheet level rows text
     → IsWoven sheet text (plain_text rows) (links_of rows)
-IsWoven-from_prints sheet level rows text given =
-    let prints = PrintsPieces-from_prints sheet level rows text given in
-    let woven = rows_woven sheet level prints.pieces rows prints.prints in
-    record {
-      pieces = prints.pieces;
-      text_is = prints.text_is;
-      plain_is = woven.plain_is;
-      links_are = woven.links_are;
-      of_sheet = woven.of_sheet;
-      ended = woven.ended;
-    }
+IsWoven-from_prints sheet level rows text given = grind (arith, common_steps, PrintsPieces-from_prints sheet level rows text given, given, rows_woven)
 
 -- what was added, where the rows are read as others
 pub AddsRows-same : (sheet : Stylesheet) (level : LevelInner) (rows added : List (List Cell)) (old start text : List ℕ) → added ≡ rows → start ≡ old
@@ -219,12 +192,7 @@ AddsRows-same sheet level rows added old start text same begun adds =
 -- what was added to an empty text
 pub Prints-from_adds : (sheet : Stylesheet) (level : LevelInner) (rows added : List (List Cell)) (old text : List ℕ) → added ≡ rows → old ≡ []
     → WeavesRows sheet level added old text → Prints sheet level rows text
-Prints-from_adds sheet level rows added old text same none adds =
-    Prints-from_pieces sheet level rows text record {
-      pieces = adds.pieces;
-      text_is = adds.text_is ∙ ap (λ (t : List ℕ). t ++ flat_map piece_text adds.pieces) none;
-      prints = subst (λ (rs : List (List Cell)). PrintsRows sheet level adds.pieces rs) same adds.are;
-    }
+Prints-from_adds sheet level rows added old text same none adds = grind (arith, common_steps, Prints-from_pieces, adds.pieces, adds.text_is, adds.are)
 
 -- the styles of a plain sheet are plain
 record ArePlain (s : Stylesheet) : Type 0 where

@@ -1,4 +1,4 @@
-use Rattle.snippet_grid.proofs.Common.{◌≡◌, ◌∙◌, ◌++◌, ◌∷◌, [], List, ap, arith, length, map, rules, string_bytes, subst, sym, take, ℕ}
+use Rattle.snippet_grid.proofs.Common.{common_steps, ◌≡◌, ◌∙◌, ◌++◌, ◌∷◌, [], List, ap, arith, length, map, rules, string_bytes, subst, sym, take, ℕ}
 use Rattle.snippet_grid.proofs.Common.{length-map, length_push, AddsRow, BeginsWith, IsGrid, grid_shown, Stored, cell_of, Run, Cell}
 use Rattle.snippet_grid.proofs.AddedRows.{grid_added, row_added}
 use Rattle.snippet_grid.proofs.GridShown.{count_shown, IsGrid-grown, stored_grown}
@@ -84,10 +84,4 @@ returns-clause-ok c =
     ∙ ap (λ (s : Stored). s.rows ++ map cell_of c.args.row.now ∷ []) c.cells.view_is
 
 pub returns-clause-small : goal.returns-clause-small
-returns-clause-small c =
-    omega (
-      arith,
-      c.cells.invariant.1,
-      ap (λ (s : Stored). length s.rows) (sym c.cells.view_is),
-      count_shown (string_bytes c.cells.inside.text) c.cells.inside.runs.items c.cells.inside.widths.items,
-    )
+returns-clause-small c = grind (arith, common_steps, c.cells.invariant.1, c.cells.view_is, count_shown)

@@ -1,14 +1,10 @@
-use Rattle.snippet_grid.proofs.Common.{arith, refl, string_bytes, false≢true}
+use Rattle.snippet_grid.proofs.Common.{common_steps, arith, refl, string_bytes, false≢true}
 use Rattle.snippet_grid.proofs.AddedRows.{FIRST, so_far_all, so_far_blank, so_far_more, so_far_none}
 use Rattle.snippet_grid.proofs.RunLemmas.{BeginsWith-same, BeginsWith-trans}
 use Rattle.snippet_grid.proofs.added_row.add_stretches.Goals as goal
 
 pub loop-from-init : goal.loop-from-init
-loop-from-init c =
-    record {
-      grows = BeginsWith-same (string_bytes c.args.text.now);
-      so_far = so_far_none (string_bytes c.args.text.now) c.args.row c.args.cells.now c.args.runs.now.items c.args.runs.now.items refl;
-    }
+loop-from-init c = grind (arith, common_steps, BeginsWith-same, so_far_none)
 
 pub loop-from-preserved-then-is_blank : goal.loop-from-preserved-then-is_blank
 loop-from-preserved-then-is_blank c =
@@ -31,6 +27,4 @@ loop-from-preserved c =
     }
 
 pub returns-clause-ok : goal.returns-clause-ok
-returns-clause-ok c =
-    so_far_all (string_bytes c.loop-from.text) c.args.row c.args.cells.now c.args.runs.now.items c.loop-from.runs.items c.loop-from.from
-    (omega (arith, c.loop-from-test.false)) c.loop-from.invariant.so_far
+returns-clause-ok c = grind (arith, common_steps, so_far_all, c.loop-from.text, c.loop-from.from, c.loop-from-test.false, c.loop-from.invariant.so_far)

@@ -1,10 +1,10 @@
-use Rattle.snippet_grid.proofs.Common.{◌≡◌, ◌∙◌, ◌+◌, ◌<◌, ◌≤◌, ◌^◌, ap, arith, refl, sym, subst, min, length, string_bytes}
-use Rattle.snippet_grid.proofs.Common.{get_or, List, ℕ, All, on_ok_weaker, on_err_weaker, changed_by, RowAt, ShowsSpan, cells_changed, Cell, IsRun, IsPut}
-use Rattle.snippet_grid.proofs.Common.{FitIn, shown_cell, Run, ◌++◌, ◌-◌, ◌*◌, take, drop, IsRow, EndsBy, row_at, Stored}
+use Rattle.snippet_grid.proofs.Common.{common_steps, ◌≡◌, ◌∙◌, ◌+◌, ◌≤◌, ap, arith, refl, sym, subst, min, length, string_bytes, get_or, List, ℕ, All}
+use Rattle.snippet_grid.proofs.Common.{on_ok_weaker, on_err_weaker, changed_by, RowAt, ShowsSpan, cells_changed, Cell, IsRun, IsPut, FitIn, shown_cell, Run}
+use Rattle.snippet_grid.proofs.Common.{◌++◌, ◌-◌, ◌*◌, take, drop, IsRow, EndsBy, Stored}
 use Rattle.snippet_grid.proofs.ReplaceLemmas.{cells_changed_none}
 use Rattle.snippet_grid.proofs.ChangedRow.{put_span, put_stays, part_same}
 use Rattle.snippet_grid.proofs.ReplacedRow.{grid_span, IsExchanged, IsGrid-put, FitIn-put, grid_changed}
-use Rattle.snippet_grid.proofs.GridShown.{on_err_from, IsGrid-grown, grid_grown, width_shown, stored_grown}
+use Rattle.snippet_grid.proofs.GridShown.{IsGrid-grown, grid_grown, width_shown, stored_grown}
 use Rattle.snippet_grid.proofs.RunLemmas.{on_either, stretch, BeginsWith-trans}
 use Rattle.snippet_grid.proofs.PutLemmas.{AreOrdered, AreApart, IsRow-stretch, RowAt-read, row_shows, begins_fit, put_length, length-stretch}
 use Rattle.snippet_grid.proofs.ShownLemmas.{All-IsRun-grown}
@@ -13,26 +13,10 @@ use Rattle.snippet_grid.proofs.change.change_cells.Goals.{After-row_bounds-from}
 
 pub returns-then-last-start-clause-ok : goal.returns-then-last-start-clause-ok
 returns-then-last-start-clause-ok c =
-    let was : c.width_of.result ≡ get_or c.grid.inside.widths.items c.args.cells.row 0 = c.width_of.ensures.value
-    ∙ ap (λ (u : List ℕ). get_or u c.args.cells.row 0) c.deref.ensures.value in
-    sym (cells_changed_none (changed_by c.args.change) c.args.grid.now.rows c.args.cells.row c.args.cells.start c.args.cells.end
-    (omega (
-      arith,
-      c.min-last.ensures,
-      was,
-      width_shown
-          (string_bytes c.grid.inside.text) c.grid.inside.runs.items c.grid.inside.widths.items c.args.cells.row,
-      ap (λ (s : Stored). length (row_at s.rows c.args.cells.row)) c.grid.view_is,
-    )))
+    grind (arith, common_steps, c.width_of.ensures.value, c.deref.ensures.value, cells_changed_none, c.min-last.ensures, width_shown, c.grid.view_is)
 
 pub row_bounds-from-requires : goal.row_bounds-from-requires
-row_bounds-from-requires c =
-    let is = sym c.as_slice-old.ensures.value in
-    record {
-      ordered = subst (λ (l : List Run). AreOrdered l) is c.grid.invariant.0.ordered;
-      fits = subst (λ (l : List Run). All (λ x. x.cell < 2 ^ 64) l) is
-          (begins_fit (string_bytes c.grid.inside.text) c.grid.inside.runs.items c.grid.invariant.0.are_runs);
-    }
+row_bounds-from-requires c = grind (arith, common_steps, c.as_slice-old.ensures.value, c.grid.invariant.0.ordered, begins_fit, c.grid.invariant.0.are_runs)
 
 -- where the runs of the row stand
 stands : (c : After-row_bounds-from) → RowAt c.grid.inside.runs.items c.args.cells.row c.row_bounds-from.result.0 c.row_bounds-from.result.1
@@ -62,16 +46,10 @@ invariant_of-grid c = (
 )
 
 pub returns-in_err-part-clause-err : goal.returns-in_err-part-clause-err
-returns-in_err-part-clause-err c =
-    on_err_from c.from_residual.result (stored_grown (string_bytes c.grid.inside.text)
-    (string_bytes c.part_at.new.text) c.grid.inside.runs.items c.grid.inside.runs.items c.grid.inside.widths.items c.grid.inside.widths.items
-    c.in_err-part.ensures.text refl refl
-    c.grid.invariant.0 ∙ c.grid.view_is)
+returns-in_err-part-clause-err c = grind (arith, common_steps, stored_grown, c.in_err-part.ensures.text, c.grid.invariant.0, c.grid.view_is)
 
 pub put_run-requires-clause-runs : goal.put_run-requires-clause-runs
-put_run-requires-clause-runs c =
-    All-IsRun-grown (string_bytes c.grid.inside.text) (string_bytes c.part_at.new.text) c.grid.inside.runs.items c.in_ok-part.ensures.text
-    c.grid.invariant.0.are_runs
+put_run-requires-clause-runs c = grind (arith, common_steps, All-IsRun-grown, c.in_ok-part.ensures.text, c.grid.invariant.0.are_runs)
 
 -- the part that is changed stands within the row
 reach : (c : goal.After-put_run) → c.changed.result.cell + c.changed.result.count ≤ get_or c.grid.inside.widths.items c.changed.result.row 0
@@ -154,11 +132,7 @@ invariant_of-grid-in_err-extend_from_slice c = (
 )
 
 pub returns-in_err-extend_from_slice-clause-err : goal.returns-in_err-extend_from_slice-clause-err
-returns-in_err-extend_from_slice-clause-err c =
-    on_err_from c.from_residual-in_err-extend_from_slice.result (stored_grown (string_bytes c.grid.inside.text)
-    (string_bytes c.part_at.new.text) c.grid.inside.runs.items c.grid.inside.runs.items c.grid.inside.widths.items c.grid.inside.widths.items
-    c.in_ok-part.ensures.text refl refl
-    c.grid.invariant.0 ∙ c.grid.view_is)
+returns-in_err-extend_from_slice-clause-err c = grind (arith, common_steps, stored_grown, c.in_ok-part.ensures.text, c.grid.invariant.0, c.grid.view_is)
 
 pub change_row-requires-clause-runs : goal.change_row-requires-clause-runs
 change_row-requires-clause-runs c =
@@ -187,18 +161,12 @@ invariant_of-grid-in_err-change_row c = (
 
 pub returns-in_err-change_row-clause-err : goal.returns-in_err-change_row-clause-err
 returns-in_err-change_row-clause-err c =
-    on_err_from c.from_residual-in_err-change_row.result (stored_grown (string_bytes c.grid.inside.text)
-    (string_bytes c.change_row.new.text) c.grid.inside.runs.items c.grid.inside.runs.items c.grid.inside.widths.items c.grid.inside.widths.items
-    (BeginsWith-trans _ _ _ c.in_ok-part.ensures.text c.in_err-change_row.ensures.text) refl refl c.grid.invariant.0 ∙ c.grid.view_is)
+    grind (arith, common_steps, stored_grown, BeginsWith-trans, c.in_ok-part.ensures.text, c.in_err-change_row.ensures.text, c.grid.invariant.0, c.grid.view_is)
 
 -- the runs that were copied are the row's
 copied : (c : goal.After-exchange) → c.extend_from_slice.new.self.items ≡ stretch c.grid.inside.runs.items c.row_bounds-from.result.0
     c.row_bounds-from.result.1
-copied c =
-    let from = c.row_bounds-from.result.0 in
-    let to = c.row_bounds-from.result.1 in
-    c.in_ok-extend_from_slice.ensures.items ∙ ap (λ (l : List Run). l ++ stretch c.as_slice.result.now from to) c.clear.ensures.items
-    ∙ ap (λ (l : List Run). stretch l from to) c.as_slice.ensures.value
+copied c = grind (arith, common_steps, c.as_slice.ensures.value)
 
 -- what is done where the changed runs take their place: these stand within the widths that the rows have
 exchanged : (c : goal.After-exchange) → c.exchange.new.runs.items ≡ take c.row_bounds-from.result.0 c.grid.inside.runs.items

@@ -1,12 +1,10 @@
-use Rattle.snippet_grid.proofs.Common.{string_bytes, subst, sym, List, IsPartOfRow, IsRow, shown_cell, Run}
+use Rattle.snippet_grid.proofs.Common.{common_steps, arith, string_bytes, subst, sym, List, IsPartOfRow, IsRow, shown_cell, Run}
 use Rattle.snippet_grid.proofs.ChangedRow.{change_next}
 use Rattle.snippet_grid.proofs.ShownLemmas.{All-IsRun-grown}
 use Rattle.snippet_grid.proofs.change.change_row.Goals as goal
 
 pub put_run-requires-clause-runs : goal.put_run-requires-clause-runs
-put_run-requires-clause-runs c =
-    All-IsRun-grown (string_bytes c.loop-col.text) (string_bytes c.part_at.new.text) c.loop-col.runs.items c.in_ok-part.ensures.text
-    c.loop-col.invariant.is_row.are_runs
+put_run-requires-clause-runs c = grind (arith, common_steps, All-IsRun-grown, c.loop-col.text, c.in_ok-part.ensures.text, c.loop-col.invariant.is_row.are_runs)
 
 pub loop-col-preserved : goal.loop-col-preserved
 loop-col-preserved c =

@@ -1,24 +1,19 @@
-use Rattle.snippet_grid.proofs.Common.{◌≡◌, ◌∙◌, ◌++◌, ◌∷◌, [], ℕ, List, ap, sym, encode_utf8_all, string_bytes, flat_map, map-id}
-use Rattle.snippet_grid.proofs.Common.{flat_map-append, encodes-append, YieldsList-from_chars, YieldsList-end, escape, escaped}
-use Rattle.std.proofs.Common.{append_assoc, append-nil}
+use Rattle.snippet_grid.proofs.Common.{common_steps, arith, ◌≡◌, ◌∙◌, ◌++◌, ◌∷◌, [], ℕ, List, ap, sym, encode_utf8_all, string_bytes, map-id, flat_map-append}
+use Rattle.snippet_grid.proofs.Common.{encodes-append, YieldsList-from_chars, YieldsList-end, escape, escaped}
+use Rattle.std.proofs.Common.{append-nil}
 use Rattle.snippet_grid.proofs.html.push_escaped.Goals as goal
 
 -- a text that has the characters so far escaped, and one more, has them all escaped
 step : (before now after : List ℕ) (yielded : List ℕ) (ch : ℕ) → now ≡ before ++ encode_utf8_all (escaped yielded)
     → after ≡ now ++ encode_utf8_all (escape ch) → after ≡ before ++ encode_utf8_all (escaped (yielded ++ ch ∷ []))
-step before now after yielded ch so_far added =
-    let more : escaped (yielded ++ ch ∷ []) ≡ escaped yielded ++ escape ch =
-    flat_map-append escape yielded (ch ∷ []) ∙ ap (λ t. flat_map escape yielded ++ t) (append-nil (escape ch)) in
-    added ∙ ap (λ t. t ++ encode_utf8_all (escape ch)) so_far ∙ append_assoc before _ _
-    ∙ ap (λ t. before ++ t) (sym (encodes-append (escaped yielded) (escape ch)) ∙ ap encode_utf8_all (sym more))
+step before now after yielded ch so_far added = grind (arith, common_steps, flat_map-append, encodes-append)
 
 pub loop-ch-init : goal.loop-ch-init
 loop-ch-init c = sym (append-nil _)
 
 pub loop-ch-preserved : goal.loop-ch-preserved
 loop-ch-preserved c =
-    step (string_bytes c.args.out.now) (string_bytes c.loop-ch.out) (string_bytes c.push_character.new.out) c.loop-ch.yielded c.in-Some.ch
-    c.loop-ch.invariant c.in_ok-push_character.ensures.added
+    grind (arith, common_steps, step, c.loop-ch.out, c.loop-ch.yielded, c.in-Some.ch, c.loop-ch.invariant, c.in_ok-push_character.ensures.added)
 
 pub returns : goal.returns
 returns c =

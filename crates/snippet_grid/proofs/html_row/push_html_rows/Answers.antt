@@ -1,15 +1,11 @@
-use Rattle.snippet_grid.proofs.Common.{◌∙◌, [], List, ℕ, Cell, append-nil, arith, refl, string_bytes, subst, sym, take}
-use Rattle.snippet_grid.proofs.Common.{AddsHtml, AddsHtmlCells, HtmlRow, IsHtmlBegun, LevelInner, grid_shown, row_at, row_html, rows_html}
+use Rattle.snippet_grid.proofs.Common.{common_steps, ◌∙◌, [], List, ℕ, Cell, arith, string_bytes, subst, sym, take, AddsHtml, AddsHtmlCells, HtmlRow}
+use Rattle.snippet_grid.proofs.Common.{IsHtmlBegun, LevelInner, grid_shown, row_at, row_html, rows_html}
 use Rattle.snippet_grid.proofs.HtmlRows.{html_begun, html_none, html_rows_more}
 use Rattle.snippet_grid.proofs.RowWoven.{begins_first, rows_to-all, rows_to-length, rows_to-more}
 use Rattle.snippet_grid.proofs.html_row.push_html_rows.Goals as goal
 
 pub loop-row-init : goal.loop-row-init
-loop-row-init c = record {
-  begins = begins_first c.args.runs.now;
-  begun = record { grouped = refl; plain = refl };
-  printed = sym (append-nil (string_bytes c.args.before));
-}
+loop-row-init c = grind (arith, common_steps, begins_first)
 
 pub loop-row-preserved : goal.loop-row-preserved
 loop-row-preserved c =
@@ -41,8 +37,5 @@ loop-row-preserved c =
     }
 
 pub returns : goal.returns
-returns c = record {
-  added = subst (λ (rows : List (List Cell)). AddsHtml (rows_html c.args.level rows) (string_bytes c.args.before) (string_bytes c.loop-row.line.text))
-      (rows_to-all c.args.text.now c.args.runs.now c.args.widths.now c.loop-row.row (omega (arith, c.loop-row-test.false, c.loop-row.auto.row-end)))
-      c.loop-row.invariant.printed;
-}
+returns c =
+    grind (arith, common_steps, c.loop-row.line.text, rows_to-all, c.loop-row.row, c.loop-row-test.false, c.loop-row.auto.row-end, c.loop-row.invariant.printed)

@@ -1,15 +1,11 @@
-use Rattle.snippet_grid.proofs.Common.{◌∙◌, [], List, ℕ, Cell, append-nil, arith, refl, string_bytes, subst, sym, take}
-use Rattle.snippet_grid.proofs.Common.{AddsCells, IsBegun, LevelInner, PrintedRow, Stylesheet, WeavesRow, WeavesRows, grid_shown, row_at}
+use Rattle.snippet_grid.proofs.Common.{common_steps, ◌∙◌, [], List, ℕ, Cell, arith, string_bytes, subst, sym, take, AddsCells, IsBegun, LevelInner, PrintedRow}
+use Rattle.snippet_grid.proofs.Common.{Stylesheet, WeavesRow, WeavesRows, grid_shown, row_at}
 use Rattle.snippet_grid.proofs.OpenRowLemmas.{adds_none, none_printed}
 use Rattle.snippet_grid.proofs.RowWoven.{begins_first, rows_more, rows_to-all, rows_to-length, rows_to-more}
 use Rattle.snippet_grid.proofs.printed_row.print_rows.Goals as goal
 
 pub loop-row-init : goal.loop-row-init
-loop-row-init c = record {
-  begins = begins_first c.args.runs.now;
-  begun = record { under = refl; grouped = refl; plain = refl; unlinked = refl };
-  printed = record { pieces = []; text_is = sym (append-nil (string_bytes c.args.before)); are = refl };
-}
+loop-row-init c = grind (arith, common_steps, begins_first)
 
 pub loop-row-preserved : goal.loop-row-preserved
 loop-row-preserved c =
@@ -50,8 +46,5 @@ loop-row-preserved c =
     }
 
 pub returns : goal.returns
-returns c = record {
-  text = subst (λ (rows : List (List Cell)). WeavesRows c.args.codes.now c.args.level rows (string_bytes c.args.before) (string_bytes c.loop-row.line.text))
-      (rows_to-all c.args.text.now c.args.runs.now c.args.widths.now c.loop-row.row (omega (arith, c.loop-row-test.false, c.loop-row.auto.row-end)))
-      c.loop-row.invariant.printed;
-}
+returns c =
+    grind (arith, common_steps, c.loop-row.line.text, rows_to-all, c.loop-row.row, c.loop-row-test.false, c.loop-row.auto.row-end, c.loop-row.invariant.printed)

@@ -1,9 +1,8 @@
-use Rattle.snippet_grid.proofs.Common.{◌≡◌, ◌∙◌, ◌++◌, ap, sym, subst, arith, string_bytes, List, [], ◌∷◌, ℕ, All, All-nil, IsRun}
-use Rattle.snippet_grid.proofs.Common.{AreTouchedRuns, IsFront, IsBack, Run}
+use Rattle.snippet_grid.proofs.Common.{common_steps, sym, subst, arith, string_bytes, List, [], ◌∷◌, ℕ, All-nil, IsRun, AreTouchedRuns, IsFront, IsBack}
 use Rattle.snippet_grid.proofs.RunLemmas.{on_ok_three, IsRun-grown, BeginsWith-trans}
 use Rattle.snippet_grid.proofs.PieceLemmas.{ArePieces-two, ArePieces-three}
 use Rattle.snippet_grid.proofs.put.add_pieces.Goals as goal
-use Rattle.snippet_grid.proofs.put.add_pieces.Goals.{After-add_run, in-Some+in_ok-push, in_default}
+use Rattle.snippet_grid.proofs.put.add_pieces.Goals.{After-add_run}
 
 pub add_run-requires-in-Some-back : goal.add_run-requires-in-Some-back
 add_run-requires-in-Some-back c =
@@ -18,17 +17,7 @@ add_run-requires-in-Some-back c =
 
 -- what the first of the runs holds before the new one stays
 front_kept : (c : After-add_run) → IsFront (string_bytes c.args.text.now) c.args.touched.now c.args.run.now c.match-front.pieces.items
-front_kept c =
-    let text = string_bytes c.args.text.now in
-    elim c.match-front.branch [
-      | in-Some+in_ok-push w ↦
-          let items : w.push.new.self.items ≡ w.in-Some.left ∷ [] = w.in_ok-push.ensures.items
-          ∙ ap (λ (l : List Run). l ++ w.in-Some.left ∷ []) c.requires.none in
-          rw (w.pieces-is) (subst (λ (l : List Run). IsFront text c.args.touched.now c.args.run.now l) (sym items)
-          (subst (λ (t : List ℕ). IsFront t c.args.touched.now c.args.run.now (w.in-Some.left ∷ [])) c.as_str.ensures.value w.in-Some.ensures.front))
-      | in_default w ↦ rw (w.pieces-is) (subst (λ (l : List Run). IsFront text c.args.touched.now c.args.run.now l) (sym c.requires.none)
-          (subst (λ (t : List ℕ). IsFront t c.args.touched.now c.args.run.now []) c.as_str.ensures.value w.in_default.ensures.front))
-    ]
+front_kept c = grind (arith, common_steps, c.match-front.branch, c.requires.none, c.as_str.ensures.value)
 
 pub returns-in-Some-back : goal.returns-in-Some-back
 returns-in-Some-back c =
@@ -69,17 +58,7 @@ back_of-back-requires-clause-run c =
     subst (λ (t : List ℕ). IsRun t c.args.run.now) (sym c.as_str-2.ensures.value) c.requires.run
 
 pub add_run-requires-clause-runs : goal.add_run-requires-clause-runs
-add_run-requires-clause-runs c =
-    let text = string_bytes c.args.text.now in
-    elim c.match-front.branch [
-      | in-Some+in_ok-push w ↦
-          let items : w.push.new.self.items ≡ w.in-Some.left ∷ [] = w.in_ok-push.ensures.items
-          ∙ ap (λ (l : List Run). l ++ w.in-Some.left ∷ []) c.requires.none in
-          let front : IsFront text c.args.touched.now c.args.run.now (w.in-Some.left ∷ []) = subst
-          (λ (t : List ℕ). IsFront t c.args.touched.now c.args.run.now (w.in-Some.left ∷ [])) c.as_str.ensures.value w.in-Some.ensures.front in
-          rw (w.pieces-is) (subst (λ (l : List Run). All (λ x. IsRun text x) l) (sym items) front.is_row.are_runs)
-      | in_default w ↦ rw (w.pieces-is) (subst (λ (l : List Run). All (λ x. IsRun text x) l) (sym c.requires.none) (All-nil _))
-    ]
+add_run-requires-clause-runs c = grind (arith, common_steps, c.match-front.branch, c.requires.none, c.as_str.ensures.value, All-nil)
 
 pub add_run-requires-clause-run : goal.add_run-requires-clause-run
 add_run-requires-clause-run c = c.requires.run

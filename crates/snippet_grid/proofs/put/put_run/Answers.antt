@@ -1,6 +1,6 @@
-use Rattle.snippet_grid.proofs.Common.{arith, ◌-◌, ◌<◌, ◌≤◌, ◌∙◌, ap, sym, subst, string_bytes, length, take, drop, get_or, set, List, []}
-use Rattle.snippet_grid.proofs.Common.{◌∷◌, ◌≡◌, ℕ, All, append_assoc, get_or_default, set-get_or, on_ok_weaker, on_err_weaker, IsRun, Continues}
-use Rattle.snippet_grid.proofs.Common.{IsClear, Touches, ArePieces, Precedes, Run}
+use Rattle.snippet_grid.proofs.Common.{common_steps, arith, ◌-◌, ◌<◌, ◌≤◌, ◌∙◌, ap, sym, subst, string_bytes, length, take, drop, get_or, set, List, [], ◌∷◌}
+use Rattle.snippet_grid.proofs.Common.{◌≡◌, ℕ, All, append_assoc, get_or_default, set-get_or, on_ok_weaker, on_err_weaker, IsRun, Continues, IsClear, Touches}
+use Rattle.snippet_grid.proofs.Common.{ArePieces, Precedes, Run}
 use Rattle.snippet_grid.proofs.RunLemmas.{on_ok_three, none, BeginsWith-same, stretch}
 use Rattle.snippet_grid.proofs.PieceLemmas.{ArePieces-alone, IsPut-one}
 use Rattle.snippet_grid.proofs.PutLemmas.{AllFit, AreOrdered, AreApart, fits_all}
@@ -98,10 +98,7 @@ returns-clause-ok c =
 
 -- what is asked of the runs holds of the slice that they are read from
 pub are_before-requires : goal.are_before-requires
-are_before-requires c = record {
-  ordered = subst AreOrdered (sym c.as_slice-old.ensures.value) c.requires.ordered;
-  are_runs = subst AllFit (sym c.as_slice-old.ensures.value) (fits_all (string_bytes c.args.text.now) c.args.runs.now.items c.requires.runs);
-}
+are_before-requires c = grind (arith, common_steps, c.as_slice-old.ensures.value, c.requires.ordered, fits_all, c.requires.runs)
 
 pub begun_by-end-requires : goal.begun_by-end-requires
 begun_by-end-requires c =
@@ -119,16 +116,15 @@ first_touched-start-requires c =
 
 pub join-requires : goal.join-requires
 join-requires c =
-    let is = c.as_slice-old.ensures.value in
-    let items = c.args.runs.now.items in
-    let start = c.first_touched-start.result in
-    let run = c.args.run.now in
-    let first = c.index_mut.result.now in
-    let there : start < length items = subst (λ (l : List Run). start < length l) is
-    (omega (arith, c.if-end-start-eq1.true, c.begun_by-end.ensures.within)) in
-    let same = ap (λ (l : List Run). get_or l start none) is ∙ get_or_default items start none first there ∙ sym c.index_mut.ensures.value in
-    record {
-      first = subst (λ (x : Run). IsRun (string_bytes c.args.text.now) x) (sym c.index_mut.ensures.value) (c.requires.runs start first there);
-      second = c.requires.run;
-      continues = subst (λ x. Continues x run) same (c.continues.ensures.yes c.if-continues.true);
-    }
+    grind (
+      arith,
+      common_steps,
+      c.as_slice-old.ensures.value,
+      c.if-end-start-eq1.true,
+      c.begun_by-end.ensures.within,
+      c.index_mut.ensures.value,
+      c.requires.runs,
+      c.requires.run,
+      c.continues.ensures.yes,
+      c.if-continues.true,
+    )

@@ -1,4 +1,4 @@
-use Rattle.snippet_grid.proofs.Common.{◌≡◌, ◌∙◌, ◌+◌, ap, arith, rules, length, string_bytes, ℕ, on_ok_weaker}
+use Rattle.snippet_grid.proofs.Common.{common_steps, ◌≡◌, ◌∙◌, ◌+◌, ap, arith, rules, length, string_bytes, ℕ, on_ok_weaker}
 use Rattle.std.specs.Str.{chars}
 use Rattle.snippet_grid.proofs.RunLemmas.{BeginsWith-trans, on_ok_two}
 use Rattle.snippet_grid.proofs.GridShown.{chars_some}
@@ -16,11 +16,7 @@ pub push_word-requires-clause-some : goal.push_word-requires-clause-some
 push_word-requires-clause-some c = chars_some c.args.word.now c.utf8.word (first_of (omega arith, search rules, grind arith))
 
 pub add_run-requires : goal.add_run-requires
-add_run-requires c = record {
-  runs = All-IsRun-grown (string_bytes c.args.text.now) (string_bytes c.push_word.new.text) c.args.spare.now.runs.items c.in_ok-run.ensures.text
-      c.requires.out.are_runs;
-  run = c.in_ok-run.ensures.ok.is_run;
-}
+add_run-requires c = grind (arith, common_steps, All-IsRun-grown, c.in_ok-run.ensures.text, c.requires.out.are_runs, c.in_ok-run.ensures.ok.is_run)
 
 pub returns : goal.returns
 returns c =

@@ -1,9 +1,9 @@
-use Rattle.snippet_grid.proofs.Common.{rules, ◌≡◌, ◌∙◌, ◌+◌, ◌-◌, ◌<◌, ◌≤◌, ◌^◌, ap, arith, refl, sym, subst, inl, inr}
-use Rattle.snippet_grid.proofs.Common.{string_bytes, get_or, List, ℕ, All, length, set, cases_lt, length-set, get_or-set_same, get_or-set_other, get_or_past}
-use Rattle.snippet_grid.proofs.Common.{length-text_cells, RowAt, ShowsReplaced, text_cells, IsRun, EndsBy, FitIn, Run, row_at, cells_replaced, Stored}
+use Rattle.snippet_grid.proofs.Common.{common_steps, rules, ◌≡◌, ◌∙◌, ◌+◌, ◌-◌, ◌<◌, ◌≤◌, ap, arith, refl, sym, subst, inl, inr, string_bytes, get_or, List, ℕ}
+use Rattle.snippet_grid.proofs.Common.{All, length, set, cases_lt, length-set, get_or-set_other, get_or_past, length-text_cells, RowAt, ShowsReplaced}
+use Rattle.snippet_grid.proofs.Common.{text_cells, IsRun, EndsBy, FitIn, Run, row_at, cells_replaced, Stored}
 use Rattle.std.specs.Str.{chars}
 use Rattle.snippet_grid.proofs.ReplacedRow.{IsExchanged, IsGrid-put, grid_replaced, FitIn-replaced}
-use Rattle.snippet_grid.proofs.GridShown.{on_err_from, IsGrid-grown, width_shown, stored_grown}
+use Rattle.snippet_grid.proofs.GridShown.{IsGrid-grown, width_shown, stored_grown}
 use Rattle.snippet_grid.proofs.PutLemmas.{AreOrdered, AreApart, IsRow-stretch, RowAt-read, begins_fit, row_ends, put_length, length-stretch}
 use Rattle.snippet_grid.proofs.ReplaceLemmas.{cells_replaced_empty, cells_replaced_past}
 use Rattle.snippet_grid.proofs.RunLemmas.{stretch}
@@ -24,13 +24,7 @@ returns-then-end-start-clause-ok c =
     ]
 
 pub row_bounds-from-requires : goal.row_bounds-from-requires
-row_bounds-from-requires c =
-    let is = sym c.as_slice-old.ensures.value in
-    record {
-      ordered = subst (λ (l : List Run). AreOrdered l) is c.grid.invariant.0.ordered;
-      fits = subst (λ (l : List Run). All (λ x. x.cell < 2 ^ 64) l) is
-          (begins_fit (string_bytes c.grid.inside.text) c.grid.inside.runs.items c.grid.invariant.0.are_runs);
-    }
+row_bounds-from-requires c = grind (arith, common_steps, c.as_slice-old.ensures.value, c.grid.invariant.0.ordered, begins_fit, c.grid.invariant.0.are_runs)
 
 -- where the runs of the row stand
 stands : (c : After-row_bounds-from) → RowAt c.grid.inside.runs.items c.args.cells.row c.row_bounds-from.result.0 c.row_bounds-from.result.1
@@ -61,10 +55,7 @@ invariant_of-grid c = (
 )
 
 pub returns-in_err-replaced_row-clause-err : goal.returns-in_err-replaced_row-clause-err
-returns-in_err-replaced_row-clause-err c =
-    on_err_from c.from_residual.result (stored_grown (string_bytes c.grid.inside.text)
-    (string_bytes c.replaced_row.new.text) c.grid.inside.runs.items c.grid.inside.runs.items c.grid.inside.widths.items c.grid.inside.widths.items
-    c.in_err-replaced_row.ensures.text refl refl c.grid.invariant.0 ∙ c.grid.view_is)
+returns-in_err-replaced_row-clause-err c = grind (arith, common_steps, stored_grown, c.in_err-replaced_row.ensures.text, c.grid.invariant.0, c.grid.view_is)
 
 pub invariant_of-grid-in_err-exchange : goal.invariant_of-grid-in_err-exchange
 invariant_of-grid-in_err-exchange c = (
@@ -76,10 +67,7 @@ invariant_of-grid-in_err-exchange c = (
 
 pub returns-in_err-exchange-clause-err : goal.returns-in_err-exchange-clause-err
 returns-in_err-exchange-clause-err c =
-    on_err_from c.from_residual-in_err-exchange.result
-    (stored_grown (string_bytes c.grid.inside.text) (string_bytes c.replaced_row.new.text)
-    c.grid.inside.runs.items c.exchange.new.runs.items c.grid.inside.widths.items c.grid.inside.widths.items c.in_ok-replaced_row.ensures.text
-    c.in_err-exchange.ensures.err refl c.grid.invariant.0 ∙ c.grid.view_is)
+    grind (arith, common_steps, stored_grown, c.in_ok-replaced_row.ensures.text, c.in_err-exchange.ensures.err, c.grid.invariant.0, c.grid.view_is)
 
 -- the row's runs are exchanged
 exchanged : (c : goal.After-grid-1) → IsExchanged (string_bytes c.grid.inside.text) (string_bytes c.replaced_row.new.text) c.grid.inside.runs.items
@@ -98,21 +86,17 @@ exchanged c = record {
 wide : (c : goal.After-grid-1) → get_or (set c.grid.inside.widths.items c.args.cells.row c.in-Some.wide) c.args.cells.row 0
     ≡ c.args.cells.start + length (chars c.args.word.now) + (get_or c.grid.inside.widths.items c.args.cells.row 0 - c.args.cells.end)
 wide c =
-    let row = c.args.cells.row in
-    let w = c.grid.inside.widths.items in
-    let was : c.width_of-width.result ≡ get_or w row 0 = c.width_of-width.ensures.value ∙ ap (λ (u : List ℕ). get_or u row 0) c.deref.ensures.value in
-    let there : row < length w = elim (cases_lt row (length w)) [
-      | inl h ↦ h
-      | inr past ↦ absurd (omega (arith, get_or_past w row 0 past, was, c.if-end-start.false, c.if-width-end.false))
-    ] in
-    omega (
+    grind (
       arith,
-      get_or-set_same w row c.in-Some.wide 0 there,
-      c.in-Some.ensures,
-      c.char_count.ensures.value,
-      was,
+      common_steps,
+      c.width_of-width.ensures.value,
+      c.deref.ensures.value,
+      get_or_past,
       c.if-end-start.false,
       c.if-width-end.false,
+      c.in-Some.wide,
+      c.in-Some.ensures,
+      c.char_count.ensures.value,
     )
 
 fitting : (c : goal.After-grid-1) → FitIn (set c.grid.inside.widths.items c.args.cells.row c.in-Some.wide) c.exchange.new.runs.items
@@ -192,15 +176,7 @@ replaced_row-requires-clause-moved c =
 
 -- where there are such cells, the row isn't too short for them
 long_enough : (c : After-checked_add) → length (row_at c.args.grid.now.rows c.args.cells.row) < c.args.cells.end → ⊥
-long_enough c past = omega (
-  arith,
-  past,
-  c.if-width-end.false,
-  c.width_of-width.ensures.value,
-  ap (λ (u : List ℕ). get_or u c.args.cells.row 0) c.deref.ensures.value,
-  width_shown (string_bytes c.grid.inside.text) c.grid.inside.runs.items c.grid.inside.widths.items c.args.cells.row,
-  ap (λ (s : Stored). length (row_at s.rows c.args.cells.row)) c.grid.view_is,
-)
+long_enough c past = grind (arith, common_steps, c.if-width-end.false, c.width_of-width.ensures.value, c.deref.ensures.value, width_shown, c.grid.view_is)
 
 pub returns-in_default-clause-past_succeeds : goal.returns-in_default-clause-past_succeeds
 returns-in_default-clause-past_succeeds c = λ past. absurd (long_enough (goal.at.returns-in_default-clause-past_succeeds c).After-checked_add past)

@@ -1,5 +1,5 @@
-use Rattle.snippet_grid.proofs.Common.{◌+◌, ◌-◌, arith, ap, sym, subst, slice_index_or, List, length, string_bytes, All-nil, on_ok_weaker}
-use Rattle.snippet_grid.proofs.Common.{length-text_cells, ShowsSpan, SPACE, text_cells, IsRow, EndsBy, Run}
+use Rattle.snippet_grid.proofs.Common.{common_steps, ◌+◌, ◌-◌, arith, ap, sym, subst, slice_index_or, length, string_bytes, All-nil, on_ok_weaker}
+use Rattle.snippet_grid.proofs.Common.{length-text_cells, ShowsSpan, SPACE, text_cells, EndsBy}
 use Rattle.std.specs.Str.{chars}
 use Rattle.snippet_grid.proofs.PieceLemmas.{IsRow-none}
 use Rattle.snippet_grid.proofs.ReplacedRow.{touched_outer, row_replaced}
@@ -9,22 +9,10 @@ use Rattle.snippet_grid.proofs.replace.replaced_row.Goals as goal
 
 -- the row is begun with no runs
 pub copy_cells-requires : goal.copy_cells-requires
-copy_cells-requires c =
-    let text = string_bytes c.args.text.now in
-    let none = sym c.clear.ensures.items in
-    record {
-      out = subst (λ (l : List Run). IsRow text c.args.cells.row l) none (IsRow-none text c.args.cells.row);
-      before = subst (λ (l : List Run). EndsBy 0 l) none (All-nil _);
-      runs = c.requires.runs;
-      fits = λ k d within. omega (arith, (c.requires.runs.are_runs k d within).fits);
-    }
+copy_cells-requires c = grind (arith, common_steps, IsRow-none, All-nil, c.requires.runs, c.requires.runs.are_runs)
 
 pub add_word-requires : goal.add_word-requires
-add_word-requires c = record {
-  out = c.in_ok-copy_cells.ensures.row;
-  before = λ k d within. omega (arith, c.in_ok-copy_cells.ensures.ends k d within);
-  fits = c.requires.fits;
-}
+add_word-requires c = grind (arith, common_steps, c.in_ok-copy_cells.ensures.row, c.in_ok-copy_cells.ensures.ends, c.requires.fits)
 
 pub copy_cells-requires-2 : goal.copy_cells-requires-2
 copy_cells-requires-2 c =
@@ -39,9 +27,7 @@ copy_cells-requires-2 c =
     }
 
 pub returns-in_err-add_word-clause-text : goal.returns-in_err-add_word-clause-text
-returns-in_err-add_word-clause-text c =
-    BeginsWith-trans (string_bytes c.args.text.now) (string_bytes c.copy_cells.new.text)
-    (string_bytes c.add_word.new.text) c.in_ok-copy_cells.ensures.text c.in_err-add_word.ensures.text
+returns-in_err-add_word-clause-text c = grind (arith, common_steps, BeginsWith-trans, c.in_ok-copy_cells.ensures.text, c.in_err-add_word.ensures.text)
 
 pub returns : goal.returns
 returns c =

@@ -1,4 +1,4 @@
-use Rattle.snippet_grid.proofs.Common.{◌++◌, List, Cell, refl, subst}
+use Rattle.snippet_grid.proofs.Common.{common_steps, arith, refl}
 use Rattle.snippet_grid.proofs.PutLemmas.{IsRow-stretch, row_ends}
 use Rattle.snippet_grid.proofs.RowWoven.{begins_next, cells_of_row}
 use Rattle.snippet_grid.proofs.row_runs.write_row.Goals as goal
@@ -13,11 +13,4 @@ write_runs-requires g c =
     λ k. ((refl, tt), (runs, ends))
 
 pub returns : goal.returns
-returns g c =
-    let at = c.row_end-to.ensures.at in
-    record {
-      next = begins_next c.args.runs.now c.args.from c.row_end-to.result c.args.row at;
-      added = λ start cells adds. subst (λ (more : List Cell). g.S.RowSink.adds start c.write_runs.new.sink (cells ++ more))
-          (cells_of_row c.args.text.now c.args.runs.now c.args.widths.now c.args.row c.args.from c.row_end-to.result at)
-          (c.in_ok-write_runs.ensures.added start cells adds);
-    }
+returns g c = grind (arith, common_steps, c.row_end-to.ensures.at, begins_next, g.S.RowSink.adds, cells_of_row, c.in_ok-write_runs.ensures.added)

@@ -1,16 +1,11 @@
-use Rattle.snippet_grid.proofs.Common.{◌∙◌, ◌<◌, ◌≤◌, ◌-◌, ◌++◌, ℕ, List, Cell, Run, SPACE, ap, append-nil, append_assoc, arith, cells_to, get_or}
-use Rattle.snippet_grid.proofs.Common.{cells_alike, length, on_ok_weaker, option_copied, refl, replicate, run_chars, subst, sym}
+use Rattle.snippet_grid.proofs.Common.{common_steps, ◌∙◌, ◌-◌, ◌++◌, List, Cell, Run, SPACE, ap, append_assoc, arith, cells_to, get_or, cells_alike}
+use Rattle.snippet_grid.proofs.Common.{option_copied, refl, replicate, run_chars, subst, sym}
 use Rattle.snippet_grid.proofs.RunLemmas.{none}
 use Rattle.snippet_grid.proofs.RowWoven.{cells_gap, cells_run, first_ahead, stands_first, stands_next}
 use Rattle.snippet_grid.proofs.row_runs.write_runs.Goals as goal
 
 pub loop-run-init : goal.loop-run-init
-loop-run-init g c =
-    record {
-      added = λ start cells adds. subst (λ (done : List Cell). g.S.RowSink.adds start c.args.sink.now done) (sym (append-nil cells)) adds;
-      stands = stands_first c.args.runs.now;
-      inside = omega arith;
-    }
+loop-run-init g c = grind (arith, common_steps, g.S.RowSink.adds, stands_first)
 
 pub write_run-requires : goal.write_run-requires
 write_run-requires g c = λ k. ((refl, tt), c.requires.runs.are_runs c.loop-run.run-index none c.loop-run-test.true)
@@ -44,17 +39,15 @@ overflow_sub-run g c = omega (arith, c.loop-run.invariant.stands.ahead c.loop-ru
 
 pub returns : goal.returns
 returns g c =
-    let text = c.args.text.now in
-    let runs = c.args.runs.now in
-    let row = c.args.row in
-    let n = c.loop-run.run-index in
-    let past : (k : ℕ) (d : Run) → n ≤ k → k < length runs → c.args.width ≤ (get_or runs k d).cell = λ k d after within.
-    absurd (omega (arith, c.loop-run-test.false)) in
-    let gap = cells_gap text runs row n c.loop-run.col c.args.width c.loop-run.invariant.stands c.loop-run.invariant.inside past in
-    let whole : List Cell = cells_to text runs row c.loop-run.col in
-    record {
-      added = on_ok_weaker c.add_spaces-2.result (λ added start cells adds.
-          subst (λ (done : List Cell). g.S.RowSink.adds start c.add_spaces-2.new.self done)
-          (append_assoc cells whole (replicate (c.args.width - c.loop-run.col) SPACE) ∙ ap (λ (done : List Cell). cells ++ done) (sym gap))
-          (added start (cells ++ whole) (c.loop-run.invariant.added start cells adds))) c.add_spaces-2.ensures.added;
-    }
+    grind (
+      arith,
+      common_steps,
+      c.loop-run.run-index,
+      c.loop-run-test.false,
+      cells_gap,
+      c.loop-run.col,
+      c.loop-run.invariant.stands,
+      g.S.RowSink.adds,
+      c.loop-run.invariant.added,
+      c.add_spaces-2.ensures.added,
+    )

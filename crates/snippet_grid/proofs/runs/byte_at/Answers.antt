@@ -1,4 +1,4 @@
-use Rattle.snippet_grid.proofs.Common.{length, arith, refl, YieldsList-from_chars, length_push, YieldsList-turn, YieldsList-end}
+use Rattle.snippet_grid.proofs.Common.{common_steps, length, arith, refl, YieldsList-from_chars, length_push, YieldsList-turn, YieldsList-end}
 use Rattle.std.proofs.Common.{chars}
 use Rattle.snippet_grid.proofs.CutLemmas.{cut_next, cut_here, cut_all, bytes_next, bytes_within}
 use Rattle.snippet_grid.proofs.runs.byte_at.Goals as goal
@@ -8,8 +8,7 @@ loop-ch-init c = record { bytes = refl; left_is = omega arith }
 
 pub returns-then-left-eq0 : goal.returns-then-left-eq0
 returns-then-left-eq0 c =
-    let value = cut_here c.args.count (chars c.args.text.now) (length c.loop-ch.yielded) c.loop-ch.at c.loop-ch.left c.if-left-eq0.true c.loop-ch.invariant in
-    record { value = value; inside = omega (arith, value, bytes_within c.args.text.now c.args.count c.utf8.text) }
+    grind (arith, common_steps, cut_here, c.loop-ch.yielded, c.loop-ch.at, c.loop-ch.left, c.if-left-eq0.true, c.loop-ch.invariant, bytes_within, c.utf8.text)
 
 pub overflow_add-at : goal.overflow_add-at
 overflow_add-at c =

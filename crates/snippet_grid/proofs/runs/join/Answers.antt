@@ -1,5 +1,5 @@
-use Rattle.snippet_grid.proofs.Common.{string_bytes, refl, rules, subst, sym, ap, take, drop, ◌≡◌, ◌∙◌, ◌-◌, ◌++◌, List, ℕ}
-use Rattle.snippet_grid.proofs.Common.{IsUtf8-string_bytes, IsCharBoundary, run_bytes}
+use Rattle.snippet_grid.proofs.Common.{common_steps, arith, string_bytes, refl, rules, subst, ap, take, drop, ◌≡◌, ◌∙◌, ◌-◌, ◌++◌, List, ℕ, IsUtf8-string_bytes}
+use Rattle.snippet_grid.proofs.Common.{run_bytes}
 use Rattle.snippet_grid.proofs.RunLemmas.{IsJoined-copied, IsJoined-here, ends_at_boundary, starts_at_boundary}
 use Rattle.snippet_grid.proofs.runs.join.Goals as goal
 
@@ -14,24 +14,16 @@ returns-then-stands_at-clause-ok c =
     refl refl refl refl refl
 
 pub range-requires-clause-start_boundary : goal.range-requires-clause-start_boundary
-range-requires-clause-start_boundary c =
-    λ _. subst (λ (t : List ℕ). IsCharBoundary t c.args.first.now.start) (sym c.deref.ensures)
-    (starts_at_boundary (string_bytes c.args.text.now) c.args.first.now (IsUtf8-string_bytes c.args.text.now) c.requires.first)
+range-requires-clause-start_boundary c = grind (arith, common_steps, c.deref.ensures, starts_at_boundary, IsUtf8-string_bytes, c.requires.first)
 
 pub range-requires-clause-end_boundary : goal.range-requires-clause-end_boundary
-range-requires-clause-end_boundary c =
-    subst (λ (t : List ℕ). IsCharBoundary t c.args.first.now.end) (sym c.deref.ensures)
-    (ends_at_boundary (string_bytes c.args.text.now) c.args.first.now (IsUtf8-string_bytes c.args.text.now) c.requires.first)
+range-requires-clause-end_boundary c = grind (arith, common_steps, c.deref.ensures, ends_at_boundary, IsUtf8-string_bytes, c.requires.first)
 
 pub range-requires-2-clause-start_boundary : goal.range-requires-2-clause-start_boundary
-range-requires-2-clause-start_boundary c =
-    λ _. subst (λ (t : List ℕ). IsCharBoundary t c.args.second.now.start) (sym c.deref-2.ensures)
-    (starts_at_boundary (string_bytes c.args.text.now) c.args.second.now (IsUtf8-string_bytes c.args.text.now) c.requires.second)
+range-requires-2-clause-start_boundary c = grind (arith, common_steps, c.deref-2.ensures, starts_at_boundary, IsUtf8-string_bytes, c.requires.second)
 
 pub range-requires-2-clause-end_boundary : goal.range-requires-2-clause-end_boundary
-range-requires-2-clause-end_boundary c =
-    subst (λ (t : List ℕ). IsCharBoundary t c.args.second.now.end) (sym c.deref-2.ensures)
-    (ends_at_boundary (string_bytes c.args.text.now) c.args.second.now (IsUtf8-string_bytes c.args.text.now) c.requires.second)
+range-requires-2-clause-end_boundary c = grind (arith, common_steps, c.deref-2.ensures, ends_at_boundary, IsUtf8-string_bytes, c.requires.second)
 
 pub returns-clause-ok : goal.returns-clause-ok
 returns-clause-ok c =

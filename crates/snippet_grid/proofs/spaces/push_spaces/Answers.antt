@@ -1,4 +1,4 @@
-use Rattle.snippet_grid.proofs.Common.{◌-◌, arith, refl, string_bytes}
+use Rattle.snippet_grid.proofs.Common.{common_steps, ◌-◌, arith, refl, string_bytes}
 use Rattle.snippet_grid.proofs.ReplaceLemmas.{more_spaces}
 use Rattle.snippet_grid.proofs.RunLemmas.{BeginsWith-added, BeginsWith-trans}
 use Rattle.snippet_grid.proofs.spaces.push_spaces.Goals as goal
@@ -19,8 +19,7 @@ returns-clause-text c =
 
 pub returns-clause-grows : goal.returns-clause-grows
 returns-clause-grows c =
-    BeginsWith-trans (string_bytes c.args.out.now) (string_bytes c.loop-left.out) (string_bytes c.push_part-2.new.out)
-    (BeginsWith-added (string_bytes c.args.out.now) _ (string_bytes c.loop-left.out) c.loop-left.invariant.text) c.in_ok-push_part-2.ensures.grows
+    grind (arith, common_steps, BeginsWith-trans, c.loop-left.out, BeginsWith-added, c.loop-left.invariant.text, c.in_ok-push_part-2.ensures.grows)
 
 pub push_part-requires-clause-spaces : goal.push_part-requires-clause-spaces
 push_part-requires-clause-spaces c = refl

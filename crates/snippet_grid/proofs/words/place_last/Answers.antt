@@ -1,7 +1,7 @@
-use Rattle.snippet_grid.proofs.Common.{◌≡◌, ◌+◌, ◌≤◌, refl, set, arith, string_bytes, length, slice_index_or, length-set, FitIn, IsPut}
-use Rattle.snippet_grid.proofs.Common.{IsWidened, IsWord, run_bytes}
+use Rattle.snippet_grid.proofs.Common.{common_steps, ◌≡◌, ◌+◌, ◌≤◌, refl, set, arith, string_bytes, length, slice_index_or, length-set, FitIn, IsPut, IsWidened}
+use Rattle.snippet_grid.proofs.Common.{IsWord, run_bytes}
 use Rattle.std.specs.Str.{chars}
-use Rattle.snippet_grid.proofs.GridShown.{on_err_from, FitIn-widened, IsGrid-grown, IsWidened-to, grid_written, word_end, stored_grown}
+use Rattle.snippet_grid.proofs.GridShown.{FitIn-widened, IsGrid-grown, IsWidened-to, grid_written, word_end, stored_grown}
 use Rattle.snippet_grid.proofs.LastLemmas.{last_before, last_widened}
 use Rattle.snippet_grid.proofs.RunLemmas.{BeginsWith-same}
 use Rattle.snippet_grid.proofs.TouchLemmas.{IsPut-added}
@@ -16,10 +16,7 @@ returns-in_err-add_run-clause-grid c =
     c.args.widths.now.items c.args.widths.now.items c.in_err-add_run.ensures.text c.in_err-add_run.ensures.err refl c.requires.grid
 
 pub returns-in_err-add_run-clause-err : goal.returns-in_err-add_run-clause-err
-returns-in_err-add_run-clause-err c =
-    on_err_from c.from_residual.result
-    (stored_grown (string_bytes c.args.text.now) (string_bytes c.add_run.new.text) c.args.runs.now.items c.add_run.new.runs.items
-    c.args.widths.now.items c.args.widths.now.items c.in_err-add_run.ensures.text c.in_err-add_run.ensures.err refl c.requires.grid)
+returns-in_err-add_run-clause-err c = grind (arith, common_steps, stored_grown, c.in_err-add_run.ensures.text, c.in_err-add_run.ensures.err, c.requires.grid)
 
 pub returns : goal.returns
 returns c =

@@ -1,7 +1,7 @@
-use Rattle.snippet_grid.proofs.Common.{◌≡◌, ◌+◌, refl, arith, string_bytes, length, ◌≤◌, slice_index_or, IsWidened, IsWord, FitIn, run_bytes}
+use Rattle.snippet_grid.proofs.Common.{common_steps, ◌≡◌, ◌+◌, refl, arith, string_bytes, length, ◌≤◌, slice_index_or, IsWidened, IsWord, FitIn, run_bytes}
 use Rattle.std.specs.Str.{chars}
 use Rattle.snippet_grid.proofs.RunLemmas.{BeginsWith-same}
-use Rattle.snippet_grid.proofs.GridShown.{on_err_from, IsGrid-grown, grid_written, FitIn-widened, IsWidened-to, word_end, stored_grown}
+use Rattle.snippet_grid.proofs.GridShown.{IsGrid-grown, grid_written, FitIn-widened, IsWidened-to, word_end, stored_grown}
 use Rattle.snippet_grid.proofs.words.place_run.Goals as goal
 
 pub returns-in_err-put_run-clause-grid : goal.returns-in_err-put_run-clause-grid
@@ -10,11 +10,7 @@ returns-in_err-put_run-clause-grid c =
     c.make_room.new.widths.items c.in_err-put_run.ensures.text c.in_err-put_run.ensures.err c.in_ok-make_room.ensures.items c.requires.grid
 
 pub returns-in_err-put_run-clause-err : goal.returns-in_err-put_run-clause-err
-returns-in_err-put_run-clause-err c =
-    on_err_from c.from_residual-in_err-put_run.result
-    (stored_grown (string_bytes c.args.text.now) (string_bytes c.put_run.new.text)
-    c.args.runs.now.items c.put_run.new.runs.items c.args.widths.now.items c.make_room.new.widths.items c.in_err-put_run.ensures.text
-    c.in_err-put_run.ensures.err c.in_ok-make_room.ensures.items c.requires.grid)
+returns-in_err-put_run-clause-err c = grind (arith, common_steps, stored_grown, c.in_err-put_run.ensures.text, c.in_err-put_run.ensures.err, c.requires.grid)
 
 pub returns-clause-ok : goal.returns-clause-ok
 returns-clause-ok c =

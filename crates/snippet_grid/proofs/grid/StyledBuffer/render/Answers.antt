@@ -1,4 +1,4 @@
-use Rattle.snippet_grid.proofs.Common.{ℕ, List, refl, subst, string_bytes, plain_text, Prints, links_of, WeavesRows}
+use Rattle.snippet_grid.proofs.Common.{common_steps, arith, ℕ, List, string_bytes, plain_text, Prints, links_of, WeavesRows}
 use Rattle.snippet_grid.proofs.RunLemmas.{if_ok_weaker}
 use Rattle.snippet_grid.proofs.PrintsOnce.{Prints-unique}
 use Rattle.snippet_grid.proofs.WovenLemmas.{Prints-from_adds, IsWoven-from_prints, plain_woven}
@@ -7,10 +7,7 @@ use Rattle.snippet_grid.proofs.grid.StyledBuffer.render.Goals as goal
 -- what is added to no text prints the rows
 printed : (c : goal.After-render_after) (new : List ℕ) → WeavesRows c.new-codes.result c.args.level c.args.self.now (string_bytes c.new.result) new
     → Prints c.args.sheet.now c.args.level c.args.self.now new
-printed c new adds =
-    let under : WeavesRows c.args.sheet.now c.args.level c.args.self.now (string_bytes c.new.result) new = subst (λ sheet.
-    WeavesRows sheet c.args.level c.args.self.now (string_bytes c.new.result) new) c.new-codes.ensures.sheet adds in
-    Prints-from_adds c.args.sheet.now c.args.level c.args.self.now _ _ _ refl c.new.ensures.bytes under
+printed c new adds = grind (arith, common_steps, c.new-codes.ensures.sheet, Prints-from_adds)
 
 pub returns : goal.returns
 returns c =

@@ -1,15 +1,11 @@
-use Rattle.snippet_grid.proofs.Common.{◌∙◌, ap, string_bytes, Stored}
+use Rattle.snippet_grid.proofs.Common.{common_steps, arith, ◌∙◌, ap, string_bytes, Stored}
 use Rattle.snippet_grid.proofs.GridShown.{IsGrid-read, grid_read}
 use Rattle.snippet_grid.proofs.RunLemmas.{if_ok_weaker}
 use Rattle.snippet_grid.proofs.WovenLemmas.{AddsRows-same}
 use Rattle.snippet_grid.proofs.grid.StyledBuffer.render_after.Goals as goal
 
 pub print_rows-requires : goal.print_rows-requires
-print_rows-requires c =
-    record {
-      grid = IsGrid-read (string_bytes c.cells.inside.text) c.as_str.result.now c.cells.inside.runs.items c.deref.result.now c.cells.inside.widths.items
-          c.deref-2.result.now c.as_str.ensures.value c.deref.ensures.value c.deref-2.ensures.value c.cells.invariant.0;
-    }
+print_rows-requires c = grind (arith, common_steps, IsGrid-read, c.as_str.ensures.value, c.deref.ensures.value, c.deref-2.ensures.value, c.cells.invariant.0)
 
 pub returns : goal.returns
 returns c =

@@ -1,14 +1,9 @@
-use Rattle.snippet_grid.proofs.Common.{ap, arith, on_ok_weaker, refl, replicate, sym, SPACE, appended}
+use Rattle.snippet_grid.proofs.Common.{common_steps, arith, on_ok_weaker, refl}
 use Rattle.snippet_grid.proofs.AppendLemmas.{row_more, spaces_added}
 use Rattle.snippet_grid.proofs.grid_row.GridRowRowSink.add_spaces.Goals as goal
 
 pub returns-then-count-eq0 : goal.returns-then-count-eq0
-returns-then-count-eq0 c =
-    let row = c.args.self.now in
-    record {
-      added = λ start cells. row_more start row row cells _ refl
-          (sym (ap (λ n. appended row.grid row.number (replicate n SPACE)) c.if-count-eq0.true));
-    }
+returns-then-count-eq0 c = grind (arith, common_steps, row_more, c.if-count-eq0.true)
 
 pub putc-requires-clause-end : goal.putc-requires-clause-end
 putc-requires-clause-end c = omega (arith, c.if-count-eq0.false, c.if-count-end.false, c.width-end.type_inv)

@@ -1,6 +1,5 @@
-use Rattle.snippet_grid.proofs.Common.{◌≡◌, ◌∙◌, ◌++◌, [], List, ap, arith, map, refl, rules, string_bytes, subst, sym, nil_from_length, chars-nil}
-use Rattle.snippet_grid.proofs.Common.{option_copied}
-use Rattle.snippet_grid.proofs.Common.{AddsHtml, AddsHtmlCells, Cell, HtmlGoes, HtmlLook, Text, cells_alike, look_at, look_seen, tags_between}
+use Rattle.snippet_grid.proofs.Common.{common_steps, ◌≡◌, ◌++◌, [], arith, map, refl, rules, string_bytes, subst, sym, nil_from_length, chars-nil}
+use Rattle.snippet_grid.proofs.Common.{option_copied, AddsHtml, HtmlGoes, HtmlLook, Text, cells_alike, look_at, look_seen, tags_between}
 use Rattle.std.specs.Str.{chars}
 use Rattle.snippet_grid.proofs.GridShown.{chars_some}
 use Rattle.snippet_grid.proofs.HtmlReads.{adds_both, adds_text, html_stretch}
@@ -8,12 +7,7 @@ use Rattle.snippet_grid.proofs.HtmlRows.{html_none}
 use Rattle.snippet_grid.proofs.html_row.HtmlRow.add_stretch.Goals as goal
 
 pub returns-then-is_empty : goal.returns-then-is_empty
-returns-then-is_empty c =
-    let none : c.args.word.now ≡ [] = nil_from_length c.args.word.now (first_of (omega arith, search rules, grind arith)) in
-    record {
-      added = subst (λ (more : List Cell). AddsHtmlCells c.args.self.now c.args.self.now more)
-          (sym (ap (cells_alike c.args.role (option_copied c.args.link)) (ap chars none ∙ chars-nil))) (html_none c.args.self.now);
-    }
+returns-then-is_empty c = grind (arith, common_steps, nil_from_length, chars-nil, html_none)
 
 pub returns : goal.returns
 returns c =

@@ -1,18 +1,12 @@
-use Rattle.snippet_grid.proofs.Common.{◌≡◌, ◌∙◌, ◌++◌, [], List, ap, append_assoc, arith, length-replicate, map, None, replicate, string_bytes, subst}
-use Rattle.snippet_grid.proofs.Common.{sym, ℕ}
-use Rattle.snippet_grid.proofs.Common.{AddsHtmlCells, Cell, HtmlGoes, HtmlLook, NoStyle, SPACE, Text, look_seen, plain_look, tags_between}
+use Rattle.snippet_grid.proofs.Common.{common_steps, ◌∙◌, ◌++◌, [], List, ap, append_assoc, arith, length-replicate, map, None, replicate, string_bytes, subst}
+use Rattle.snippet_grid.proofs.Common.{ℕ, Cell, HtmlGoes, HtmlLook, NoStyle, SPACE, Text, look_seen, plain_look, tags_between}
 use Rattle.snippet_grid.proofs.HtmlReads.{adds_both, adds_spaces, html_stretch}
 use Rattle.snippet_grid.proofs.HtmlRows.{html_more, html_none}
 use Rattle.snippet_grid.proofs.OpenRowLemmas.{spaces_alike}
 use Rattle.snippet_grid.proofs.html_row.HtmlRowRowSink.add_spaces.Goals as goal
 
 pub returns-then-count-eq0 : goal.returns-then-count-eq0
-returns-then-count-eq0 c =
-    let none : replicate c.args.count SPACE ≡ [] = ap (λ n. replicate n SPACE) c.if-count-eq0.true in
-    record {
-      added = λ start cells adds. subst (λ (more : List Cell). AddsHtmlCells start c.args.self.now (cells ++ more)) (sym none)
-          (html_more start c.args.self.now c.args.self.now cells [] (html_none c.args.self.now) adds);
-    }
+returns-then-count-eq0 c = grind (arith, common_steps, c.if-count-eq0.true, html_more, html_none)
 
 pub returns : goal.returns
 returns c =

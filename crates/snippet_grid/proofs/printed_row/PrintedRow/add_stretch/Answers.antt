@@ -1,5 +1,4 @@
-use Rattle.snippet_grid.proofs.Common.{◌≡◌, ◌∙◌, [], List, ap, arith, refl, rules, subst, sym, nil_from_length, chars-nil, option_copied, AddsCells}
-use Rattle.snippet_grid.proofs.Common.{style_at, Cell, cells_alike}
+use Rattle.snippet_grid.proofs.Common.{common_steps, [], arith, refl, rules, nil_from_length, chars-nil, option_copied, style_at}
 use Rattle.std.specs.Str.{chars}
 use Rattle.snippet_grid.proofs.GridShown.{chars_some}
 use Rattle.snippet_grid.proofs.OpenRowLemmas.{adds_none}
@@ -10,12 +9,7 @@ pub weave_stretch-requires : goal.weave_stretch-requires
 weave_stretch-requires c = record { some = chars_some c.args.word.now c.utf8.word (first_of (omega arith, search rules, grind arith)) }
 
 pub returns-then-is_empty : goal.returns-then-is_empty
-returns-then-is_empty c =
-    let none : c.args.word.now ≡ [] = nil_from_length c.args.word.now (first_of (omega arith, search rules, grind arith)) in
-    record {
-      added = subst (λ (more : List Cell). AddsCells c.args.self.now c.args.self.now more)
-          (sym (ap (cells_alike c.args.role (option_copied c.args.link)) (ap chars none ∙ chars-nil))) (adds_none c.args.self.now);
-    }
+returns-then-is_empty c = grind (arith, common_steps, nil_from_length, chars-nil, adds_none)
 
 pub returns : goal.returns
 returns c =

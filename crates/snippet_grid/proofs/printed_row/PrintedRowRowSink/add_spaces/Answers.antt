@@ -1,17 +1,11 @@
-use Rattle.snippet_grid.proofs.Common.{◌≡◌, ◌∙◌, ◌++◌, [], List, ap, append_assoc, arith, length-replicate, None, option_copied, refl, replicate, string_bytes}
-use Rattle.snippet_grid.proofs.Common.{subst, sym, ℕ}
-use Rattle.snippet_grid.proofs.Common.{AddsCells, Cell, Goes, NoStyle, SPACE, Some, style_at}
+use Rattle.snippet_grid.proofs.Common.{common_steps, ◌∙◌, ◌++◌, [], List, ap, append_assoc, arith, length-replicate, None, option_copied, refl, replicate}
+use Rattle.snippet_grid.proofs.Common.{string_bytes, subst, ℕ, Cell, Goes, NoStyle, SPACE, Some, style_at}
 use Rattle.snippet_grid.proofs.OpenRowLemmas.{adds_more, adds_none, spaces_alike}
 use Rattle.snippet_grid.proofs.ReplaceLemmas.{stretch_printed}
 use Rattle.snippet_grid.proofs.printed_row.PrintedRowRowSink.add_spaces.Goals as goal
 
 pub returns-then-count-eq0 : goal.returns-then-count-eq0
-returns-then-count-eq0 c =
-    let none : replicate c.args.count SPACE ≡ [] = ap (λ n. replicate n SPACE) c.if-count-eq0.true in
-    record {
-      added = λ start cells adds. subst (λ (more : List Cell). AddsCells start c.args.self.now (cells ++ more)) (sym none)
-          (adds_more start c.args.self.now c.args.self.now cells [] (adds_none c.args.self.now) adds);
-    }
+returns-then-count-eq0 c = grind (arith, common_steps, c.if-count-eq0.true, adds_more, adds_none)
 
 pub returns : goal.returns
 returns c =

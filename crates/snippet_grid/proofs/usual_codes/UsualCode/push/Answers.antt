@@ -1,4 +1,4 @@
-use Rattle.snippet_grid.proofs.Common.{◌∙◌, ◌++◌, ℕ, List, ap, on_ok_weaker, refl, string_bytes, sym, colored, emboldened, plain_style, usual_bytes}
+use Rattle.snippet_grid.proofs.Common.{common_steps, arith, ◌∙◌, ◌++◌, ℕ, List, ap, on_ok_weaker, refl, string_bytes, sym, colored, emboldened, usual_bytes}
 use Rattle.std.specs.Fmt.{digits}
 use Rattle.snippet_grid.proofs.CodeLemmas.{usual_text}
 use Rattle.snippet_grid.proofs.RunLemmas.{on_ok_value}
@@ -6,12 +6,7 @@ use Rattle.snippet_grid.proofs.usual_codes.UsualCode.push.Goals as goal
 
 pub returns-in-Bold : goal.returns-in-Bold
 unfolding digits
-returns-in-Bold c =
-    let bytes = usual_text (emboldened plain_style) _ refl refl ∙ sym (ap usual_bytes c.in-Bold.is) in
-    record {
-      text = on_ok_weaker c.push_str.result (λ added. added ∙ ap (λ (t : List ℕ). string_bytes c.args.out.now ++ t) bytes)
-          (on_ok_value c.push_str.result _ _ _ c.push_str.ensures.bytes);
-    }
+returns-in-Bold c = grind (arith, common_steps, usual_text, c.in-Bold.is, on_ok_value, c.push_str.ensures.bytes)
 
 pub returns-in-Color : goal.returns-in-Color
 returns-in-Color c =
