@@ -1,11 +1,11 @@
 -- Spans that are all marked on one line alone: it is the only line that is kept, and all entries stand on it.
-use Rattle.snippet_parts.proofs.Common.{◌≡◌, ℕ, ◌+◌, ◌-◌, ◌<◌, Bool, true, false, ◌&&◌, ◌||◌, cond, not, eqb, leb, List, [], ◌∷◌, ◌++◌, length, map, get_or}
-use Rattle.snippet_parts.proofs.Common.{refl, sym, ap, ◌∙◌, arith, All, filter, list_any, range_with_len, and-false, and_parts, eq-eqb, eqb-true, false≢true}
-use Rattle.snippet_parts.proofs.Common.{le-leb, lt-leb, ne_eqb, append-nil, All-nil, All-cons, All-head, All-tail, All-filter, All-map, filter-append}
-use Rattle.snippet_parts.proofs.Common.{filter_agree, list_any_none, Source, source_lines, text_at, line_of-within, Annotation, LineAnnotation, LocatedSpan}
-use Rattle.snippet_parts.proofs.Common.{KeptLine, annotated_lines, deepest, kept_line, long_parts, long_place, long_spans, made_parts, parts_on, single_part}
-use Rattle.snippet_parts.proofs.Common.{greatest_depth, keeps, kept_lines, IsLocated, annotations_of, is_alone_on, is_long_span, is_short_span, short_part}
-use Rattle.snippet_parts.proofs.Common.{is_marking, touches, first_line, last_line}
+use Rattle.snippet_parts.proofs.Common.{common_steps, ◌≡◌, ℕ, ◌+◌, ◌-◌, ◌<◌, Bool, true, false, ◌&&◌, ◌||◌, cond, not, eqb, leb, List, [], ◌∷◌, ◌++◌, length}
+use Rattle.snippet_parts.proofs.Common.{map, get_or, refl, sym, ap, ◌∙◌, arith, All, filter, list_any, range_with_len, and-false, and_parts, eq-eqb, eqb-true}
+use Rattle.snippet_parts.proofs.Common.{false≢true, le-leb, lt-leb, ne_eqb, append-nil, All-nil, All-cons, All-head, All-tail, All-filter, All-map}
+use Rattle.snippet_parts.proofs.Common.{filter-append, filter_agree, list_any_none, Source, source_lines, text_at, line_of-within, Annotation, LineAnnotation}
+use Rattle.snippet_parts.proofs.Common.{LocatedSpan, KeptLine, annotated_lines, deepest, kept_line, long_parts, long_place, long_spans, made_parts, parts_on}
+use Rattle.snippet_parts.proofs.Common.{single_part, greatest_depth, keeps, kept_lines, IsLocated, annotations_of, is_alone_on, is_long_span, is_short_span}
+use Rattle.snippet_parts.proofs.Common.{short_part, is_marking, touches, first_line, last_line}
 use Rattle.snippet_parts.proofs.KeptLemmas.{lines-split, range-none, range-split}
 use Rattle.snippet_parts.proofs.LocatedLemmas.{long-are, short-parts}
 use Rattle.snippet_parts.proofs.MarkLemmas.{start-line}
@@ -24,9 +24,7 @@ others x y z = grind (arith, false≢true)
 
 none-fails : {X : Type 0} (p : X → Bool) (xs : List X) → list_any (λ x. not (p x)) xs ≡ false → All (λ x. p x ≡ true) xs
 none-fails p [] none = All-nil (λ x. p x ≡ true)
-none-fails p (x ∷ xs) none =
-    let rest : Bool = list_any (λ y. not (p y)) xs in
-    All-cons (λ y. p y ≡ true) x xs (passed (p x) rest none) (none-fails p xs (others (p x) rest none))
+none-fails p (x ∷ xs) none = grind (arith, common_steps, All-cons, passed)
 
 -- those that pass a test are all of some that do
 filter-passed : {X : Type 0} (p : X → Bool) (xs : List X) → All (λ x. p x ≡ true) xs → filter p xs ≡ xs

@@ -1,7 +1,7 @@
 -- The depths of spans of several lines: how great they are, where they differ, and the longest chain.
-use Rattle.snippet_parts.proofs.Common.{◌≡◌, ℕ, zero, suc, ◌+◌, ◌-◌, ◌<◌, ◌≤◌, Bool, true, false, ◌||◌, cond, max, fold, take, drop, add-one, ◌++◌, List, []}
-use Rattle.snippet_parts.proofs.Common.{◌∷◌, map, length, get_or, set, inl, inr, refl, sym, ap, subst, ◌∙◌, arith, All, Contains, list_any, cases_Bool}
-use Rattle.snippet_parts.proofs.Common.{cases_lt, and_from, and_parts, cond-true, cond-false, both_ways, take_at, length-map, get_or-map, greatest}
+use Rattle.snippet_parts.proofs.Common.{common_steps, ◌≡◌, ℕ, zero, suc, ◌+◌, ◌-◌, ◌<◌, ◌≤◌, Bool, true, false, ◌||◌, cond, max, fold, take, drop, add-one}
+use Rattle.snippet_parts.proofs.Common.{◌++◌, List, [], ◌∷◌, map, length, get_or, set, inl, inr, refl, sym, ap, subst, ◌∙◌, arith, All, Contains, list_any}
+use Rattle.snippet_parts.proofs.Common.{cases_Bool, cases_lt, and_from, and_parts, cond-true, cond-false, both_ways, take_at, length-map, get_or-map, greatest}
 use Rattle.snippet_parts.proofs.Common.{LongExtent, same_place, share_line, places_of, raw_depth, raw_depth_among, greatest_raw_depth, greatest_depth}
 use Rattle.snippet_parts.proofs.Common.{depth_among, SharesWithFirst, IsChainOf, IsLongestChain, raw_depths, map-map}
 use Rattle.snippet_parts.proofs.RawDepthLemmas.{among_after, among-most, among-new, any-at, fold-max, greatest-bound, greatest-is, length-raw_depths}
@@ -40,12 +40,7 @@ among-some (q ∷ ps) p stands =
 
 -- each depth is at least 1 and at most the greatest
 pub depths-within : (ps : List LongExtent) → All (λ n. (1 ≤ n) × (n ≤ greatest_depth ps)) (map (depth_among ps) ps)
-depths-within ps k d below =
-    let len : length (map (depth_among ps) ps) ≡ length ps = length-map ps (depth_among ps) in
-    let e : get_or (map (depth_among ps) ps) k d ≡ depth_among ps (get_or ps k no_place) = get_or-map (depth_among ps) ps k no_place d (omega arith) in
-    let some : 1 ≤ raw_depth_among (places_of ps) (get_or ps k no_place) = among-some ps (get_or ps k no_place) (any-at ps k no_place (omega arith)) in
-    let most : raw_depth_among (places_of ps) (get_or ps k no_place) ≤ greatest_depth ps = among-most (places_of ps) (get_or ps k no_place) in
-    (omega arith, omega arith)
+depths-within ps k d below = grind (arith, common_steps, get_or-map, among-some, any-at, among-most (places_of ps) (get_or ps k no_place))
 
 share-swap : (p q : LongExtent) → share_line p q ≡ true → share_line q p ≡ true
 share-swap p q share = grind (arith, and_parts, and_from)
@@ -183,8 +178,4 @@ mapped f xs lent now n is value len = grind (arith, length-map, take_at)
 
 -- no raw depth is greater than the greatest depth
 pub raw-most : (ps : List LongExtent) → All (λ raw. raw ≤ greatest_depth ps) (raw_depths ps)
-raw-most ps k d below =
-    let len : length (raw_depths ps) ≡ length ps = length-raw_depths ps in
-    let e : get_or (raw_depths ps) k d ≡ raw_depth_among (places_of ps) (get_or ps k no_place) = ap (λ ns. get_or ns k d) (raw_depths-are ps)
-    ∙ get_or-map (raw_depth_among (places_of ps)) ps k no_place d (omega arith) in
-    omega (arith, e, among-most (places_of ps) (get_or ps k no_place))
+raw-most ps k d below = grind (arith, common_steps, length-raw_depths ps, raw_depths-are ps, get_or-map, among-most (places_of ps) (get_or ps k no_place))

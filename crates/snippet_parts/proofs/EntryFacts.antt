@@ -1,8 +1,8 @@
 -- What is known of the entries of the lines that are kept or shown, for those who draw them.
-use Rattle.snippet_parts.proofs.Common.{◌≡◌, ℕ, ◌+◌, ◌-◌, ◌*◌, ◌^◌, ◌<◌, ◌≤◌, Bool, true, false, ◌&&◌, cond, not, add-zero, eqb, leb, ltb, Option, Some, None}
-use Rattle.snippet_parts.proofs.Common.{List, [], ◌∷◌, ◌++◌, map, length, get_or, inl, inr, refl, sym, ap, subst, ◌∙◌, arith, All, Contains, count_by, filter}
-use Rattle.snippet_parts.proofs.Common.{list_all, list_any, IfSome, option_map, cow_str_bytes, IsUtf8, zero-add, cases_Bool, cond-true, cond-false, or_cases}
-use Rattle.snippet_parts.proofs.Common.{and_parts, and_from, and_right, le-leb, eqb-true, le-ltb, ne_eqb, not-true, both_ways, append-nil, All-nil, All-cons}
+use Rattle.snippet_parts.proofs.Common.{common_steps, ◌≡◌, ℕ, ◌+◌, ◌-◌, ◌*◌, ◌^◌, ◌<◌, ◌≤◌, Bool, true, false, ◌&&◌, cond, not, add-zero, eqb, leb, ltb, Option}
+use Rattle.snippet_parts.proofs.Common.{Some, None, List, [], ◌∷◌, map, length, get_or, inl, inr, refl, sym, ap, subst, ◌∙◌, arith, All, Contains, count_by}
+use Rattle.snippet_parts.proofs.Common.{filter, list_all, list_any, IfSome, option_map, cow_str_bytes, IsUtf8, zero-add, cases_Bool, cond-true, cond-false}
+use Rattle.snippet_parts.proofs.Common.{or_cases, and_parts, and_from, and_right, le-leb, eqb-true, le-ltb, ne_eqb, not-true, both_ways, All-nil, All-cons}
 use Rattle.snippet_parts.proofs.Common.{All-head, All-tail, All-same, All-weaker, All-filter, All-contains, filter-append, filter_agree, list_all_at}
 use Rattle.snippet_parts.proofs.Common.{sum_by-cons, sum_by-append, Annotation, AnnotationKind, AnnotationFits, LineAnnotation, LongExtent, AnnotatedLineInfo}
 use Rattle.snippet_parts.proofs.Common.{KeptLine, kept_line, is_long, long_entry, long_place, long_spans, long_parts, depth_of, deepest, single_part}
@@ -219,12 +219,7 @@ longs-off s marks k spans untouched =
 pub untouched-parts : (s : Source) (marks : List Annotation) (k : ℕ) → All (λ a. IsSpan s.text a.span.start a.span.end) marks
     → is_untouched s.text marks k ≡ true → parts_on s marks k ≡ map (single_part s) (filter (is_marked_on s.text k) marks)
 untouched-parts s marks k spans untouched =
-    filter-append (λ (p : LineAnnotation). eqb p.start.line (s.first + k)) (map (single_part s) (filter (is_short s.text) marks))
-    (long_parts s (long_places s marks) [] (long_spans s marks))
-    ∙ ap (λ ps. filter (λ (p : LineAnnotation). eqb p.start.line (s.first + k)) (map (single_part s) (filter (is_short s.text) marks)) ++ ps)
-    (longs-off s marks k spans untouched)
-    ∙ append-nil (filter (λ (p : LineAnnotation). eqb p.start.line (s.first + k)) (map (single_part s) (filter (is_short s.text) marks)))
-    ∙ singles-on s marks k
+    grind (arith, common_steps, filter-append, s.first, s.text, longs-off s marks k spans untouched, spans, untouched, singles-on s marks k)
 
 -- ---- wide spans
 

@@ -1,11 +1,10 @@
 -- The entries of spans, in the order made.
-use Rattle.snippet_parts.proofs.Common.{None, ◌≡◌, ℕ, ◌+◌, ◌-◌, ◌<◌, ◌≤◌, Bool, true, false, ◌&&◌, ◌||◌, cond, not, eqb, leb, ltb, min, List, [], ◌∷◌, ◌++◌}
-use Rattle.snippet_parts.proofs.Common.{map, length, take, drop, get_or, inl, inr, refl, sym, ap, ◌∙◌, arith, All, filter, list_any, range_with_len, cases_lt}
-use Rattle.snippet_parts.proofs.Common.{le-leb, le-ltb, lt-leb, cond-true, cond-false, and_parts, both_ways, eq-eqb, ne_eqb, false_from_ne_true, append-nil}
-use Rattle.snippet_parts.proofs.Common.{map-append, map_more, drop-map, take-map, drop_more, length-map, get_or-map, filter-append, map-range_with_len_more}
-use Rattle.snippet_parts.proofs.Common.{LineAnnotation, span_parts, long_parts, long_place, promoted, is_primary, same_place, depth_among, LongExtent}
-use Rattle.snippet_parts.proofs.Common.{AnnotationKind, Primary, IsNonDecreasingBy, has_bar, is_trivial_line, Source, bar_lines, seen_long, HasFit, LongSpan}
-use Rattle.snippet_parts.proofs.Common.{Loc, map-map}
+use Rattle.snippet_parts.proofs.Common.{common_steps, None, ◌≡◌, ℕ, ◌+◌, ◌-◌, ◌<◌, ◌≤◌, Bool, true, false, ◌&&◌, ◌||◌, cond, not, eqb, leb, ltb, min, List, []}
+use Rattle.snippet_parts.proofs.Common.{◌∷◌, ◌++◌, map, length, take, drop, get_or, inl, inr, refl, sym, ap, ◌∙◌, arith, All, filter, list_any, range_with_len}
+use Rattle.snippet_parts.proofs.Common.{cases_lt, le-leb, le-ltb, lt-leb, cond-true, cond-false, and_parts, both_ways, eq-eqb, ne_eqb, false_from_ne_true}
+use Rattle.snippet_parts.proofs.Common.{map_more, drop-map, take-map, drop_more, length-map, get_or-map, filter-append, map-range_with_len_more, LineAnnotation}
+use Rattle.snippet_parts.proofs.Common.{span_parts, long_parts, long_place, promoted, is_primary, same_place, depth_among, LongExtent, AnnotationKind, Primary}
+use Rattle.snippet_parts.proofs.Common.{IsNonDecreasingBy, has_bar, is_trivial_line, Source, bar_lines, seen_long, HasFit, LongSpan, Loc, map-map}
 use Rattle.std.proofs.lemmas.List.{append_assoc}
 use Rattle.snippet_parts.proofs.RawDepthLemmas.{same-true}
 use Rattle.snippet_parts.proofs.KeptLemmas.{after-least, range-all, range-none, range-split}
@@ -81,14 +80,7 @@ pub bars-closed : (f : ℕ → LineAnnotation) (old now new : List LineAnnotatio
     → closing ≡ (ltb (min (first + 4) last) (last - 1) && not (is_trivial_line source (last - 1)))
     → new ≡ old ++ map f (bar_lines source first last)
 bars-closed f old now new e source first last u a n closing there pushed is before at count from to inside bars close =
-    let all : range_with_len (first + 1) n ++ cond closing ((last - 1) ∷ []) []
-    ≡ bar_lines source first last = bars-are source first last u n closing from to inside bars close count in
-    pushed ∙ ap (λ ps. ps ++ e ∷ []) before
-    ∙ ap (λ p. (old ++ map f (range_with_len a n)) ++ p ∷ []) is
-    ∙ append_assoc old (map f (range_with_len a n)) (f (last - 1) ∷ [])
-    ∙ ap (λ ps. old ++ ps) (ap (λ x. map f (range_with_len x n) ++ f (last - 1) ∷ []) at
-    ∙ sym (map-append f (range_with_len (first + 1) n) ((last - 1) ∷ []))
-    ∙ ap (λ b. map f (range_with_len (first + 1) n ++ cond b ((last - 1) ∷ []) [])) (sym there) ∙ ap (map f) all)
+    grind (arith, common_steps, bars-are source first last u n closing from to inside bars close count, from, to, inside, count, pushed, before, is, at, there)
 
 -- all bars, without it
 pub bars-open : (f : ℕ → LineAnnotation) (old now : List LineAnnotation) (source : List ℕ) (first last u a n : ℕ) (closing : Bool) → closing ≡ false
@@ -97,10 +89,7 @@ pub bars-open : (f : ℕ → LineAnnotation) (old now : List LineAnnotation) (so
     → closing ≡ (ltb (min (first + 4) last) (last - 1) && not (is_trivial_line source (last - 1)))
     → now ≡ old ++ map f (bar_lines source first last)
 bars-open f old now source first last u a n closing none before at count from to inside bars close =
-    let all : range_with_len (first + 1) n ++ cond closing ((last - 1) ∷ []) []
-    ≡ bar_lines source first last = bars-are source first last u n closing from to inside bars close count in
-    before ∙ ap (λ ps. old ++ ps) (ap (λ x. map f (range_with_len x n)) at
-    ∙ ap (map f) (sym (append-nil (range_with_len (first + 1) n)) ∙ ap (λ b. range_with_len (first + 1) n ++ cond b ((last - 1) ∷ []) []) (sym none) ∙ all))
+    grind (arith, common_steps, bars-are source first last u n closing from to inside bars close count, from, to, inside, count, before, at, none)
 
 -- ---- the entries of all spans of several lines
 

@@ -1,6 +1,6 @@
 -- Lemmas on the least and the greatest of some numbers.
-use Rattle.snippet_parts.proofs.Common.{◌≡◌, ℕ, ◌≤◌, min, max, List, [], ◌∷◌, ◌++◌, Option, Some, refl, sym, ap, ◌∙◌, arith}
-use Rattle.snippet_parts.proofs.Common.{unwrap_or, append_assoc, option_map_or, fold_push, All-nil, All-cons, least, greatest}
+use Rattle.snippet_parts.proofs.Common.{common_steps, ◌≡◌, ℕ, ◌≤◌, min, max, List, [], ◌∷◌, ◌++◌, Some, refl, sym, ap, ◌∙◌, arith, unwrap_or, append_assoc}
+use Rattle.snippet_parts.proofs.Common.{option_map_or, fold_push, All-nil, All-cons, least, greatest}
 use Rattle.std.proofs.Common.{All}
 
 -- one more number
@@ -16,9 +16,7 @@ greatest-push ns n = fold_push (λ m k. max m k) 0 ns n
 -- two more numbers
 pub least-push_two : (ns : List ℕ) (n m : ℕ)
     → least (ns ++ n ∷ m ∷ []) ≡ Some (option_map_or (λ k. min k m) (Some (option_map_or (λ k. min k n) (least ns) n)) m)
-least-push_two ns n m =
-    ap least (sym (append_assoc ns (n ∷ []) (m ∷ []))) ∙ least-push (ns ++ n ∷ []) m
-    ∙ ap (λ (o : Option ℕ). Some (option_map_or (λ k. min k m) o m)) (least-push ns n)
+least-push_two ns n m = grind (arith, common_steps, least-push (ns ++ n ∷ []) m, least-push ns n)
 
 pub greatest-push_two : (ns : List ℕ) (n m : ℕ) → greatest (ns ++ n ∷ m ∷ []) ≡ max (max (greatest ns) n) m
 greatest-push_two ns n m =

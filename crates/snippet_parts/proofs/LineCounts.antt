@@ -1,10 +1,10 @@
 -- How many entries stand on a line: no more than there are spans.
-use Rattle.snippet_parts.proofs.Common.{◌≡◌, ℕ, zero, suc, ◌+◌, ◌-◌, ◌<◌, ◌≤◌, ◌==◌, ◌&&◌, Bool, true, false, cond, not, List, [], ◌∷◌, ◌++◌, map, length}
-use Rattle.snippet_parts.proofs.Common.{inl, inr, refl, sym, ap, subst, ◌∙◌, arith, All, count_by, filter, range_with_len, zero-add, and_parts, cases_lt}
-use Rattle.snippet_parts.proofs.Common.{cond-true, cond-false, eq-eqb, ne_eqb, not-true, length-map, map-append, All-head, All-map, All-tail, All-weaker}
-use Rattle.snippet_parts.proofs.Common.{count_by-le-length, length-filter, sum_by-append, sum_by-cons, Source, ordered_by, put_in, IsSpan, Annotation}
-use Rattle.snippet_parts.proofs.Common.{LineAnnotation, LongExtent, MultilineEnd, Singleline, bar_part, end_part, is_long, long_entry, long_parts, bar_lines}
-use Rattle.snippet_parts.proofs.Common.{long_spans, made_parts, parts_on, promoted, single_part, span_parts, start_part, is_marking, is_single_line}
+use Rattle.snippet_parts.proofs.Common.{common_steps, ◌≡◌, ℕ, zero, suc, ◌+◌, ◌-◌, ◌<◌, ◌≤◌, ◌==◌, ◌&&◌, Bool, true, false, cond, not, List, [], ◌∷◌, ◌++◌, map}
+use Rattle.snippet_parts.proofs.Common.{length, inl, inr, refl, sym, ap, subst, ◌∙◌, arith, All, count_by, filter, range_with_len, zero-add, and_parts}
+use Rattle.snippet_parts.proofs.Common.{cases_lt, cond-true, cond-false, eq-eqb, ne_eqb, not-true, length-map, map-append, All-head, All-map, All-tail}
+use Rattle.snippet_parts.proofs.Common.{All-weaker, count_by-le-length, length-filter, sum_by-append, sum_by-cons, Source, ordered_by, put_in, IsSpan}
+use Rattle.snippet_parts.proofs.Common.{Annotation, LineAnnotation, LongExtent, MultilineEnd, Singleline, bar_part, end_part, is_long, long_entry, long_parts}
+use Rattle.snippet_parts.proofs.Common.{bar_lines, long_spans, made_parts, parts_on, promoted, single_part, span_parts, start_part, is_marking, is_single_line}
 use Rattle.snippet_parts.proofs.EntryFacts.{count-map}
 use Rattle.snippet_parts.proofs.KeptPartLemmas.{lines_ordered}
 use Rattle.snippet_parts.proofs.MarkLemmas.{end-line, start-line}
@@ -144,18 +144,7 @@ length-in_order before (x ∷ xs) = omega (arith, length-in_order before xs, len
 -- those that pass one of two tests that nothing passes both are no more than all
 either_few : {X : Type 0} (p q : X → Bool) → ((x : X) → p x ≡ true → q x ≡ false) → (xs : List X) → count_by p xs + count_by q xs ≤ length xs
 either_few p q apart [] = omega arith
-either_few p q apart (x ∷ xs) =
-    omega (
-      arith,
-      sum_by-cons (λ y. cond (p y) 1 0) x xs,
-      sum_by-cons (λ y. cond (q y) 1 0) x xs,
-      either_few p q apart xs,
-      both (p x) (q x) (apart x),
-    )
-  where
-    both : (a b : Bool) → (a ≡ true → b ≡ false) → cond a 1 0 + cond b 1 0 ≤ 1
-    both true b other = let none : ◌≡◌ {A = ℕ} (cond b 1 0) 0 = ap (λ c. cond c 1 0) (other refl) in omega (arith, none)
-    both false b other = omega (arith, one b)
+either_few p q apart (x ∷ xs) = grind (arith, common_steps, sum_by-cons, either_few p q apart xs, one)
 
 -- a span that stands on several lines stands from one to a later one
 is_several : (s : Source) (a : Annotation) → IsSpan s.text a.span.start a.span.end → is_long s.text a ≡ true → IsSeveral s 0 (long_entry s a)

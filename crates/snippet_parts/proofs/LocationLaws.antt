@@ -1,7 +1,7 @@
 -- The place that the head of a primary snippet names, in words of its spans.
-use Rattle.snippet_parts.proofs.Common.{◌≡◌, ℕ, suc, ◌+◌, ◌<◌, ◌≤◌, Bool, true, false, ◌&&◌, ◌||◌, cond, eqb, min, Option, Some, None, List, [], ◌∷◌, map}
-use Rattle.snippet_parts.proofs.Common.{get_or, inl, inr, refl, sym, ap, subst, ◌∙◌, arith, All, Contains, filter, list_any, IsSomeAnd, is_some, option_map}
-use Rattle.snippet_parts.proofs.Common.{option_map_or, option_or, cases_Bool, cases_lt, cond-true, cond-false, and_from, and_left, and_parts}
+use Rattle.snippet_parts.proofs.Common.{common_steps, ◌≡◌, ℕ, suc, ◌+◌, ◌<◌, ◌≤◌, Bool, true, false, ◌&&◌, ◌||◌, eqb, min, Option, Some, None, List, [], ◌∷◌}
+use Rattle.snippet_parts.proofs.Common.{map, get_or, inl, inr, refl, sym, ap, subst, ◌∙◌, arith, All, Contains, filter, list_any, IsSomeAnd, is_some}
+use Rattle.snippet_parts.proofs.Common.{option_map, option_map_or, option_or, cases_Bool, cases_lt, cond-true, cond-false, and_from, and_left, and_parts}
 use Rattle.snippet_parts.proofs.Common.{false_from_ne_true, both_ways, eq-eqb, eqb-true, All-head, All-tail, All-contains, All-contains_itself, All-filter}
 use Rattle.snippet_parts.proofs.Common.{Contains-get_or, filter_passes, map-map, Annotation, AnnotationKind, Primary, Context, Visible, Source, locations_of}
 use Rattle.snippet_parts.proofs.Common.{IsSpan, LineAnnotation, Location, KeptLine, annotated_lines, is_long, kept_line, parts_on, single_part, is_primary}
@@ -185,9 +185,7 @@ at-column s k column = record { line = s.first + k; column = Some column }
 has-place : (choice : List LineAnnotation → List LineAnnotation) (test : Annotation → Bool) (s : Source) (marks : List Annotation) (k : ℕ) (a : Annotation)
     → Chooses choice test s marks → Contains (starting test s marks k) a → is_some (choice_place choice (kept_line s marks k)) ≡ true
 unfolding at-column
-has-place choice test s marks k a chooses there =
-    let lowest = least-among (start_at s) (starting test s marks k) a there in
-    ap is_some (least_place-on choice test s marks k chooses) ∙ ap (λ o. is_some (option_map (at-column s k) o)) lowest.1.is
+has-place choice test s marks k a chooses there = grind (arith, common_steps, least_place-on)
 
 -- and the place of a line is that of a span of least column
 place_found : (choice : List LineAnnotation → List LineAnnotation) (test : Annotation → Bool) (s : Source) (marks : List Annotation) (k : ℕ) (place : Location)
@@ -302,25 +300,8 @@ named-primary s marks place some by = grind (arith, cond-true)
 
 named-context : (s : Source) (marks : List Annotation) (place : Location) → list_any (λ a. is_primary a.kind) marks ≡ false
     → IsPlaceBy (λ a. is_marking a.kind) s marks place → IsLocation s marks place
-named-context s marks place none by = record {
-  span = by.span;
-  naming = (by.among, context by.span.kind by.passes (not-primary by.span by.among) ∙ sym kind);
-  line = by.line;
-  column = by.column;
-  first = λ other naming. by.first other naming.0 (ap is_marking (naming.1 ∙ kind));
-  least = λ other naming beside. by.lowest other naming.0 (ap is_marking (naming.1 ∙ kind)) beside;
-}
-  where
-    kind : cond (list_any (λ a. is_primary a.kind) marks) Primary Context ≡ Context
-    kind = cond-false (list_any (λ a. is_primary a.kind) marks) Primary Context none
-
-    not-primary : (a : Annotation) → Contains marks a → is_primary a.kind ≡ false
-    not-primary a among = none-member (λ a. is_primary a.kind) marks a among none
-
-    context : (kind : AnnotationKind) → is_marking kind ≡ true → is_primary kind ≡ false → kind ≡ Context
-    context Primary marked other = cc
-    context Context marked other = refl
-    context Visible marked other = cc
+named-context s marks place none by =
+    grind (arith, common_steps, by.span, by.among, by.span.kind, by.passes, by.line, by.column, by.first, by.lowest, cond-false, none-member)
 
 -- without primary spans no line has a place of a primary entry
 no-primary : (s : Source) (marks : List Annotation) (fold : Bool) → All (λ a. IsSpan s.text a.span.start a.span.end) marks → NoneLong s marks

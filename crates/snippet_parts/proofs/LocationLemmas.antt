@@ -1,7 +1,7 @@
 -- The place that the head of a snippet names, line by line and span by span.
-use Rattle.snippet_parts.proofs.Common.{◌≡◌, ℕ, ◌+◌, ◌<◌, Bool, true, false, min, Option, Some, List, [], ◌∷◌, ◌++◌, map, length}
-use Rattle.snippet_parts.proofs.Common.{take, drop, get_or, sym, ap, ◌∙◌, filter, option_map_or, cond-true, cond-false, append-nil, map_push, take_more}
-use Rattle.snippet_parts.proofs.Common.{filter-append, Annotation, AnnotatedLineInfo, Location, KeptLine, seen_kept, least}
+use Rattle.snippet_parts.proofs.Common.{common_steps, arith, ◌≡◌, ℕ, ◌+◌, ◌<◌, Bool, true, false, min, Option, Some, List, [], ◌∷◌, ◌++◌, map, length, take}
+use Rattle.snippet_parts.proofs.Common.{drop, get_or, sym, ap, ◌∙◌, filter, option_map_or, cond-true, cond-false, map_push, take_more, filter-append}
+use Rattle.snippet_parts.proofs.Common.{Annotation, AnnotatedLineInfo, Location, KeptLine, seen_kept, least}
 use Rattle.snippet_parts.proofs.LeastLemmas.{least-push}
 use Rattle.snippet_parts.proofs.LocationWords.{first_place}
 
@@ -23,18 +23,10 @@ pub start-more : (test : Annotation → Bool) (marks : List Annotation) (i : ℕ
     → a ≡ get_or marks i a → test a ≡ true → before ≡ least (map (λ (b : Annotation). b.span.start) (filter test (take i marks)))
     → Some (option_map_or (λ n. min n a.span.start) before a.span.start)
     ≡ least (map (λ (b : Annotation). b.span.start) (filter test (take (i + 1) marks)))
-start-more test marks i a before within is passes known =
-    let start = λ (b : Annotation). b.span.start in
-    let so_far = filter test (take i marks) in
-    ap (λ o. Some (option_map_or (λ n. min n a.span.start) o a.span.start)) known
-    ∙ sym (ap (λ xs. least (map start xs)) (filter-more test marks i a within is ∙ ap (λ xs. so_far ++ xs) (cond-true (test a) (a ∷ []) [] passes))
-    ∙ ap least (map_push start so_far a) ∙ least-push (map start so_far) a.span.start)
+start-more test marks i a before within is passes known = grind (arith, common_steps, a.span.start, filter-more, cond-true, map_push, least-push)
 
 -- the least start of those that pass stays with one that doesn't
 pub start-same : (test : Annotation → Bool) (marks : List Annotation) (i : ℕ) (a : Annotation) (before : Option ℕ) → i < length marks
     → a ≡ get_or marks i a → test a ≡ false → before ≡ least (map (λ (b : Annotation). b.span.start) (filter test (take i marks)))
     → before ≡ least (map (λ (b : Annotation). b.span.start) (filter test (take (i + 1) marks)))
-start-same test marks i a before within is fails known =
-    let so_far = filter test (take i marks) in
-    known ∙ sym (ap (λ xs. least (map (λ (b : Annotation). b.span.start) xs))
-    (filter-more test marks i a within is ∙ ap (λ xs. so_far ++ xs) (cond-false (test a) (a ∷ []) [] fails) ∙ append-nil so_far))
+start-same test marks i a before within is fails known = grind (arith, common_steps, filter-more, cond-false)

@@ -1,8 +1,8 @@
 -- Spans of several lines, in their order.
-use Rattle.snippet_parts.proofs.Common.{◌≡◌, ℕ, ◌-◌, ◌^◌, ◌<◌, ◌≤◌, Bool, true, false, ◌&&◌, ◌||◌, eqb, ltb, List, map, get_or, ap, subst, ◌∙◌, arith}
-use Rattle.snippet_parts.proofs.Common.{IsStrictWeakOrder, IsNonDecreasingBy, IsSortedBy, is_lt, ordering_then, nat_tests, LineAnnotation, LongSpan}
-use Rattle.snippet_parts.proofs.Common.{long_entry, is_long, ordered_by, AreBars, seen_long, HasFit, Source, first_line, last_line, Annotation, eqb-false}
-use Rattle.snippet_parts.proofs.Common.{ltb-false, not-true, and_parts, or_parts, line_of-mono, line_of-within, map-ordered_by, sorted_far}
+use Rattle.snippet_parts.proofs.Common.{common_steps, ◌≡◌, ℕ, ◌^◌, ◌<◌, ◌≤◌, Bool, true, false, ◌&&◌, ◌||◌, eqb, ltb, List, map, get_or, ap, ◌∙◌, arith}
+use Rattle.snippet_parts.proofs.Common.{IsStrictWeakOrder, IsNonDecreasingBy, IsSortedBy, is_lt, ordering_then, nat_tests, LineAnnotation, LongSpan, long_entry}
+use Rattle.snippet_parts.proofs.Common.{is_long, ordered_by, AreBars, seen_long, HasFit, Source, first_line, last_line, Annotation, eqb-false, ltb-false}
+use Rattle.snippet_parts.proofs.Common.{not-true, and_parts, or_parts, line_of-mono, line_of-within, map-ordered_by, sorted_far}
 use Rattle.std.specs.Ordering.{nat_cmp}
 use Rattle.snippet_parts.proofs.MarkLemmas.{start-line, end-line}
 use Rattle.snippet_parts.proofs.PartWords.{stands_before}
@@ -34,22 +34,7 @@ pub fit-long : (s : Source) (a : Annotation) (l : LongSpan) → a.span.start ≤
     → l.end.display ≤ 2 ^ 58 → l.start.char ≤ 2 ^ 56 → is_long s.text a ≡ true → AreBars s.text (first_line s.text a) (last_line s.text a) l.bars
     → HasFit s l
 fit-long s a l ordered seen display end char long bars =
-    let first : first_line s.text a ≡ l.start.line - s.first =
-    omega (arith, ap (λ (e : LineAnnotation). e.start.line) seen, start-line s a.span.start a.span.end) in
-    let last : last_line s.text a ≡ l.end.line - s.first =
-    omega (arith, ap (λ (e : LineAnnotation). e.end.line) seen, end-line s a.span.start a.span.end) in
-    record {
-      display = display;
-      end_display = end;
-      char = omega arith;
-      lines =
-          omega (arith, ap (λ (e : LineAnnotation). e.start.line) seen, ap (λ (e : LineAnnotation). e.end.line) seen, long-lines s a ordered long);
-      from =
-          omega (arith, ap (λ (e : LineAnnotation). e.start.line) seen, start-line s a.span.start a.span.end);
-      within =
-          omega (arith, ap (λ (e : LineAnnotation). e.end.line) seen, end-line s a.span.start a.span.end, line_of-within s.text a.span.end);
-      bars = subst (λ n. AreBars s.text (l.start.line - s.first) n l.bars) last (subst (λ n. AreBars s.text n (last_line s.text a) l.bars) first bars);
-    }
+    grind (arith, common_steps, s.text, l.start.line, start-line, a.span.start, a.span.end, l.end.line, end-line, long-lines, line_of-within, s.first, l.bars)
 
 -- the order of the code's spans is that of what is seen of them
 pub long_spans-is : (given sorted : List LongSpan) (es : List LineAnnotation) → sorted ≡ ordered_by long_before given → map seen_long given ≡ es

@@ -1,13 +1,13 @@
 -- The place that the head of a primary snippet names is that of a byte: the first one at which a span starts that names it.
-use Rattle.snippet_parts.proofs.Common.{◌≡◌, ℕ, ◌+◌, ◌-◌, ◌<◌, ◌≤◌, Bool, true, cond, not, eqb, ltb, min, Option, Some, None, List, [], ◌∷◌, ◌++◌, map}
-use Rattle.snippet_parts.proofs.Common.{length, take, drop, inl, inr, refl, sym, ap, subst, ◌∙◌, arith, All, Contains, filter, IfSome, option_map}
-use Rattle.snippet_parts.proofs.Common.{option_map_or, option_or, IsUtf8, take-add, cases_Bool, cases_lt, and_from, and_parts, eq-eqb, eqb-true, le-ltb}
-use Rattle.snippet_parts.proofs.Common.{lt-ltb, length-append, take_all, IsUtf8-take, chars-append, is_primary, Annotation, AnnotationKind, Loc, Line, Source}
-use Rattle.snippet_parts.proofs.Common.{source_lines, start_of, text_at, line_of, location_of, place_of, prefix_at, start_location, steps_after_text, IsSpan}
-use Rattle.snippet_parts.proofs.Common.{IsSpanBorder, IsUtf8-text_at, IsCharBoundary-prefix, line_of-mono, line_of-within, locations_of-start}
-use Rattle.snippet_parts.proofs.Common.{place_of-character, start_location-line, LineAnnotation, Location, KeptLine, annotated_lines, is_long, kept_line}
-use Rattle.snippet_parts.proofs.Common.{long_entry, long_parts, long_place, long_spans, made_parts, parts_on, single_part, kept_lines, Ascends, primary_place}
-use Rattle.snippet_parts.proofs.Common.{marked_starts, naming_start, place_at, primary_starts, is_marking, is_single_line, first_line, least}
+use Rattle.snippet_parts.proofs.Common.{common_steps, ◌≡◌, ℕ, ◌+◌, ◌-◌, ◌<◌, ◌≤◌, Bool, true, cond, not, eqb, ltb, min, Option, Some, None, List, [], ◌∷◌, ◌++◌}
+use Rattle.snippet_parts.proofs.Common.{map, length, take, drop, inl, inr, refl, sym, ap, subst, ◌∙◌, arith, All, Contains, filter, IfSome, option_map}
+use Rattle.snippet_parts.proofs.Common.{option_map_or, option_or, IsUtf8, take-add, cases_Bool, and_from, and_parts, eq-eqb, eqb-true, le-ltb, lt-ltb}
+use Rattle.snippet_parts.proofs.Common.{length-append, IsUtf8-take, chars-append, is_primary, Annotation, AnnotationKind, Loc, Line, Source, source_lines}
+use Rattle.snippet_parts.proofs.Common.{start_of, text_at, line_of, location_of, place_of, prefix_at, start_location, steps_after_text, IsSpan, IsSpanBorder}
+use Rattle.snippet_parts.proofs.Common.{IsUtf8-text_at, IsCharBoundary-prefix, line_of-mono, line_of-within, locations_of-start, place_of-character}
+use Rattle.snippet_parts.proofs.Common.{start_location-line, LineAnnotation, Location, KeptLine, annotated_lines, is_long, kept_line, long_entry, long_parts}
+use Rattle.snippet_parts.proofs.Common.{long_place, long_spans, made_parts, parts_on, single_part, kept_lines, Ascends, primary_place, marked_starts}
+use Rattle.snippet_parts.proofs.Common.{naming_start, place_at, primary_starts, is_marking, is_single_line, first_line, least}
 use Rattle.std.proofs.Common.{chars}
 use Rattle.snippet_parts.proofs.AmongLemmas.{Among, all_among, among_filter, among_in_order, among_left, among_map, among_right, append_cases, filter_cases}
 use Rattle.snippet_parts.proofs.AmongLemmas.{in_order_cases, least-among, least_le, map_cases}
@@ -65,11 +65,7 @@ length-chars-more text m n utf8 upto =
     omega (arith, ap (λ t. length (chars t)) parts, ap length (chars-append (take m text) rest utf8), length-append (chars (take m text)) (chars rest))
 
 prefix-utf8 : (text : List ℕ) (b : ℕ) → IsUtf8 text → IsUtf8 (take (min b (length text)) text) → IsUtf8 (take b text)
-prefix-utf8 text b utf8 cut =
-    elim (cases_lt b (length text)) [
-      | inl inside ↦ subst (λ n. IsUtf8 (take n text)) (let e : min b (length text) ≡ b = omega arith in e) cut
-      | inr past ↦ subst IsUtf8 (sym (take_all b text past)) utf8
-    ]
+prefix-utf8 text b utf8 cut = grind (arith, common_steps)
 
 abbrev step : Bool → ℕ
 step b = cond b 1 0

@@ -1,7 +1,7 @@
 -- What stands on a line that is kept: of each span that begins or ends there an entry.
-use Rattle.snippet_parts.proofs.Common.{◌≡◌, ℕ, ◌+◌, ◌-◌, ◌⊎◌, Bool, true, false, ◌||◌, not, eqb, leb, List, [], ◌∷◌, ◌++◌, map, length, get_or, inl, inr}
-use Rattle.snippet_parts.proofs.Common.{refl, sym, ap, subst, ◌∙◌, arith, All, Contains, filter, list_any, and_parts, cases_Bool, cond_both, eqb-true, eq-eqb}
-use Rattle.snippet_parts.proofs.Common.{leb-true, get_or-map, length-map, map-map, All-head, All-tail, All-map, All-contains, Contains-append_left}
+use Rattle.snippet_parts.proofs.Common.{common_steps, ◌≡◌, ℕ, ◌+◌, ◌-◌, ◌⊎◌, Bool, true, false, ◌||◌, not, eqb, leb, List, [], ◌∷◌, ◌++◌, map, length, get_or}
+use Rattle.snippet_parts.proofs.Common.{inl, inr, refl, sym, ap, subst, ◌∙◌, arith, All, Contains, filter, list_any, and_parts, cases_Bool, cond_both, eqb-true}
+use Rattle.snippet_parts.proofs.Common.{eq-eqb, leb-true, get_or-map, length-map, map-map, All-head, All-tail, All-map, All-contains, Contains-append_left}
 use Rattle.snippet_parts.proofs.Common.{Contains-append_right, filter-append, Annotation, LineAnnotation, LongExtent, AnnotatedLineInfo, Singleline}
 use Rattle.snippet_parts.proofs.Common.{MultilineStart, MultilineEnd, Loc, KeptLine, kept_line, annotated_lines, is_long, long_entry, long_place, long_spans}
 use Rattle.snippet_parts.proofs.Common.{long_parts, depth_of, single_part, start_part, end_part, span_parts, parts_on, promoted, put_in, ordered_by}
@@ -21,11 +21,7 @@ use Rattle.snippet_parts.proofs.PartWords.{is_short, long_places, stands_among, 
 
 contains-map : {X Y : Type 0} (f : X → Y) (x : X) (xs : List X) → Contains xs x → Contains (map f xs) (f x)
 contains-map f x [] among = absurd (omega (arith, among.1))
-contains-map f x (y ∷ xs) among =
-    elim (contains-cases x y xs among) [
-      | inl same ↦ contains-here (f x) (f y) (map f xs) (ap f same)
-      | inr later ↦ contains-there (f x) (f y) (map f xs) (contains-map f x xs later)
-    ]
+contains-map f x (y ∷ xs) among = grind (arith, common_steps, contains-cases, contains-there)
 
 contains-put-new : {X : Type 0} (before : X → X → Bool) (x : X) (ys : List X) → Contains (put_in before x ys) x
 contains-put-new before x [] = contains-here x x [] refl

@@ -1,8 +1,7 @@
 -- The lines of a part of a source that begins and ends where lines do.
-use Rattle.snippet_parts.proofs.Common.{◌≡◌, ℕ, zero, suc, ◌+◌, ◌-◌, ◌<◌, ◌≤◌, List, [], ◌∷◌, inl, inr, length, take, drop}
-use Rattle.snippet_parts.proofs.Common.{refl, sym, ap, ◌∙◌, ⊎_elim, arith, drop_at, length-drop, length-take, take-append-drop, take_at}
-use Rattle.snippet_parts.proofs.Common.{flat_map-append, Line, line_bytes, joined, source_lines, start_of, AreLines, AreLinesOf, AreLinesOf-source_lines}
-use Rattle.snippet_parts.proofs.Common.{joined-source_lines, source_lines-only}
+use Rattle.snippet_parts.proofs.Common.{common_steps, ◌≡◌, ℕ, zero, suc, ◌+◌, ◌-◌, ◌<◌, ◌≤◌, List, [], ◌∷◌, inl, inr, length, take, drop, sym, ap, ◌∙◌, ⊎_elim}
+use Rattle.snippet_parts.proofs.Common.{arith, length-drop, length-take, flat_map-append, Line, line_bytes, joined, source_lines, start_of, AreLines}
+use Rattle.snippet_parts.proofs.Common.{AreLinesOf, AreLinesOf-source_lines, joined-source_lines, source_lines-only}
 use Rattle.snippet_parts.proofs.TableLemmas.{start_of-drop}
 
 AreLines-drop : (n : ℕ) (ls : List Line) → AreLines ls → AreLines (drop n ls)
@@ -21,16 +20,12 @@ AreLines-take (suc n) (l ∷ ls) are = (are.0, λ eof. ((are.1 eof).0, take-none
 -- what stands from where line k starts on are the lines from it on
 part_lines : (ls : List Line) (k : ℕ) → drop (start_of ls k) (joined ls) ≡ joined (drop k ls)
 unfolding start_of
-part_lines ls k =
-    ap (drop (length (joined (take k ls)))) (ap joined (sym (take-append-drop k ls)) ∙ flat_map-append line_bytes (take k ls) (drop k ls))
-    ∙ drop_at (joined (take k ls)) (joined (drop k ls)) (length (joined (take k ls))) refl
+part_lines ls k = grind (arith, common_steps, flat_map-append line_bytes (take k ls) (drop k ls))
 
 -- what stands up to where line n starts are the lines before it
 take-lines : (ls : List Line) (n : ℕ) → take (start_of ls n) (joined ls) ≡ joined (take n ls)
 unfolding start_of
-take-lines ls n =
-    ap (take (length (joined (take n ls)))) (ap joined (sym (take-append-drop n ls)) ∙ flat_map-append line_bytes (take n ls) (drop n ls))
-    ∙ take_at (joined (take n ls)) (joined (drop n ls)) (length (joined (take n ls))) refl
+take-lines ls n = grind (arith, common_steps, flat_map-append line_bytes (take n ls) (drop n ls))
 
 -- the lines of the part from where line k starts to where the n-th line after it does
 pub lines-of-part : (source part : List ℕ) (k n start end : ℕ) → 0 < n → k + n ≤ length (source_lines source) → start ≡ start_of (source_lines source) k

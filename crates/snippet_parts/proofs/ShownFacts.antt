@@ -1,8 +1,8 @@
 -- What is known of the lines that are kept, and of those that are shown: their order, and which are among them.
-use Rattle.snippet_parts.proofs.Common.{◌≡◌, ℕ, zero, suc, ◌+◌, ◌-◌, ◌<◌, ◌≤◌, Bool, true, ◌||◌, not, eqb, List, [], ◌∷◌}
-use Rattle.snippet_parts.proofs.Common.{length, get_or, ◌⊎◌, inl, inr, refl, sym, ap, subst, ◌∙◌, arith, All, Contains, filter, list_any}
-use Rattle.snippet_parts.proofs.Common.{range_with_len, cond-true, cond_both, eqb-true, or_right, length-range_with_len, get_or-range_with_len, Annotation}
-use Rattle.snippet_parts.proofs.Common.{Ascends, keeps, kept_lines, shown_lines, with_between, source_lines, first_line, last_line, IsSpan, line_of-within}
+use Rattle.snippet_parts.proofs.Common.{common_steps, ◌≡◌, ℕ, zero, suc, ◌+◌, ◌-◌, ◌<◌, ◌≤◌, Bool, true, ◌||◌, eqb, List, [], ◌∷◌, length, get_or, ◌⊎◌, inl}
+use Rattle.snippet_parts.proofs.Common.{inr, refl, sym, ap, subst, ◌∙◌, arith, All, Contains, filter, range_with_len, cond-true, cond_both, eqb-true, or_right}
+use Rattle.snippet_parts.proofs.Common.{length-range_with_len, get_or-range_with_len, Annotation, Ascends, keeps, kept_lines, shown_lines, with_between}
+use Rattle.snippet_parts.proofs.Common.{source_lines, first_line, last_line, IsSpan, line_of-within}
 use Rattle.snippet_parts.proofs.BetweenLemmas.{rest_between, between-rest}
 use Rattle.snippet_parts.proofs.KeptPartLemmas.{any-member, keeps-first, keeps-last}
 
@@ -129,10 +129,7 @@ kept-shown fold source marks k among = contains-between k (kept_lines fold sourc
 -- a line that a span keeps is kept
 pub span-kept : (fold : Bool) (source : List ℕ) (marks : List Annotation) (a : Annotation) (k : ℕ) → Contains marks a → k < length (source_lines source)
     → keeps source k a ≡ true → Contains (kept_lines fold source marks) k
-span-kept fold source marks a k among within kept =
-    contains-filter (λ k. not fold || list_any (keeps source k) marks) k (range_with_len 0 (length (source_lines source)))
-    (or_right (not fold) (list_any (keeps source k) marks) (any-member (keeps source k) marks a among kept))
-    (contains-range 0 (length (source_lines source)) k (omega arith) (omega arith))
+span-kept fold source marks a k among within kept = grind (arith, common_steps, contains-filter, or_right, any-member, contains-range)
 
 -- the first and the last line of each span are kept
 pub first_kept : (fold : Bool) (source : List ℕ) (marks : List Annotation) (a : Annotation) → Contains marks a → IsSpan source a.span.start a.span.end

@@ -1,8 +1,9 @@
 -- Why a line needn't be read further to know whether it says little.
-use Rattle.snippet_parts.proofs.Common.{◌≡◌, ℕ, suc, ◌+◌, ◌<◌, Bool, true, false, ◌&&◌, ◌||◌, cond, not, eqb, List, [], ◌∷◌, ◌++◌, length, drop, get_or}
-use Rattle.snippet_parts.proofs.Common.{reverse, inl, inr, ◌⊎◌, refl, sym, ap, ◌∙◌, arith, is_whitespace, drop_trailing_whitespace, skip_leading_whitespace}
-use Rattle.snippet_parts.proofs.Common.{cases_Bool, or_cases, cond-true, cond-false, eqb-true, ne_eqb, drop_more, drop_all, reverse-append, Seen, Nothing}
-use Rattle.snippet_parts.proofs.Common.{Bracket, Slash, Slashes, Comment, Telling, is_bracket, is_comment, is_trivial, step, is_trivial_whole}
+use Rattle.snippet_parts.proofs.Common.{common_steps, ◌≡◌, ℕ, suc, ◌+◌, ◌<◌, Bool, true, false, ◌&&◌, ◌||◌, cond, not, eqb, List, [], ◌∷◌, ◌++◌, length, drop}
+use Rattle.snippet_parts.proofs.Common.{get_or, reverse, inl, inr, ◌⊎◌, refl, sym, ap, ◌∙◌, arith, is_whitespace, drop_trailing_whitespace}
+use Rattle.snippet_parts.proofs.Common.{skip_leading_whitespace, cases_Bool, or_cases, cond-true, cond-false, eqb-true, ne_eqb, drop_more, drop_all}
+use Rattle.snippet_parts.proofs.Common.{reverse-append, Seen, Nothing, Bracket, Slash, Slashes, Comment, Telling, is_bracket, is_comment, is_trivial, step}
+use Rattle.snippet_parts.proofs.Common.{is_trivial_whole}
 
 -- a text without the whitespace that it ends with
 without_tail : List ℕ → List ℕ
@@ -35,30 +36,12 @@ blank-reverse (c ∷ cs) = ap is_blank (reverse-append (c ∷ []) cs) ∙ blank-
 
 tail-more : (c : ℕ) (cs : List ℕ) → without_tail (c ∷ cs) ≡ cond (is_blank cs) (reverse (skip_leading_whitespace (c ∷ []))) (c ∷ without_tail cs)
 unfolding without_tail
-tail-more c cs =
-    ap (λ xs. reverse (skip_leading_whitespace xs)) (reverse-append (c ∷ []) cs) ∙ ap reverse (indent-push (reverse cs) c)
-    ∙ ap (λ b. reverse (cond b (skip_leading_whitespace (c ∷ [])) (skip_leading_whitespace (reverse cs) ++ c ∷ []))) (blank-reverse cs)
-    ∙ parts (is_blank cs)
-  where
-    parts : (b : Bool)
-        → reverse (cond b (skip_leading_whitespace (c ∷ [])) (skip_leading_whitespace (reverse cs) ++ c ∷ []))
-        ≡ cond b (reverse (skip_leading_whitespace (c ∷ []))) (c ∷ reverse (skip_leading_whitespace (reverse cs)))
-    parts true = refl
-    parts false = reverse-append (skip_leading_whitespace (reverse cs)) (c ∷ [])
+tail-more c cs = grind (arith, common_steps, indent-push, blank-reverse)
 
 tail-blank : (cs : List ℕ) → is_blank cs ≡ true → without_tail cs ≡ []
 unfolding is_blank without_tail
 tail-blank [] blank = refl
-tail-blank (c ∷ cs) blank =
-    elim (cases_Bool (is_whitespace c)) [
-      | inl white ↦ tail-more c cs ∙ cond-true (is_blank cs) (reverse (skip_leading_whitespace (c ∷ []))) (c ∷ without_tail cs)
-          (second (is_whitespace c) (is_blank cs) blank) ∙ ap reverse (cond-true (is_whitespace c) [] (c ∷ []) white)
-      | inr other ↦ cc
-    ]
-  where
-    second : (a b : Bool) → (a && b) ≡ true → b ≡ true
-    second true b both = both
-    second false b both = cc
+tail-blank (c ∷ cs) blank = grind (arith, common_steps, cases_Bool, tail-more, cond-true)
 
 -- after a character that isn't whitespace
 tail-other : (c : ℕ) (cs : List ℕ) → is_whitespace c ≡ false → without_tail (c ∷ cs) ≡ c ∷ without_tail cs

@@ -1,12 +1,10 @@
-use Rattle.snippet_parts.proofs.Common.{◌+◌, ◌<◌, ◌++◌, ◌∷◌, [], ℕ, ap, sym, ◌∙◌, arith, get_or, length, map, get_or-map, map-set}
-use Rattle.snippet_parts.proofs.Common.{LineAnnotation, KeptLine, seen_kept}
+use Rattle.snippet_parts.proofs.Common.{common_steps, ◌+◌, ◌<◌, ◌++◌, ◌∷◌, [], ℕ, ap, sym, ◌∙◌, arith, get_or, length, map, get_or-map, map-set, LineAnnotation}
+use Rattle.snippet_parts.proofs.Common.{KeptLine, seen_kept}
 use Rattle.snippet_parts.proofs.KeptEntryLemmas.{entry_stands_at, stands_nowhere}
 use Rattle.snippet_parts.proofs.annotated_lines.add_entry.Goals as goal
 
 pub returns-in_default-clause-added : goal.returns-in_default-clause-added
-returns-in_default-clause-added c seen parts are =
-    are ∙ stands_nowhere c.args.source.now seen parts (c.args.entry.now) c.args.kept.now (λ k within same.
-    c.in_default.ensures.none k within (ap (λ n. n + get_or c.args.kept.now k 0) c.line_start.ensures.value ∙ same))
+returns-in_default-clause-added c seen parts are = grind (arith, common_steps, stands_nowhere, c.in_default.ensures.none, c.line_start.ensures.value)
 
 pub returns-in_ok-push_entry-clause-added : goal.returns-in_ok-push_entry-clause-added
 returns-in_ok-push_entry-clause-added c seen parts are =

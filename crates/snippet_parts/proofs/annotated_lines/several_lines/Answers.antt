@@ -1,6 +1,5 @@
-use Rattle.snippet_parts.proofs.Common.{◌≡◌, ◌+◌, ◌<◌, ◌||◌, ℕ, [], eqb, length, map, not, refl, ap, sym, subst, ◌∙◌, arith, All}
-use Rattle.snippet_parts.proofs.Common.{AllPairs, filter, list_any, IsNonDecreasingBy, length-map, source_lines, LineAnnotation, kept_line, seen_kept, keeps}
-use Rattle.snippet_parts.proofs.Common.{line_with, is_seen, annotations_of, LocatedSpan}
+use Rattle.snippet_parts.proofs.Common.{common_steps, ◌≡◌, ◌+◌, ◌||◌, ℕ, [], eqb, length, map, refl, ap, sym, ◌∙◌, arith, filter, list_any, source_lines}
+use Rattle.snippet_parts.proofs.Common.{LineAnnotation, kept_line, seen_kept, line_with, is_seen, annotations_of, LocatedSpan}
 use Rattle.snippet_parts.proofs.KeptEntryLemmas.{kept-rise, lines_same, whole_again}
 use Rattle.snippet_parts.proofs.KeptLemmas.{among-kept, kept-ascend}
 use Rattle.snippet_parts.proofs.PartLemmas.{list_any-map}
@@ -8,29 +7,21 @@ use Rattle.snippet_parts.proofs.ShownLemmas.{same-kept}
 use Rattle.snippet_parts.proofs.annotated_lines.several_lines.Goals as goal
 
 pub bare_lines-requires : goal.bare_lines-requires
-bare_lines-requires c = record {
-  within = subst (All (λ k. k < length (source_lines c.args.source.now.text))) (sym c.deref.ensures.value) c.in_ok-kept.ensures.within;
-  ascending = subst (IsNonDecreasingBy (λ (k : ℕ). k)) (sym (c.deref-2.ensures.value ∙ c.in_ok-seen.ensures.value))
-      (kept-ascend (λ j. list_any (λ (x : LocatedSpan). is_seen c.args.source.now.text j x.annotation.now) c.args.located.now)
-      (length (source_lines c.args.source.now.text)));
-}
+bare_lines-requires c =
+    grind (arith, common_steps, c.deref.ensures.value, c.in_ok-kept.ensures.within, c.deref-2.ensures.value, c.in_ok-seen.ensures.value, kept-ascend)
 
 pub add_entries-requires : goal.add_entries-requires
 add_entries-requires c =
-    let s = c.args.source.now in
-    record {
-      ascending = subst (AllPairs (λ (a b : ℕ). a < b)) (sym (c.deref-3.ensures.value ∙ c.in_ok-kept.ensures.value))
-          (kept-rise (λ k. not c.args.fold || list_any (keeps s.text k) (annotations_of c.args.located.now)) (length (source_lines s.text)));
-      count = omega (
-        arith,
-        ap length c.deref_mut.ensures.value,
-        ap length c.in_ok-lines.ensures.value,
-        length-map c.in_ok-lines.lines.items seen_kept,
-        length-map c.deref.result.now (line_with s c.deref-2.result.now []),
-        ap length c.deref.ensures.value,
-        ap length c.deref-3.ensures.value,
-      );
-    }
+    grind (
+      arith,
+      common_steps,
+      c.deref-3.ensures.value,
+      c.in_ok-kept.ensures.value,
+      kept-rise,
+      c.deref_mut.ensures.value,
+      c.in_ok-lines.ensures.value,
+      c.deref.ensures.value,
+    )
 
 pub returns-clause-lines : goal.returns-clause-lines
 returns-clause-lines c =

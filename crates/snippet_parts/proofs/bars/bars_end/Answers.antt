@@ -1,4 +1,4 @@
-use Rattle.snippet_parts.proofs.Common.{◌+◌, ◌-◌, min, not, ap, sym, ◌∙◌, arith, is_trivial_line}
+use Rattle.snippet_parts.proofs.Common.{common_steps, ◌+◌, ◌-◌, min, not, ap, sym, ◌∙◌, arith, is_trivial_line}
 use Rattle.snippet_parts.proofs.BarLemmas.{bars-found, bars_none}
 use Rattle.snippet_parts.proofs.bars.bars_end.Goals as goal
 
@@ -9,6 +9,4 @@ returns-then-not-is_trivial_line-clause-bars c k past =
     c.loop-line.invariant (ap not (sym c.is_trivial_line.ensures.value) ∙ ap not c.if-not-is_trivial_line.true)
 
 pub returns-clause-bars : goal.returns-clause-bars
-returns-clause-bars c k past =
-    bars_none (λ j. not (is_trivial_line c.args.source.now.text j)) c.loop-line.line c.args.first (min (c.args.first + 4) c.args.last) k
-    (omega arith) past c.loop-line.invariant
+returns-clause-bars c k past = grind (arith, common_steps, bars_none, c.loop-line.line, c.loop-line.invariant)

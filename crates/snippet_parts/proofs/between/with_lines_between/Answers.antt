@@ -1,6 +1,6 @@
-use Rattle.snippet_parts.proofs.Common.{◌≡◌, ◌<◌, ◌^◌, None, Some, List, [], ◌∷◌, ◌++◌, map, length, sym, ap, subst, ◌∙◌}
-use Rattle.snippet_parts.proofs.Common.{append_assoc, arith, into_iter_items, map_push, nil_from_length, All-tail, AnnotatedLineInfo, ShownLine, KeptLine}
-use Rattle.snippet_parts.proofs.Common.{seen_kept, lines_between, infos_of, kept_of}
+use Rattle.snippet_parts.proofs.Common.{common_steps, ◌≡◌, ◌<◌, ◌^◌, None, Some, List, [], ◌∷◌, ◌++◌, map, length, sym, ap, subst, ◌∙◌, append_assoc, arith}
+use Rattle.snippet_parts.proofs.Common.{into_iter_items, map_push, nil_from_length, All-tail, AnnotatedLineInfo, ShownLine, KeptLine, seen_kept, lines_between}
+use Rattle.snippet_parts.proofs.Common.{infos_of, kept_of}
 use Rattle.std.proofs.Common.{All, append-nil}
 use Rattle.snippet_parts.proofs.BetweenLemmas.{filled, filled-shown}
 use Rattle.snippet_parts.proofs.ShownLineLemmas.{infos_of-push, kept_of-kept}
@@ -12,16 +12,7 @@ Fits info = length info.line.now < 2 ^ 56
 
 pub loop-info-init : goal.loop-info-init
 loop-info-init c =
-    let s = c.args.source.now in
-    let given : List AnnotatedLineInfo = into_iter_items c.into_iter-info-iterator.result in
-    let all : given ≡ c.args.kept.items = c.into_iter-info-iterator.ensures.into_iter_gives.0 in
-    record {
-      lines = ap (λ (ls : List ShownLine). map seen_kept (infos_of ls) ++ filled s None (map seen_kept given)) c.in_ok-shown.ensures.items
-          ∙ ap (λ (is : List AnnotatedLineInfo). filled s None (map seen_kept is)) all;
-      kept = ap (λ (ls : List ShownLine). kept_of ls ++ given) c.in_ok-shown.ensures.items ∙ all;
-      texts = subst (All Fits) (sym all) c.requires.texts;
-      left = omega (arith, c.into_iter-info-iterator.ensures.into_iter_gives.1, ap length all);
-    }
+    grind (arith, common_steps, c.into_iter-info-iterator.ensures.into_iter_gives.0, c.requires.texts, c.into_iter-info-iterator.ensures.into_iter_gives.1)
 
 pub loop-info-preserved : goal.loop-info-preserved
 loop-info-preserved c =

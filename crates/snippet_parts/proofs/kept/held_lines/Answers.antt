@@ -1,5 +1,4 @@
-use Rattle.snippet_parts.proofs.Common.{rules, subst, sym, ap, ◌∙◌, filter, range_with_len, IsNonDecreasingBy, IsNonDecreasingBy-from_sort_by_key}
-use Rattle.snippet_parts.proofs.Common.{IfOk-weaker, Stretch, is_held}
+use Rattle.snippet_parts.proofs.Common.{common_steps, arith, rules, subst, sym, IsNonDecreasingBy, IsNonDecreasingBy-from_sort_by_key, Stretch}
 use Rattle.snippet_parts.proofs.KeptLemmas.{held-permuted}
 use Rattle.snippet_parts.proofs.kept.held_lines.Goals as goal
 
@@ -10,8 +9,4 @@ merged_lines-requires c = record {
 }
 
 pub returns : goal.returns
-returns c = record {
-  value = IfOk-weaker c.merged_lines.result _ _
-      (λ lines is. is ∙ ap (λ ss. filter (is_held ss) (range_with_len 0 c.args.count)) c.deref.ensures.value
-      ∙ held-permuted c.args.stretches.items c.sort_by_key.new.self.items c.args.count c.sort_by_key.ensures.permutation) c.merged_lines.ensures.value;
-}
+returns c = grind (arith, common_steps, c.deref.ensures.value, held-permuted, c.sort_by_key.ensures.permutation, c.merged_lines.ensures.value)

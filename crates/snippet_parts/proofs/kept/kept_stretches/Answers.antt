@@ -1,11 +1,10 @@
-use Rattle.snippet_parts.proofs.Common.{List, ◌≡◌, ◌+◌, ◌-◌, ◌≤◌, ℕ, Bool, true, false, ◌||◌, ◌&&◌, eqb, leb, ltb, min, not, inl}
-use Rattle.snippet_parts.proofs.Common.{inr, ◌⊎◌, ap, sym, subst, ◌∙◌, arith, list_any, range_with_len, Source, Annotation, LocatedSpan}
-use Rattle.snippet_parts.proofs.Common.{is_trivial_line, keeps, AreBars, IsLocated, is_long_span, is_marking, first_line}
+use Rattle.snippet_parts.proofs.Common.{common_steps, List, ◌≡◌, ◌+◌, ◌-◌, ◌≤◌, ℕ, Bool, true, false, ◌||◌, ◌&&◌, eqb, leb, ltb, min, not, ap, sym, subst, ◌∙◌}
+use Rattle.snippet_parts.proofs.Common.{arith, list_any, range_with_len, Source, Annotation, LocatedSpan, is_trivial_line, keeps, AreBars, IsLocated}
+use Rattle.snippet_parts.proofs.Common.{is_long_span, is_marking}
 use mir.Val.{bool_byte}
 use Rattle.snippet_parts.proofs.LocatedLemmas.{located-ordered, long_span-by}
 use Rattle.snippet_parts.proofs.KeptLemmas.{after-least, keeps-all, keeps-ends, last_bar-is, last_bar-apart}
 use Rattle.snippet_parts.proofs.kept.kept_stretches.Goals as goal
-use Rattle.snippet_parts.proofs.kept.kept_stretches.Goals.{then-all-via-then-all, then-all-via-else-all+then-not-is_marking}
 
 -- whether a span of these lines has a bar beside line k
 abbrev bar_by : List ℕ → ℕ → ℕ → ℕ → Bool
@@ -25,9 +24,7 @@ one-at-most false n is = omega (arith, is)
 -- its lines are those where it is located
 at_lines : (s : Source) (l : LocatedSpan) (first last k : ℕ) → IsLocated s l → first ≡ l.first → last ≡ l.last
     → keeps_by s.text l.annotation.now k first last ≡ keeps s.text k l.annotation.now
-at_lines s l first last k at is_first is_last =
-    ap (λ n. keeps_by s.text l.annotation.now k n last) (is_first ∙ at.first)
-    ∙ ap (λ n. keeps_by s.text l.annotation.now k (first_line s.text l.annotation.now) n) (is_last ∙ at.last)
+at_lines s l first last k at is_first is_last = grind (arith, common_steps, s.text, at.first, at.last)
 
 pub returns : goal.returns
 returns c = record { value = kept }
@@ -59,19 +56,5 @@ returns c = record { value = kept }
         ∙ at_lines s span f l k at c.touched-all.ensures.first c.touched-all.ensures.last
 
 pub returns-then-all : goal.returns-then-all
-returns-then-all c = record { value = kept }
-  where
-    kept : (s : Source) (k : ℕ) → IsLocated s c.args.span.now
-        → ((leb c.touched-all.result.first k && leb k c.touched-all.result.last) || (leb c.touched-all.result.first k && leb k c.touched-all.result.last))
-        ≡ keeps s.text k c.args.span.now.annotation.now
-    kept s k at =
-        let span = c.args.span.now in
-        let f : ℕ = c.touched-all.result.first in
-        let l : ℕ = c.touched-all.result.last in
-        let ordered : span.first ≤ span.last = located-ordered s span at in
-        let why : (f ≡ l) ⊎ (is_marking span.annotation.now.kind ≡ false) = elim c.then-all.branch [
-          | then-all-via-then-all w ↦ inl (omega (arith, w.if-all, ordered, c.touched-all.ensures.first, c.touched-all.ensures.last))
-          | then-all-via-else-all+then-not-is_marking w ↦ inr (sym w.is_marking.ensures.value ∙ w.if-not-is_marking.true)
-        ] in
-        keeps-all f l k (is_marking span.annotation.now.kind) (bar_by s.text k f l) why
-        ∙ at_lines s span f l k at c.touched-all.ensures.first c.touched-all.ensures.last
+returns-then-all c =
+    grind (arith, common_steps, located-ordered, c.then-all.branch, c.touched-all.ensures.first, c.touched-all.ensures.last, keeps-all, at_lines)

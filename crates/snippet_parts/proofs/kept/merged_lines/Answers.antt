@@ -1,3 +1,4 @@
+use Rattle.snippet_parts.proofs.Common.{common_steps, arith}
 use Rattle.snippet_parts.proofs.KeptLemmas.{merged-all, merged-step}
 use Rattle.snippet_parts.proofs.kept.merged_lines.Goals as goal
 
@@ -9,7 +10,4 @@ loop-stretch-preserved c =
     c.ranges.count.fits c.in_ok-push_lines.ensures.value
 
 pub returns : goal.returns
-returns c = record {
-  value = merged-all c.args.stretches.now c.args.count c.loop-stretch.stretch-index c.loop-stretch.next c.loop-stretch.lines.items c.loop-stretch-test.false
-      c.loop-stretch.invariant;
-}
+returns c = grind (arith, common_steps, merged-all, c.loop-stretch.stretch-index, c.loop-stretch.next, c.loop-stretch-test.false, c.loop-stretch.invariant)

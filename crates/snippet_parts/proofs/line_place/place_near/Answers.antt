@@ -1,4 +1,4 @@
-use Rattle.snippet_parts.proofs.Common.{subst, ◌∙◌, ap, arith, IsSpanBorder, sym, location_of, line_of, source_lines, entry_at, IsLinePlace}
+use Rattle.snippet_parts.proofs.Common.{common_steps, subst, ◌∙◌, ap, arith, IsSpanBorder, sym, location_of, line_of, source_lines, entry_at, IsLinePlace}
 use Rattle.std.proofs.Common.{IfSome}
 use Rattle.snippet_parts.proofs.TableLemmas.{located-near}
 use Rattle.snippet_parts.proofs.line_place.place_near.Goals as goal
@@ -11,10 +11,7 @@ locate_later-requires-clause-line c =
     located-near s near.line near.at.byte c.args.byte known.line (omega (arith, c.if-near-byte.true)) (omega (arith, c.if-byte-near.true))
 
 pub locate_later-requires-clause-short : goal.locate_later-requires-clause-short
-locate_later-requires-clause-short c =
-    let s = c.args.source.now in
-    let known : IsLinePlace s c.in-Some.near = subst (λ k. IfSome k (IsLinePlace s)) c.in-Some.is c.requires.known in
-    known.short
+locate_later-requires-clause-short c = grind (arith, common_steps, c.in-Some.is, c.requires.known)
 
 pub returns-in-Some-clause-place : goal.returns-in-Some-clause-place
 returns-in-Some-clause-place c =

@@ -1,6 +1,5 @@
-use Rattle.snippet_parts.proofs.Common.{◌≡◌, ℕ, ◌+◌, ◌-◌, ◌<◌, ◌≤◌, Bool, true, ◌&&◌, not, eqb, inl, inr, refl, ap, arith}
-use Rattle.snippet_parts.proofs.Common.{◌∙◌, cases_lt, eqb-false, not-true, and_parts, Loc, Source, source_lines, locations_of, Annotation, line_of-mono}
-use Rattle.snippet_parts.proofs.Common.{line_of-within, is_marking, first_line, last_line}
+use Rattle.snippet_parts.proofs.Common.{common_steps, ◌≡◌, ℕ, ◌+◌, ◌-◌, ◌<◌, ◌≤◌, Bool, true, ◌&&◌, not, eqb, refl, ap, arith, ◌∙◌, Loc, Source, source_lines}
+use Rattle.snippet_parts.proofs.Common.{locations_of, Annotation, line_of-mono, line_of-within, is_marking, first_line, last_line}
 use Rattle.snippet_parts.proofs.MarkLemmas.{first_line-from, end-line}
 use Rattle.snippet_parts.proofs.located.located_span.Goals as goal
 
@@ -23,12 +22,7 @@ overflow_sub-last c =
 
 -- of lines in order that differ the first comes before the last
 marked-longer : (marked : Bool) (first last : ℕ) → first ≤ last → (marked && not (eqb last first)) ≡ true → (marked ≡ true) × (first < last)
-marked-longer marked first last ordered long =
-    let parts = and_parts marked (not (eqb last first)) long in
-    (parts.0, below first last ordered (eqb-false last first (not-true (eqb last first) parts.1)))
-  where
-    below : (m n : ℕ) → m ≤ n → (n ≡ m → ⊥) → m < n
-    below m n le apart = elim (cases_lt m n) [ inl less ↦ less | inr more ↦ absurd (apart (omega arith)) ]
+marked-longer marked first last ordered long = grind (arith, common_steps)
 
 pub span_bars-requires : goal.span_bars-requires
 span_bars-requires c =

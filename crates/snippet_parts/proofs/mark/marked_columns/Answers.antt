@@ -1,17 +1,10 @@
-use Rattle.snippet_parts.proofs.Common.{◌≡◌, true, false, sym, ◌∙◌, arith}
+use Rattle.snippet_parts.proofs.Common.{common_steps, sym, ◌∙◌, arith}
 use Rattle.snippet_parts.proofs.MarkLemmas.{first_line-from, marked-from, unmarked-from, start_column-from, end_column-from}
-use Rattle.snippet_parts.proofs.mark.marked_columns.Goals.{then-not-is_marking-via-then-not-is_marking}
-use Rattle.snippet_parts.proofs.mark.marked_columns.Goals.{then-not-is_marking-via-else-not-is_marking+then-start-line}
-use Rattle.snippet_parts.proofs.mark.marked_columns.Goals.{then-not-is_marking-via-else-not-is_marking+else-start-line+then-end-line}
 use Rattle.snippet_parts.proofs.mark.marked_columns.Goals as goal
 
 pub returns-then-not-is_marking-clause-none : goal.returns-then-not-is_marking-clause-none
-returns-then-not-is_marking-clause-none c = λ k here. unmarked-from c.args.source.now c.args.annotation.now c.span_to_locations.result c.args.line k
-    c.span_to_locations.ensures.value here (λ on. elim c.then-not-is_marking.branch [
-      | then-not-is_marking-via-then-not-is_marking w ↦ let both : false ≡ true = sym w.if-not-is_marking.true ∙ c.is_marking.ensures.value ∙ on.marking in cc
-      | then-not-is_marking-via-else-not-is_marking+then-start-line w ↦ w.if-start-line.true on.first
-      | then-not-is_marking-via-else-not-is_marking+else-start-line+then-end-line w ↦ w.if-end-line.true on.last
-    ])
+returns-then-not-is_marking-clause-none c =
+    grind (arith, common_steps, unmarked-from, c.span_to_locations.ensures.value, c.then-not-is_marking.branch, c.is_marking.ensures.value)
 
 pub returns : goal.returns
 returns c =

@@ -1,5 +1,5 @@
-use Rattle.snippet_parts.proofs.Common.{◌≡◌, ◌<◌, ◌≤◌, ◌+◌, ◌-◌, ◌∙◌, length, get_or, List, ℕ, sym, ap, arith, ltb-true, Source}
-use Rattle.snippet_parts.proofs.Common.{source_lines, start_of, joined-source_lines, start_of-end, start_of-le, IsLineTable, starts_of}
+use Rattle.snippet_parts.proofs.Common.{common_steps, ◌≡◌, ◌<◌, ◌≤◌, ◌+◌, ◌-◌, ◌∙◌, length, get_or, List, ℕ, sym, ap, arith, ltb-true, Source, source_lines}
+use Rattle.snippet_parts.proofs.Common.{start_of, joined-source_lines, start_of-end, start_of-le, IsLineTable, starts_of}
 use Rattle.snippet_parts.proofs.TableLemmas.{table-start}
 use Rattle.snippet_parts.proofs.source_map.SourceMap.kept_start.Goals as goal
 
@@ -7,8 +7,7 @@ use Rattle.snippet_parts.proofs.source_map.SourceMap.kept_start.Goals as goal
 found : (source starts : List ℕ) (first skipped from end : ℕ) → IsLineTable source first skipped from end starts → (index at start : ℕ)
     → skipped ≤ index → at ≡ index - skipped → at < length starts → start ≡ get_or starts at start → from + start ≡ start_of (source_lines source) index
 found source starts first skipped from end table index at start after at_is inside is =
-    let line : skipped + at ≡ index = omega arith in
-    omega (arith, is, table-start source starts first skipped from end table at start inside, ap (start_of (source_lines source)) line)
+    grind (arith, common_steps, is, table-start source starts first skipped from end table at start inside, table, inside)
 
 -- no line starts after the source
 short : (source : List ℕ) (k : ℕ) → start_of (source_lines source) k ≤ length source

@@ -1,5 +1,5 @@
-use Rattle.snippet_parts.proofs.Common.{◌≡◌, ◌+◌, ◌∙◌, length, List, ℕ, ap, arith, rules, Source, source_lines, AreLinesOf-source_lines}
-use Rattle.snippet_parts.proofs.Common.{length-source_lines, newline_count-le, source_lines-only, starts_of}
+use Rattle.snippet_parts.proofs.Common.{common_steps, ◌≡◌, ◌+◌, length, ap, arith, source_lines, AreLinesOf-source_lines, length-source_lines, newline_count-le}
+use Rattle.snippet_parts.proofs.Common.{source_lines-only, starts_of}
 use Rattle.snippet_parts.proofs.TableLemmas.{table-last}
 use Rattle.snippet_parts.proofs.source_map.SourceMap.line_count.Goals as goal
 
@@ -14,18 +14,10 @@ counted c =
     )
 
 pub overflow_add-result : goal.overflow_add-result
-overflow_add-result c =
-    let source : List ℕ = c.self.inside.source.now in
-    omega (arith, counted c, length-source_lines source, newline_count-le source, c.self.invariant.short)
+overflow_add-result c = grind (arith, common_steps, counted, length-source_lines, newline_count-le)
 
 pub returns-then-self : goal.returns-then-self
-returns-then-self c = record {
-  value = counted c ∙ ap (λ (s : Source). length (source_lines s.text)) c.self.view_is;
-  lines = AreLinesOf-source_lines c.args.self.now.text;
-  only = source_lines-only c.args.self.now.text;
-}
+returns-then-self c = grind (arith, common_steps, counted c, AreLinesOf-source_lines c.args.self.now.text, source_lines-only c.args.self.now.text)
 
 pub returns-else-self : goal.returns-else-self
-returns-else-self c =
-    let text = c.args.self.now.text in
-    record { value = search rules; lines = AreLinesOf-source_lines text; only = source_lines-only text }
+returns-else-self c = grind (arith, common_steps, AreLinesOf-source_lines c.args.self.now.text, source_lines-only c.args.self.now.text)

@@ -1,6 +1,5 @@
-use Rattle.snippet_parts.proofs.Common.{◌≡◌, ◌<◌, ◌≤◌, ◌+◌, ◌^◌, ◌∙◌, length, List, ℕ, ◌-◌, subst, sym, ap, arith, rules}
-use Rattle.snippet_parts.proofs.Common.{HoldsAt, IsNonDecreasingBy, Source, source_lines, line_of, line_of-clamped, length-source_lines, newline_count-le}
-use Rattle.snippet_parts.proofs.Common.{line_of-within, starts_of}
+use Rattle.snippet_parts.proofs.Common.{common_steps, ◌≡◌, ◌<◌, ◌≤◌, ◌+◌, ◌^◌, ◌∙◌, length, List, ℕ, ◌-◌, subst, sym, ap, arith, HoldsAt, IsNonDecreasingBy}
+use Rattle.snippet_parts.proofs.Common.{Source, source_lines, line_of, line_of-clamped, length-source_lines, newline_count-le, line_of-within, starts_of}
 use Rattle.snippet_parts.proofs.TableLemmas.{table-ordered, table-first, table-holding}
 use Rattle.snippet_parts.proofs.source_map.SourceMap.line_index_of.Goals as goal
 
@@ -15,10 +14,7 @@ last_starting_by-requires-clause-ordered c =
     (table-ordered m.source.now (starts_of m.starts) m.line_start m.skipped m.from m.end c.self.invariant)
 
 pub last_starting_by-requires-clause-first : goal.last_starting_by-requires-clause-first
-last_starting_by-requires-clause-first c =
-    let m = c.self.inside in
-    subst (λ ss. HoldsAt (λ (start : ℕ). start ≤ c.min-at.result - m.from) ss 0) (sym c.as_slice.ensures.value)
-    (table-first m.source.now (starts_of m.starts) m.line_start m.skipped m.from m.end c.self.invariant (c.min-at.result - m.from))
+last_starting_by-requires-clause-first c = grind (arith, common_steps, c.as_slice.ensures.value, table-first)
 
 -- the line that is found holds the byte
 found : (c : goal.After-last_starting_by) → c.self.inside.skipped + c.last_starting_by.result ≡ line_of (source_lines c.self.inside.source.now) c.args.byte
@@ -48,12 +44,4 @@ pub returns-then-at-self-clause-bound : goal.returns-then-at-self-clause-bound
 returns-then-at-self-clause-bound c = omega (arith, found c, small c.self.inside.source.now c.args.byte c.self.invariant.short)
 
 pub returns-else-self-at : goal.returns-else-self-at
-returns-else-self-at c =
-    let is = c.line_index.ensures.value in
-    let same = ap (λ (s : Source). line_of (source_lines s.text) c.args.byte) c.self.view_is in
-    record {
-      value = is ∙ same;
-      within = omega (arith, is, same, line_of-within c.args.self.now.text c.args.byte);
-      bound = omega (arith, is, small c.self.inside.source.now c.args.byte c.self.invariant.short);
-      short = search rules;
-    }
+returns-else-self-at c = grind (arith, common_steps, c.line_index.ensures.value, line_of-within, small)

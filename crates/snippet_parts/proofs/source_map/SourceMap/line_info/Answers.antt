@@ -1,7 +1,6 @@
-use Rattle.snippet_parts.proofs.Common.{◌≡◌, ◌<◌, ◌+◌, ◌-◌, ap, sym, subst, ◌∙◌, [], List, ℕ, length, take, drop, get_or, arith}
-use Rattle.snippet_parts.proofs.Common.{IsCharBoundary, Eof, Line, Source, line_bytes, source_lines, start_of, IsLineWithEnd, length-source_lines}
-use Rattle.snippet_parts.proofs.Common.{newline_count-le, start_of-le, IsCharBoundary-start_of, IsLine-at, IsOneLine-line, line_bytes-slice, LineInfo}
-use Rattle.snippet_parts.proofs.Common.{table_entry, entry_at, text-only}
+use Rattle.snippet_parts.proofs.Common.{common_steps, ◌≡◌, ◌<◌, ◌+◌, ◌-◌, ap, sym, subst, ◌∙◌, [], List, ℕ, length, take, drop, get_or, arith, Eof, Line}
+use Rattle.snippet_parts.proofs.Common.{Source, line_bytes, source_lines, start_of, IsLineWithEnd, length-source_lines, newline_count-le, start_of-le}
+use Rattle.snippet_parts.proofs.Common.{IsCharBoundary-start_of, IsLine-at, IsOneLine-line, line_bytes-slice, LineInfo, table_entry, entry_at, text-only}
 use Rattle.snippet_parts.proofs.TableLemmas.{entry_at-is}
 use Rattle.snippet_parts.proofs.source_map.SourceMap.line_info.Goals as goal
 
@@ -13,36 +12,17 @@ starts_alike : (s t : Source) (k at : ℕ) → s ≡ t → at ≡ start_of (sour
 starts_alike s t k at same is = is ∙ sym (ap (λ (u : Source). start_of (source_lines u.text) k) same)
 
 pub overflow_add-index : goal.overflow_add-index
-overflow_add-index c =
-    let source : List ℕ = c.self.inside.source.now in
-    omega (
-      arith,
-      lines_alike _ _ c.self.view_is,
-      c.requires.within,
-      length-source_lines source,
-      newline_count-le source,
-      c.self.invariant.short,
-    )
+overflow_add-index c = grind (arith, common_steps, lines_alike, c.requires.within, length-source_lines, newline_count-le)
 
 pub range-requires : goal.range-requires
 range-requires c =
-    let source : List ℕ = c.self.inside.source.now in
-    let k : ℕ = c.args.index in
-    let start = starts_alike _ _ k _ c.self.view_is c.start_of_line-start.ensures.value in
-    let end = starts_alike _ _ (k + 1) _ c.self.view_is c.start_of_line-end.ensures.value in
-    record {
-      start_le_end = omega (arith, start, end, start_of-le (source_lines source) k (k + 1) (omega arith));
-      start_boundary = λ _. subst (IsCharBoundary source) (sym start) (IsCharBoundary-start_of source k c.self.invariant.utf8);
-      end_boundary = subst (IsCharBoundary source) (sym end) (IsCharBoundary-start_of source (k + 1) c.self.invariant.utf8);
-    }
+    grind (arith, common_steps, starts_alike, c.start_of_line-start.ensures.value, c.start_of_line-end.ensures.value, start_of-le, IsCharBoundary-start_of)
 
 -- the bytes of the line
 bytes : (source : List ℕ) (k start end : ℕ) (slice : List ℕ) → k < length (source_lines source) → start ≡ start_of (source_lines source) k
     → end ≡ start_of (source_lines source) (k + 1) → slice ≡ take (end - start) (drop start source)
     → slice ≡ line_bytes (get_or (source_lines source) k ([], Eof))
-bytes source k start end slice within start_is end_is is =
-    is ∙ ap (λ n. take (n - start) (drop start source)) end_is ∙ ap (λ n. take (start_of (source_lines source) (k + 1) - n) (drop n source)) start_is
-    ∙ line_bytes-slice source k within
+bytes source k start end slice within start_is end_is is = grind (arith, common_steps, line_bytes-slice)
 
 pub without_line_end-requires : goal.without_line_end-requires
 without_line_end-requires c =

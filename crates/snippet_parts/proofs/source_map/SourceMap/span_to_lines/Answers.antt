@@ -1,34 +1,29 @@
-use Rattle.snippet_parts.proofs.Common.{◌≡◌, ◌<◌, ◌≤◌, ◌+◌, ◌-◌, ◌∙◌, List, ℕ, length, map, ap, arith, range_with_len, Line}
-use Rattle.snippet_parts.proofs.Common.{source_lines, line_of, line_of-mono, line_of-within, entry_at}
+use Rattle.snippet_parts.proofs.Common.{common_steps, ◌≡◌, ◌≤◌, ◌+◌, ◌-◌, ◌∙◌, List, ℕ, map, ap, arith, range_with_len, Line, source_lines, line_of}
+use Rattle.snippet_parts.proofs.Common.{line_of-mono, line_of-within, entry_at}
 use Rattle.snippet_parts.proofs.TableLemmas.{entries-more}
 use Rattle.snippet_parts.proofs.source_map.SourceMap.span_to_lines.Goals as goal
 
 -- the line that holds the start doesn't stand after the one that holds the end
 ordered : (source : List ℕ) (start end : ℕ) → start ≤ end → line_of (source_lines source) start ≤ line_of (source_lines source) end
-ordered source start end le =
-    let some : line_of (source_lines source) start < length (source_lines source) = line_of-within source start in
-    line_of-mono (source_lines source) start end (omega (arith, some)) le
+ordered source start end le = grind (arith, common_steps, line_of-within, line_of-mono)
 
 pub line_info-requires : goal.line_info-requires
 line_info-requires c =
-    let text = c.args.self.now.text in
-    let le = ordered text c.args.span.start c.args.span.end c.requires.span.ordered in
-    record {
-      within = omega (
-        arith,
-        le,
-        c.loop-index-test.true,
-        c.loop-index.auto.index-end,
-        c.line_index_of-first.ensures.value,
-        c.line_index_of-last.ensures.value,
-        line_of-within text c.args.span.end,
-      );
-    }
+    grind (
+      arith,
+      common_steps,
+      ordered,
+      c.requires.span.ordered,
+      c.loop-index-test.true,
+      c.loop-index.auto.index-end,
+      c.line_index_of-first.ensures.value,
+      c.line_index_of-last.ensures.value,
+      line_of-within,
+    )
 
 pub loop-index-preserved : goal.loop-index-preserved
 loop-index-preserved c =
-    entries-more c.args.self.now.first (source_lines c.args.self.now.text) c.loop-index.lines.items c.push.new.self.items c.line_info.result
-    c.line_index_of-first.result c.loop-index.index c.loop-index.auto.index c.in_ok-push.ensures.items c.line_info.ensures.entry c.loop-index.invariant
+    grind (arith, common_steps, entries-more, c.loop-index.index, c.loop-index.auto.index, c.line_info.ensures.entry, c.loop-index.invariant)
 
 pub returns : goal.returns
 returns c =
