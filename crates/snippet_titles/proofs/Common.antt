@@ -85,6 +85,7 @@ pub use Rattle.std.proofs.Math.Seq.{drop-append_seam, take-append_seam, get_or-a
 pub use Rattle.std.proofs.Math.Utf8.{scalars, encodes}
 pub use Rattle.std.proofs.lemmas.Bool.{cases_lt, cases_eq, and_parts, cases_Bool, eqb-true, leb-true, ltb-true}
 pub use Rattle.std.proofs.lemmas.Bool.Decides.{nat_tests}
+pub use Rattle.std.proofs.lemmas.Grind.{common_steps}
 pub use Rattle.std.proofs.lemmas.Cmp.{nat_list_eq_equiv}
 pub use Rattle.std.proofs.lemmas.Grind.{flat_map-append}
 pub use Rattle.std.proofs.lemmas.Iterator.Consumers.{YieldsList-end, YieldsList-from_enumerate, YieldsList-turn}

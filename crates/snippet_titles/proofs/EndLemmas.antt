@@ -1,7 +1,7 @@
 -- Rows that are drawn below all others.
-use Rattle.snippet_titles.proofs.Common.{◌≡◌, ℕ, suc, ◌+◌, ◌-◌, ◌<◌, ◌≤◌, List, [], ◌∷◌, ◌++◌, length, take, replicate}
-use Rattle.snippet_titles.proofs.Common.{refl, sym, ap, ◌∙◌, arith, inl, inr, cases_lt, append-nil, append_assoc, get_or_past, length-append, length-take}
-use Rattle.snippet_titles.proofs.Common.{places, take-append_seam, row_at, Cell, written, IsAtEnd, appended, on_top, without_empty_end}
+use Rattle.snippet_titles.proofs.Common.{common_steps, ◌≡◌, ℕ, suc, ◌+◌, ◌-◌, ◌<◌, ◌≤◌, List, [], ◌∷◌, ◌++◌, length, take, replicate, refl, sym, ap, ◌∙◌, arith}
+use Rattle.snippet_titles.proofs.Common.{append-nil, get_or_past, length-append, length-take, places, row_at, Cell, IsAtEnd, appended, on_top}
+use Rattle.snippet_titles.proofs.Common.{without_empty_end}
 use Rattle.snippet_grid.proofs.AppendLemmas.{appended-appended, appended-is, written_past}
 
 -- an empty row at the end isn't there
@@ -28,14 +28,8 @@ on_top-refilled [] [] all is within =
     let more : suc (length all) - 0 ≡ suc (length all - 0) = omega arith in
     let none : List Cell = [] in
     (ap (λ n. replicate n none) more ∙ ap (λ (rs : List (List Cell)). none ∷ rs) is, omega arith)
-on_top-refilled [] (r ∷ rows) all is within =
-    let none : List Cell = [] in
-    let more : suc (length all) - suc (length (r ∷ rows)) ≡ length all - length (r ∷ rows) = omega arith in
-    (ap (λ n. none ∷ (r ∷ rows ++ replicate n none)) more ∙ ap (λ (rs : List (List Cell)). none ∷ rs) is, omega (arith, within))
-on_top-refilled (cell ∷ cells) rows all is within =
-    let none : List Cell = [] in
-    let more : suc (length all) - suc (length rows) ≡ length all - length rows = omega arith in
-    (ap (λ n. (cell ∷ cells) ∷ (rows ++ replicate n none)) more ∙ ap (λ (rs : List (List Cell)). (cell ∷ cells) ∷ rs) is, omega (arith, within))
+on_top-refilled [] (r ∷ rows) all is within = grind (arith, common_steps)
+on_top-refilled (cell ∷ cells) rows all is within = grind (arith, common_steps)
 
 -- rows that are trimmed are the same once empty ones are added below
 pub refilled : (rows : List (List Cell)) → (without_empty_end rows ++ replicate (length rows - length (without_empty_end rows)) [] ≡ rows)
@@ -49,18 +43,7 @@ pub get_or-append_seam : (xs ys : List (List Cell)) → row_at (xs ++ ys) (lengt
 get_or-append_seam xs ys = grind (arith, places)
 
 past_rows : (xs : List (List Cell)) (n k : ℕ) → row_at (xs ++ replicate n []) k ≡ row_at xs k
-past_rows xs n k =
-    elim (cases_lt k (length xs)) [
-      | inl within ↦ grind (arith, places)
-      | inr past ↦ (let none : row_at xs k ≡ [] = get_or_past xs k [] past in none_after none past)
-    ]
-  where
-    none_after : row_at xs k ≡ [] → length xs ≤ k → row_at (xs ++ replicate n []) k ≡ row_at xs k
-    none_after none past = elim (cases_lt (k - length xs) n) [
-      | inl within ↦ (let read : row_at (xs ++ replicate n []) k ≡ [] = grind (arith, places) in read ∙ sym none)
-      | inr further ↦ (let size : length (xs ++ replicate n []) ≡ length xs + n = grind (arith, places) in get_or_past (xs ++ replicate n []) k []
-          (omega (arith, size, further, past)) ∙ sym none)
-    ]
+past_rows xs n k = grind (arith, common_steps, get_or_past)
 
 -- trimming changes no row
 pub row_at-trimmed : (rows : List (List Cell)) (k : ℕ) → row_at (without_empty_end rows) k ≡ row_at rows k
@@ -71,18 +54,7 @@ row_at-trimmed rows k =
 pub appended-further : (base done : List (List Cell)) (row : ℕ) (cells : List Cell) → row ≡ length base + length done
     → appended (base ++ without_empty_end done) row cells ≡ base ++ without_empty_end (done ++ cells ∷ [])
 appended-further base done row [] at = ap (λ rs. base ++ rs) (sym (trimmed-empty done))
-appended-further base done row (cell ∷ cells) at =
-    let there : List (List Cell) = base ++ without_empty_end done in
-    let all = refilled done in
-    let size : length there ≡ length base + length (without_empty_end done) = length-append base (without_empty_end done) in
-    let missing : row - length there ≡ length done - length (without_empty_end done) = omega (arith, size, at) in
-    let new : List (List Cell) = (cell ∷ cells) ∷ [] in
-    appended-is there row (cell ∷ cells) (omega arith)
-    ∙ ap (λ (r : List Cell). written [] there row ((r ++ cell ∷ cells) ∷ [])) (get_or_past there row [] (omega (arith, size, at, all.1)))
-    ∙ written_past [] there new row (omega (arith, size, at, all.1)) ∙ ap (λ n. there ++ replicate n [] ++ new) missing
-    ∙ ap (λ rs. rs ++ new) (append_assoc base (without_empty_end done) (replicate (length done - length (without_empty_end done)) []))
-    ∙ ap (λ rs. base ++ rs ++ new) all.0 ∙ append_assoc base done new
-    ∙ ap (λ rs. base ++ rs) (sym (trimmed-full done (cell ∷ cells) (omega arith)))
+appended-further base done row (cell ∷ cells) at = grind (arith, common_steps, refilled done, at, appended-is, get_or_past, written_past, trimmed-full)
 
 -- cells below all rows
 pub appended_below : (rows : List (List Cell)) (row : ℕ) (cells : List Cell) → row ≡ length rows → appended rows row cells ≡ rows
@@ -93,18 +65,7 @@ appended_below rows row cells at =
 -- the row that stands there is the last one
 pub IsAtEnd-is : (base rows : List (List Cell)) (row : ℕ) (cells : List Cell) → row ≡ length base → rows ≡ base ++ without_empty_end (cells ∷ [])
     → (take row rows ≡ base) × (row_at rows row ≡ cells) × IsAtEnd row rows
-IsAtEnd-is base rows row cells at is =
-    let below : List (List Cell) = without_empty_end (cells ∷ []) in
-    let front : take row rows ≡ base = ap (take row) is ∙ ap (λ n. take n (base ++ below)) at ∙ take-append_seam base below in
-    let here : row_at rows row ≡ cells = ap (λ rs. row_at rs row) is ∙ ap (λ n. row_at (base ++ below) n) at ∙ get_or-append_seam base below
-    ∙ row_at-trimmed (cells ∷ []) 0 in (
-      front,
-      here,
-      record {
-        within = omega (arith, at, ap length is, length-append base below);
-        last = is ∙ ap (λ rs. rs ++ below) (sym front) ∙ ap (λ (r : List Cell). take row rows ++ without_empty_end (r ∷ [])) (sym here);
-      },
-    )
+IsAtEnd-is base rows row cells at is = grind (arith, common_steps, get_or-append_seam, row_at-trimmed)
 
 -- cells after those of the last row
 pub appended-last : (rows : List (List Cell)) (row : ℕ) (cells : List Cell) → IsAtEnd row rows

@@ -1,8 +1,8 @@
 -- What a grid becomes where a row is begun with a glyph after the gutter.
-use Rattle.snippet_titles.proofs.Common.{◌≡◌, ℕ, ◌+◌, ◌<◌, List, [], ◌∷◌, ◌++◌, length, sym, ap, ◌∙◌, arith, get_or-append_seam}
-use Rattle.snippet_titles.proofs.Common.{append-nil, norm, appended, DecorStyle, Ascii, Unicode, LineAndColumn, LineNumber, closing_of, cells_written, Cell}
-use Rattle.snippet_titles.proofs.Common.{SPACE, text_cells, FileStart, Alone, First, Later, Secondary, OriginLocation, OriginLayout, file_glyph, file_row}
-use Rattle.snippet_titles.proofs.Common.{line_text, origin_row, origin_text, closing_row, cells_written_last, text_cells-append, written_end, begun_by_text}
+use Rattle.snippet_titles.proofs.Common.{common_steps, ◌≡◌, ℕ, ◌+◌, ◌<◌, List, [], ◌∷◌, ◌++◌, length, sym, ap, ◌∙◌, arith, append-nil, norm, appended}
+use Rattle.snippet_titles.proofs.Common.{DecorStyle, Ascii, Unicode, LineAndColumn, LineNumber, closing_of, cells_written, Cell, SPACE, text_cells, FileStart}
+use Rattle.snippet_titles.proofs.Common.{Alone, First, Later, Secondary, OriginLocation, OriginLayout, file_glyph, file_row, line_text, origin_row, origin_text}
+use Rattle.snippet_titles.proofs.Common.{closing_row, cells_written_last, text_cells-append, written_end, begun_by_text}
 use Rattle.std.proofs.Common.{chars}
 use Rattle.snippet_titles.proofs.RowLemmas.{appended-two}
 use Rattle.snippet_style.proofs.RowLemmas.{closing_some as closing-some}
@@ -44,9 +44,7 @@ appended-last front row cells =
 -- cells added to the last row, which was just begun
 last_extended : (old : List (List Cell)) (cells more : List Cell) → appended (old ++ cells ∷ []) (length old) more ≡ old ++ (cells ++ more) ∷ []
 last_extended old cells [] = ap (λ (r : List Cell). old ++ r ∷ []) (sym (append-nil cells))
-last_extended old cells (c ∷ more) =
-    ap (λ (r : List Cell). cells_written (old ++ cells ∷ []) (length old) (length r) (c ∷ more)) (get_or-append_seam old cells [] [])
-    ∙ appended-last old cells (c ∷ more)
+last_extended old cells (c ∷ more) = grind (arith, common_steps, appended-last)
 
 -- the row of a path: the row that leads to it, with the path and its place after that
 pub origin_row-begun : (old begun named new : List (List Cell)) (row : ℕ) (path : List ℕ) (layout : OriginLayout) (start : FileStart)
@@ -55,9 +53,4 @@ pub origin_row-begun : (old begun named new : List (List Cell)) (row : ℕ) (pat
     → new ≡ old ++ origin_row layout start path place ∷ []
 unfolding origin_row origin_text
 origin_row-begun old begun named new row path layout start place below starts names places =
-    let shown : List ℕ = norm (chars path) in
-    let after : List ℕ = line_text layout.anonymized place.line place.column in
-    let cells : List Cell = text_cells LineAndColumn (shown ++ after) in
-    appended-two begun named new row (text_cells LineAndColumn shown) (text_cells LineAndColumn after) names places
-    ∙ ap (appended begun row) (sym (text_cells-append LineAndColumn shown after)) ∙ ap (λ rows. appended rows row cells) starts
-    ∙ ap (λ n. appended (old ++ file_row layout start ∷ []) n cells) below ∙ last_extended old (file_row layout start) cells
+    grind (arith, common_steps, layout.anonymized, place.line, place.column, appended-two, text_cells-append, last_extended)

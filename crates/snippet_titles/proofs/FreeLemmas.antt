@@ -1,13 +1,13 @@
 -- A heading's rows hold no listed character but those of a trusted text.
-use Rattle.snippet_titles.proofs.Common.{◌≡◌, ℕ, ◌==◌, ◌+◌, ◌&&◌, if◌then◌else◌, not, codes, Bool, true, false, List, [], ◌∷◌}
-use Rattle.snippet_titles.proofs.Common.{◌++◌, map, replicate, All, Option, None, Some, refl, sym, subst, slice_split, onto_first, Contains, get_or_default}
-use Rattle.snippet_titles.proofs.Common.{All-nil, All-cons, All-head, All-tail, All-append, All-from_get_or, All-map, All-replicate, All-weaker}
-use Rattle.snippet_titles.proofs.Common.{slice_split-cons_yes, slice_split-cons_no, cow_str_bytes, option_map, DecorStyle, Ascii, Unicode, ElementStyle}
-use Rattle.snippet_titles.proofs.Common.{LineNumber, Cell, SPACE, text_cells, row_text, norm, is_listed, list_any-norm, Id, Heading, is_hidden, name_of}
-use Rattle.snippet_titles.proofs.Common.{HeadingRoles, TitleStyle, Title, Short, Message, bracketed_text, closing_bracket_of, colon_of, shown_text}
-use Rattle.snippet_titles.proofs.Common.{heading_lines, heading_rows, id_text, indent_cells, is_set, label_cells, heading_label_text, label_width, lines_below}
-use Rattle.snippet_titles.proofs.Common.{note_bar_of, on_top, opening_bracket_of, roles_of, sign_cells, without_empty_end, note_sign_of, IsFreeButText}
-use Rattle.snippet_titles.proofs.Common.{separator_of, row_text-text_cells}
+use Rattle.snippet_titles.proofs.Common.{common_steps, arith, ◌≡◌, ℕ, ◌==◌, ◌+◌, ◌&&◌, if◌then◌else◌, not, codes, Bool, true, false, List, [], ◌∷◌, ◌++◌, map}
+use Rattle.snippet_titles.proofs.Common.{replicate, All, Option, None, Some, refl, sym, subst, slice_split, onto_first, Contains, get_or_default, All-nil}
+use Rattle.snippet_titles.proofs.Common.{All-cons, All-head, All-tail, All-append, All-from_get_or, All-map, All-replicate, All-weaker, slice_split-cons_yes}
+use Rattle.snippet_titles.proofs.Common.{slice_split-cons_no, cow_str_bytes, option_map, DecorStyle, Ascii, Unicode, ElementStyle, LineNumber, Cell, SPACE}
+use Rattle.snippet_titles.proofs.Common.{text_cells, row_text, norm, is_listed, list_any-norm, Id, Heading, is_hidden, name_of, HeadingRoles, TitleStyle, Title}
+use Rattle.snippet_titles.proofs.Common.{Short, Message, bracketed_text, closing_bracket_of, colon_of, shown_text, heading_lines, heading_rows, id_text}
+use Rattle.snippet_titles.proofs.Common.{indent_cells, is_set, label_cells, heading_label_text, label_width, lines_below, note_bar_of, on_top}
+use Rattle.snippet_titles.proofs.Common.{opening_bracket_of, roles_of, sign_cells, without_empty_end, note_sign_of, IsFreeButText, separator_of}
+use Rattle.snippet_titles.proofs.Common.{row_text-text_cells}
 use Rattle.std.proofs.Common.{chars}
 use Rattle.snippet_titles.proofs.TextLemmas.{row_text-append, row_text-after, row_text-label, row_text-spaces}
 use Rattle.snippet_model.proofs.RowLemmas.{each_fails as fails_each}
@@ -170,10 +170,7 @@ own_text heading true is =
     let same : shown_text heading ≡ chars heading.text = rw is refl in
     subst (All (IsOwn heading)) (sym same) (All-from_get_or (IsOwn heading) (chars heading.text) 0 (λ k within listed.
     (is, (k, within, get_or_default (chars heading.text) k _ 0 within))))
-own_text heading false is =
-    let same : shown_text heading ≡ norm (chars heading.text) = rw is refl in
-    subst (All (IsOwn heading)) (sym same) (All-weaker IsUnlisted (IsOwn heading) (own_unlisted heading) (norm (chars heading.text))
-    (norm-free (chars heading.text)))
+own_text heading false is = grind (arith, common_steps, heading.text, All-weaker, own_unlisted, norm-free)
 
 -- the rows of a heading are free of listed characters but those of its own text
 pub heading_rows-free : (hyperlink : Bool) (style : TitleStyle) (heading : Heading) → All (IsFreeButText heading) (heading_rows hyperlink style heading)

@@ -1,18 +1,16 @@
 -- What holds of each row that a snippet begins with, of the text in the row of a path, and of each row of a message.
-use Rattle.snippet_titles.proofs.Common.{◌≡◌, ℕ, ◌+◌, ◌<◌, Bool, true, false, Option, None, Some, List, [], ◌∷◌, ◌++◌, All, length}
-use Rattle.snippet_titles.proofs.Common.{map, drop, replicate, refl, sym, ap, subst, ◌∙◌, arith, is_ascii_alphanumeric, length-append, length-replicate}
-use Rattle.snippet_titles.proofs.Common.{get_or_append_left, All-nil, All-cons, All-append, All-replicate, All-get_or, DecorStyle, Ascii, Unicode, ElementStyle}
-use Rattle.snippet_titles.proofs.Common.{LineAndColumn, LineNumber, Cell, SPACE, text_cells, row_text, norm, Id, Heading, is_hidden, name_of, FileStart, Alone}
-use Rattle.snippet_titles.proofs.Common.{First, Later, Secondary, OriginLocation, OriginLayout, HeadingRoles, MessageContext, TitleStyle, Message, colon_of}
-use Rattle.snippet_titles.proofs.Common.{heading_lines, heading_rows, id_cells, indent_cells, label_cells, label_width, lines_below, note_bar_of, roles_of}
-use Rattle.snippet_titles.proofs.Common.{sign_cells, note_sign_of, file_glyph, file_row, origin_row, origin_text, primary_start, snippet_head, separator_row}
-use Rattle.snippet_titles.proofs.Common.{HasNoNumber, IsFree, row_text-text_cells}
-use Rattle.std.proofs.Common.{chars}
+use Rattle.snippet_titles.proofs.Common.{common_steps, ◌≡◌, ℕ, ◌+◌, ◌<◌, Bool, true, false, Option, None, Some, List, [], ◌∷◌, ◌++◌, All, length, map, drop}
+use Rattle.snippet_titles.proofs.Common.{replicate, refl, sym, ap, ◌∙◌, arith, All-nil, All-cons, All-append, All-replicate, DecorStyle, Ascii, Unicode}
+use Rattle.snippet_titles.proofs.Common.{ElementStyle, LineAndColumn, LineNumber, Cell, SPACE, text_cells, row_text, Heading, FileStart, Alone, First, Later}
+use Rattle.snippet_titles.proofs.Common.{Secondary, OriginLocation, OriginLayout, HeadingRoles, MessageContext, TitleStyle, Message, heading_lines}
+use Rattle.snippet_titles.proofs.Common.{heading_rows, indent_cells, label_cells, label_width, lines_below, note_bar_of, roles_of, sign_cells, note_sign_of}
+use Rattle.snippet_titles.proofs.Common.{file_glyph, file_row, origin_row, origin_text, primary_start, snippet_head, separator_row, HasNoNumber, IsFree}
+use Rattle.snippet_titles.proofs.Common.{row_text-text_cells}
 use Rattle.snippet_titles.proofs.FreeLemmas.{All-trimmed}
 use Rattle.snippet_titles.proofs.HeadLemmas.{nameless_head-each, primary_head-each, secondary_head-each}
 use Rattle.snippet_titles.proofs.LinkLemmas.{IsUnlinked, drawn_unlinked, indent_unlinked, sign_unlinked}
 use Rattle.snippet_titles.proofs.OriginFree.{file_row-free, origin_row-free, separator_row-free}
-use Rattle.snippet_titles.proofs.OriginNumbers.{IsPlain, file_row-unnumbered, origin_row-unnumbered, separator_row-unnumbered}
+use Rattle.snippet_titles.proofs.OriginNumbers.{file_row-unnumbered, origin_row-unnumbered, separator_row-unnumbered}
 use Rattle.snippet_titles.proofs.OriginRowText.{origin_row-after}
 
 -- what a primary snippet without a path begins with
@@ -86,17 +84,11 @@ abbrev IsLed : ℕ → List Cell → Type 0
 IsLed gutter row = (gutter < length row) × HasNoNumber gutter row
 
 spaces-led : (gutter : ℕ) → IsLed gutter (replicate (gutter + 1) SPACE)
-spaces-led gutter =
-    let long : gutter < length (replicate (gutter + 1) SPACE) = omega (arith, length-replicate (gutter + 1) SPACE) in
-    (long, λ c within. All-get_or IsPlain (replicate (gutter + 1) SPACE) c SPACE (omega (arith, within, long)) (All-replicate IsPlain (gutter + 1) SPACE refl))
+spaces-led gutter = grind (arith, common_steps, All-replicate)
 
 -- stays one with cells after it
 led-more : (gutter : ℕ) (front others : List Cell) → IsLed gutter front → IsLed gutter (front ++ others)
-led-more gutter front others led = (
-  omega (arith, led.0, length-append front others),
-  λ c within. ap (λ (cell : Cell). is_ascii_alphanumeric cell.ch)
-      (get_or_append_left front others SPACE c (omega (arith, within, led.0))) ∙ led.1 c within,
-)
+led-more gutter front others led = grind (arith, common_steps, led.0, led.1)
 
 -- no row of a message can be taken for a line's
 pub message_rows-unnumbered : (hyperlink : Bool) (place : MessageContext) (heading : Heading)
@@ -122,14 +114,7 @@ message_rows-unnumbered hyperlink place heading =
 label-unlinked : (hyperlink : Bool) (roles : HeadingRoles) (heading : Heading) → heading.id ≡ None → All IsUnlinked (label_cells hyperlink roles heading)
 unfolding label_cells
 label-unlinked hyperlink roles heading none =
-    let hidden : Bool = is_hidden heading.level.name in
-    let name_chars : List ℕ = norm (chars (name_of heading.level)) in
-    let name : List Cell = text_cells roles.label name_chars in
-    let id : List Cell = id_cells hyperlink hidden roles.label heading.id in
-    let colon : List Cell = text_cells roles.colon (colon_of hidden heading.id) in
-    let bare : All IsUnlinked id = subst (λ (own : Option Id). All IsUnlinked (id_cells hyperlink hidden roles.label own)) (sym none) (All-nil IsUnlinked) in
-    All-append IsUnlinked (name ++ id) colon (All-append IsUnlinked name id (drawn_unlinked roles.label name_chars) bare)
-    (drawn_unlinked roles.colon (colon_of hidden heading.id))
+    grind (arith, common_steps, heading.level.name, heading.level, roles.label, heading.id, roles.colon, All-nil, All-append, drawn_unlinked)
 
 -- nor does any row of a heading without one
 pub heading_rows-unlinked : (hyperlink : Bool) (style : TitleStyle) (heading : Heading) → heading.id ≡ None

@@ -1,9 +1,8 @@
 -- A heading's rows, from what is drawn of them.
-use Rattle.snippet_titles.proofs.Common.{◌≡◌, ℕ, List, [], ◌++◌, All, length, map, take, Bool, true, false, if◌then◌else◌, refl, ap}
-use Rattle.snippet_titles.proofs.Common.{◌∙◌, arith, IsUtf8, get_or_past, row_at, Cell, ElementStyle, Level, Heading, norm, IsPlain, norm-plain}
-use Rattle.snippet_titles.proofs.Common.{HeadingRoles, TitleStyle, appended, heading_lines, heading_rows, indent_cells, label_cells, label_width}
-use Rattle.snippet_titles.proofs.Common.{lines_below, roles_of, sign_cells, without_empty_end}
-use Rattle.snippet_titles.proofs.Common.{AddsToRow, GridRow}
+use Rattle.snippet_titles.proofs.Common.{common_steps, ◌≡◌, ℕ, List, [], ◌++◌, All, length, map, take, Bool, true, false, if◌then◌else◌, refl, ap, ◌∙◌, arith}
+use Rattle.snippet_titles.proofs.Common.{IsUtf8, get_or_past, row_at, Cell, ElementStyle, Level, Heading, norm, IsPlain, norm-plain, HeadingRoles, TitleStyle}
+use Rattle.snippet_titles.proofs.Common.{appended, heading_lines, heading_rows, indent_cells, label_cells, label_width, lines_below, roles_of, sign_cells}
+use Rattle.snippet_titles.proofs.Common.{without_empty_end, AddsToRow, GridRow}
 use Rattle.std.specs.Str.{chars}
 use Rattle.snippet_titles.proofs.EndLemmas.{IsAtEnd-begun}
 use Rattle.snippet_text.proofs.SplitLemmas.{lines_at, lines_at-chars}
@@ -32,9 +31,7 @@ roles_known style heading level trusted roles leveled trusts are =
 pub text_drawn : (old new : List (List Cell)) (row : ℕ) (further : List Cell) (role : ElementStyle) (text shown : List ℕ) → IsUtf8 text
     → chars text ≡ shown → new ≡ take row old ++ without_empty_end (lines_below (row_at old row) further role (map chars (lines_at text)))
     → new ≡ take row old ++ without_empty_end (lines_below (row_at old row) further role (lines_at shown))
-text_drawn old new row further role text shown utf8 spelled is =
-    let cut : map chars (lines_at text) ≡ lines_at shown = lines_at-chars text utf8 ∙ ap lines_at spelled in
-    is ∙ ap (λ (ls : List (List ℕ)). take row old ++ without_empty_end (lines_below (row_at old row) further role ls)) cut
+text_drawn old new row further role text shown utf8 spelled is = grind (arith, common_steps, lines_at-chars)
 
 -- a text of printable ASCII is drawn as it is, trusted or not
 drawn_as_is : (trusted : Bool) (text : List ℕ) → All IsPlain text → chars text ≡ (if trusted then chars text else norm (chars text))
@@ -55,9 +52,4 @@ pub heading_drawn : (old begun new : List (List Cell)) (row : ℕ) (hyperlink : 
     → new ≡ old ++ heading_rows hyperlink style heading
 unfolding heading_rows
 heading_drawn old begun new row hyperlink style heading level trusted roles at leveled trusts roles_are first lines =
-    let all = IsAtEnd-begun old begun row (sign_cells style ++ label_cells hyperlink roles heading) at first in
-    lines ∙ ap (λ rs. rs ++ without_empty_end (lines_below (row_at begun row) (indent_cells style (label_width heading)) roles.text (heading_lines heading)))
-    all.0 ∙ ap (λ (r : List Cell). old ++ without_empty_end (lines_below r (indent_cells style (label_width heading)) roles.text (heading_lines heading)))
-    all.1 ∙ ap (λ (rs : HeadingRoles). old ++ without_empty_end
-    (lines_below (sign_cells style ++ label_cells hyperlink rs heading) (indent_cells style (label_width heading))
-    rs.text (heading_lines heading))) (roles_known style heading level trusted roles leveled trusts roles_are)
+    grind (arith, common_steps, IsAtEnd-begun, roles.text, roles_known)

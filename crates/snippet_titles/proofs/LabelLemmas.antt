@@ -1,10 +1,9 @@
 -- A heading's label: its cells, its characters, and the columns that they take.
-use Rattle.snippet_titles.proofs.Common.{◌≡◌, ℕ, ◌+◌, Bool, true, false, Option, Some, List, ◌++◌, replicate, sym, ap, ◌∙◌, arith}
-use Rattle.snippet_titles.proofs.Common.{append_assoc, cow_str_bytes, option_map, sum_by-append, Cell, SPACE, text_cells, ElementStyle, LineNumber}
-use Rattle.snippet_titles.proofs.Common.{norm, char_width, width_of, width_of-norm, width_of-opening, width_of-closing, Level, Id, Heading, is_hidden}
-use Rattle.snippet_titles.proofs.Common.{name_of, HeadingRoles, MessageContext, TitleStyle, Message, address_of, bracketed_cells, bracketed_text}
-use Rattle.snippet_titles.proofs.Common.{closing_bracket_of, colon_of, id_cells, id_text, label_cells, linked_to, opening_bracket_of, sign_cells}
-use Rattle.snippet_titles.proofs.Common.{note_sign_of, separator_cell}
+use Rattle.snippet_titles.proofs.Common.{common_steps, ◌≡◌, ℕ, ◌+◌, Bool, true, false, Option, Some, List, ◌++◌, replicate, ap, ◌∙◌, arith, cow_str_bytes}
+use Rattle.snippet_titles.proofs.Common.{option_map, sum_by-append, Cell, SPACE, text_cells, ElementStyle, LineNumber, norm, char_width, width_of}
+use Rattle.snippet_titles.proofs.Common.{width_of-norm, width_of-opening, width_of-closing, Level, Id, Heading, is_hidden, name_of, HeadingRoles}
+use Rattle.snippet_titles.proofs.Common.{MessageContext, TitleStyle, Message, address_of, closing_bracket_of, colon_of, id_cells, id_text, label_cells}
+use Rattle.snippet_titles.proofs.Common.{linked_to, opening_bracket_of, sign_cells, note_sign_of, separator_cell}
 use Rattle.std.proofs.Common.{chars}
 
 -- a level's name, an id and a colon, after other cells, are the label
@@ -14,17 +13,7 @@ pub label_is : (done : List Cell) (hyperlink : Bool) (roles : HeadingRoles) (hea
     ≡ done ++ label_cells hyperlink roles heading
 unfolding label_cells
 label_is done hyperlink roles heading level hidden name colon id hides named colons leveled own =
-    let first : List ℕ → List Cell = text_cells roles.label in
-    append_assoc (done ++ first name) (id_cells hyperlink hidden roles.label id) (text_cells roles.colon colon)
-    ∙ append_assoc done (first name) (id_cells hyperlink hidden roles.label id ++ text_cells roles.colon colon)
-    ∙ ap (λ (cs : List Cell). done ++ cs) (sym (append_assoc (first name) (id_cells hyperlink hidden roles.label id) (text_cells roles.colon colon))
-    ∙ ap (λ (cs : List ℕ). first cs ++ id_cells hyperlink hidden roles.label id ++ text_cells roles.colon colon) named
-    ∙ ap (λ (cs : List ℕ). first (norm (chars (name_of level))) ++ id_cells hyperlink hidden roles.label id ++ text_cells roles.colon cs) colons
-    ∙ ap (λ (i : Option Id). first (norm (chars (name_of level))) ++ id_cells hyperlink hidden roles.label i ++ text_cells roles.colon (colon_of hidden i)) own
-    ∙ ap (λ (h : Bool). first (norm (chars (name_of level))) ++ id_cells hyperlink h roles.label heading.id
-    ++ text_cells roles.colon (colon_of h heading.id)) hides
-    ∙ ap (λ (l : Level). first (norm (chars (name_of l))) ++ id_cells hyperlink (is_hidden l.name) roles.label heading.id
-    ++ text_cells roles.colon (colon_of (is_hidden l.name) heading.id)) leveled)
+    grind (arith, common_steps, roles.label, roles.colon, heading.id)
 
 -- a bracket, the text of an id and a bracket, after other cells, are the id
 pub id_is : (done : List Cell) (hyperlink hidden : Bool) (role : ElementStyle) (id : Id) (text opening shown closing : List ℕ) (address : Option (List ℕ))
@@ -32,24 +21,13 @@ pub id_is : (done : List Cell) (hyperlink hidden : Bool) (role : ElementStyle) (
     → address ≡ address_of hyperlink id → closing ≡ closing_bracket_of hidden
     → ((done ++ text_cells role opening) ++ linked_to address (text_cells role shown)) ++ text_cells role closing
     ≡ done ++ id_cells hyperlink hidden role (Some id)
-id_is done hyperlink hidden role id text opening shown closing address given opens is to closes =
-    append_assoc (done ++ text_cells role opening) (linked_to address (text_cells role shown)) (text_cells role closing)
-    ∙ append_assoc done (text_cells role opening) (linked_to address (text_cells role shown) ++ text_cells role closing)
-    ∙ ap (λ (cs : List Cell). done ++ cs) (sym (append_assoc (text_cells role opening) (linked_to address (text_cells role shown)) (text_cells role closing))
-    ∙ ap (λ (cs : List ℕ). text_cells role cs ++ linked_to address (text_cells role shown) ++ text_cells role closing) opens
-    ∙ ap (λ (cs : List ℕ). text_cells role (opening_bracket_of hidden) ++ linked_to address (text_cells role cs) ++ text_cells role closing) is
-    ∙ ap (λ (cs : List ℕ). text_cells role (opening_bracket_of hidden) ++ linked_to address (text_cells role (norm (chars text)))
-    ++ text_cells role cs) closes
-    ∙ ap (λ a. bracketed_cells hidden role a (Some text)) to ∙ ap (λ t. bracketed_cells hidden role (address_of hyperlink id) t) (sym given))
+id_is done hyperlink hidden role id text opening shown closing address given opens is to closes = grind (arith, common_steps)
 
 -- spaces and a sign, after other cells, are what a message begins with
 pub sign_is : (done : List Cell) (style : TitleStyle) (place : MessageContext) (count : ℕ) (sign : List ℕ) → style ≡ Message place
     → count ≡ separator_cell place.layout → sign ≡ note_sign_of place.layout.decor place.followed
     → (done ++ replicate count SPACE) ++ text_cells LineNumber sign ≡ done ++ sign_cells style
-sign_is done style place count sign is counted signed =
-    append_assoc done (replicate count SPACE) (text_cells LineNumber sign)
-    ∙ ap (λ (cs : List Cell). done ++ cs) (ap (λ n. replicate n SPACE ++ text_cells LineNumber sign) counted
-    ∙ ap (λ (cs : List ℕ). replicate (separator_cell place.layout) SPACE ++ text_cells LineNumber cs) signed ∙ ap sign_cells (sym is))
+sign_is done style place count sign is counted signed = grind (arith, common_steps, place.layout)
 
 -- the columns of a label's parts
 width_of-three : (a b c : List ℕ) → width_of (a ++ b ++ c) ≡ width_of a + width_of b + width_of c
@@ -61,21 +39,12 @@ pub label_width-parts : (known level : Level) (hidden : Bool) (owned id set : Op
     → colons ≡ colon_of hidden set → colon ≡ width_of colons
     → name + shown + colon ≡ width_of (norm (chars (name_of known)) ++ id_text (is_hidden known.name) owned ++ colon_of (is_hidden known.name) owned)
 label_width-parts known level hidden owned id set name shown colon colons leveled hides own is_set named identified spelled measured =
-    let h : Bool = is_hidden known.name in
-    let one : name ≡ width_of (norm (chars (name_of known))) = named ∙ ap (λ (l : Level). width_of (chars (name_of l))) leveled
-    ∙ sym (width_of-norm (chars (name_of known))) in
-    let two : shown ≡ width_of (id_text h owned) = identified ∙ ap (λ (b : Bool). width_of (id_text b id)) hides
-    ∙ ap (λ (i : Option Id). width_of (id_text h i)) own in
-    let three : colon ≡ width_of (colon_of h owned) = measured ∙ ap width_of spelled ∙ ap (λ (b : Bool). width_of (colon_of b set)) hides
-    ∙ ap (λ (i : Option Id). width_of (colon_of h i)) is_set in
-    omega (arith, one, two, three, width_of-three (norm (chars (name_of known))) (id_text h owned) (colon_of h owned))
+    grind (arith, common_steps, known.name, width_of-norm, width_of-three)
 
 -- an id takes the columns of its text, and in brackets two more
 pub width_of-id : (hidden : Bool) (id : Id) (text : List ℕ) → option_map cow_str_bytes id.id ≡ Some text
     → width_of (id_text hidden (Some id)) ≡ width_of (opening_bracket_of hidden) + width_of (chars text) + width_of (closing_bracket_of hidden)
-width_of-id hidden id text is =
-    ap (λ t. width_of (bracketed_text hidden t)) is ∙ width_of-three (opening_bracket_of hidden) (norm (chars text)) (closing_bracket_of hidden)
-    ∙ ap (λ n. width_of (opening_bracket_of hidden) + n + width_of (closing_bracket_of hidden)) (width_of-norm (chars text))
+width_of-id hidden id text is = grind (arith, common_steps, width_of-three, width_of-norm)
 
 -- an id without brackets is as wide as its text
 pub width_of-bare : (hidden : Bool) (id : Id) (text : List ℕ) (width : ℕ) → hidden ≡ true → option_map cow_str_bytes id.id ≡ Some text

@@ -1,8 +1,8 @@
 -- The rows of a text's lines.
-use Rattle.snippet_titles.proofs.Common.{◌≡◌, ◌≢◌, ℕ, ◌+◌, ◌<◌, ◌==◌, false, List, [], ◌∷◌, ◌++◌, length, map, take, get_or}
-use Rattle.snippet_titles.proofs.Common.{All, refl, sym, ap, ◌∙◌, arith, Bor, enumerate_from, nat_tests, get_or_past, length-append, length-map}
-use Rattle.snippet_titles.proofs.Common.{length-take, map-append, get_or-enumerate_from, length-enumerate_from, slice_split_none, slice_split_at}
-use Rattle.snippet_titles.proofs.Common.{All-from_get_or, row_at, Cell, text_cells, ElementStyle, IsPlain, IsAtEnd, appended, lines_below, without_empty_end}
+use Rattle.snippet_titles.proofs.Common.{common_steps, ◌≡◌, ◌≢◌, ℕ, ◌+◌, ◌<◌, ◌==◌, false, List, [], ◌∷◌, ◌++◌, length, map, take, get_or, All, refl, sym, ap}
+use Rattle.snippet_titles.proofs.Common.{◌∙◌, arith, Bor, enumerate_from, nat_tests, get_or_past, length-append, length-map, length-take, map-append}
+use Rattle.snippet_titles.proofs.Common.{get_or-enumerate_from, length-enumerate_from, slice_split_none, slice_split_at, All-from_get_or, row_at, Cell}
+use Rattle.snippet_titles.proofs.Common.{text_cells, ElementStyle, IsPlain, IsAtEnd, appended, lines_below, without_empty_end}
 use Rattle.std.specs.Str.{chars}
 use Rattle.snippet_text.proofs.SplitLemmas.{lines_at}
 use Rattle.snippet_titles.proofs.EndLemmas.{IsAtEnd-more, appended-further, refilled}
@@ -27,10 +27,7 @@ lines_at-first text first rest whole none =
 pub one_line : (old new : List (List Cell)) (row : ℕ) (further : List Cell) (role : ElementStyle) (text : List ℕ) → IsAtEnd row old
     → lines_at text ≡ text ∷ [] → new ≡ appended old row (text_cells role (chars text))
     → new ≡ take row old ++ without_empty_end (lines_below (row_at old row) further role (map chars (lines_at text)))
-one_line old new row further role text end one is =
-    let more = IsAtEnd-more old new row (text_cells role (chars text)) end is in
-    more.2.last ∙ ap (λ rs. rs ++ without_empty_end (row_at new row ∷ [])) more.0 ∙ ap (λ (r : List Cell). take row old ++ without_empty_end (r ∷ [])) more.1
-    ∙ ap (λ (ls : List (List ℕ)). take row old ++ without_empty_end (lines_below (row_at old row) further role (map chars ls))) (sym one)
+one_line old new row further role text end one is = grind (arith, common_steps, IsAtEnd-more old new row (text_cells role (chars text)) end is, end, is, one)
 
 -- the rows of numbered lines
 abbrev pub line_of : (ℕ × Bor (List ℕ)) → List ℕ
@@ -43,10 +40,7 @@ further_rows further role numbered = map (λ l. further ++ text_cells role l) (m
 -- the number of a line
 pub number_is : (lines : List (List ℕ)) (k index : ℕ) (line : List ℕ) → k < length (enumerate_from 0 lines)
     → ◌≡◌ {A = ℕ × List ℕ} (index, line) (get_or (enumerate_from 0 lines) k (index, line)) → index ≡ k
-number_is lines k index line within is =
-    let same = ap {A = ℕ × List ℕ} {B = ℕ} (λ p. p.0) (is ∙ get_or-enumerate_from 0 lines k (index, line)
-    (omega (arith, within, length-enumerate_from 0 lines))) in
-    omega (arith, same)
+number_is lines k index line within is = grind (arith, common_steps, get_or-enumerate_from, length-enumerate_from)
 
 -- a row more
 pub further_drawn : (old grid new : List (List Cell)) (row index : ℕ) (further : List Cell) (role : ElementStyle) (numbered : List (ℕ × Bor (List ℕ)))

@@ -1,12 +1,10 @@
 -- A heading's rows link to the address of its id, and to no other.
-use Rattle.snippet_titles.proofs.Common.{◌≡◌, ℕ, ◌+◌, ◌<◌, ◌==◌, Bool, true, false, Option, None, Some, List, [], ◌∷◌, ◌++◌, map}
-use Rattle.snippet_titles.proofs.Common.{length, replicate, All, refl, ap, ◌∙◌, arith, cow_str_bytes, Global, CowStr, nat_list_eq_equiv, append-nil}
-use Rattle.snippet_titles.proofs.Common.{All-nil, All-append, All-cons, All-head, All-tail, All-replicate, length-slice_split, DecorStyle, Ascii, Unicode}
-use Rattle.snippet_titles.proofs.Common.{linked, Cell, SPACE, text_cells, link_begun, links_after, links_of, ElementStyle, LineNumber, norm, Id, Heading}
-use Rattle.snippet_titles.proofs.Common.{heading_of_title, is_hidden, name_of, HeadingRoles, TitleStyle, Title, Short, Message, address_of, bracketed_cells}
-use Rattle.snippet_titles.proofs.Common.{closing_bracket_of, colon_of, shown_text, heading_lines, heading_rows, id_cells, indent_cells, label_cells}
-use Rattle.snippet_titles.proofs.Common.{label_width, lines_below, linked_to, note_bar_of, on_top, opening_bracket_of, roles_of, sign_cells, without_empty_end}
-use Rattle.snippet_titles.proofs.Common.{note_sign_of, id_links, text_links, title_rows}
+use Rattle.snippet_titles.proofs.Common.{common_steps, ◌≡◌, ℕ, ◌+◌, ◌<◌, Bool, true, false, Option, None, Some, List, [], ◌∷◌, ◌++◌, map, length, replicate}
+use Rattle.snippet_titles.proofs.Common.{All, refl, ap, ◌∙◌, arith, nat_list_eq_equiv, All-nil, All-append, All-cons, All-head, All-tail, All-replicate}
+use Rattle.snippet_titles.proofs.Common.{length-slice_split, DecorStyle, Ascii, Unicode, linked, Cell, SPACE, text_cells, link_begun, links_after, links_of}
+use Rattle.snippet_titles.proofs.Common.{ElementStyle, norm, Id, Heading, heading_of_title, is_hidden, name_of, HeadingRoles, TitleStyle, Title, Short, Message}
+use Rattle.snippet_titles.proofs.Common.{bracketed_cells, colon_of, heading_rows, id_cells, indent_cells, label_cells, lines_below, linked_to, note_bar_of}
+use Rattle.snippet_titles.proofs.Common.{on_top, sign_cells, without_empty_end, id_links, text_links, title_rows}
 use Rattle.std.proofs.Common.{chars}
 use Rattle.snippet_model.specs.declared.snippet.Title as the_title
 
@@ -28,10 +26,7 @@ bar_unlinked Unicode false = refl
 pub sign_unlinked : (style : TitleStyle) → All IsUnlinked (sign_cells style)
 sign_unlinked Title = All-nil IsUnlinked
 sign_unlinked Short = All-nil IsUnlinked
-sign_unlinked (Message place) =
-    let sign : List Cell = text_cells LineNumber (note_sign_of place.layout.decor place.followed) in
-    All-append IsUnlinked (replicate (place.layout.gutter + 1) SPACE) sign (All-replicate IsUnlinked (place.layout.gutter + 1) SPACE refl)
-    (drawn_unlinked LineNumber (note_sign_of place.layout.decor place.followed))
+sign_unlinked (Message place) = grind (arith, common_steps, place.followed, All-append, All-replicate, drawn_unlinked)
 
 -- the cells of an indent have no link
 pub indent_unlinked : (style : TitleStyle) (width : ℕ) → All IsUnlinked (indent_cells style width)
@@ -77,20 +72,11 @@ links-linked (Some url) r (c ∷ cs) = ap (λ (urls : List (List ℕ)). url ∷ 
 -- an id's cells link to its address
 bracketed-links : (hidden : Bool) (r : ElementStyle) (address : Option (List ℕ)) (text : List ℕ)
     → links_after None (bracketed_cells hidden r address (Some text)) ≡ text_links address (norm (chars text))
-bracketed-links hidden r address text =
-    let shown : List Cell = linked_to address (text_cells r (norm (chars text))) in
-    let opening : List Cell = text_cells r (opening_bracket_of hidden) in
-    links_after-unlinked None (opening ++ shown) (text_cells r (closing_bracket_of hidden)) (drawn_unlinked r (closing_bracket_of hidden))
-    ∙ links-before opening shown (drawn_unlinked r (opening_bracket_of hidden)) ∙ links-linked address r (norm (chars text))
+bracketed-links hidden r address text = grind (arith, common_steps, links_after-unlinked, drawn_unlinked, links-before, links-linked)
 
 links_after-id : (hyperlink hidden : Bool) (r : ElementStyle) (id : Option Id) → links_after None (id_cells hyperlink hidden r id) ≡ id_links hyperlink id
 links_after-id hyperlink hidden r None = refl
-links_after-id hyperlink hidden r (Some id) = of_text id.id refl
-  where
-    of_text : (text : Option (CowStr Global)) → id.id ≡ text → links_after None (id_cells hyperlink hidden r (Some id)) ≡ id_links hyperlink (Some id)
-    of_text None is = rw is refl
-    of_text (Some text) is =
-        rw (is, append-nil (norm (chars (cow_str_bytes text)))) (bracketed-links hidden r (address_of hyperlink id) (cow_str_bytes text))
+links_after-id hyperlink hidden r (Some id) = grind (arith, common_steps, id.id, bracketed-links)
 
 -- so does a label, and the row that begins with it
 pub label-links : (hyperlink : Bool) (roles : HeadingRoles) (heading : Heading)
@@ -112,17 +98,13 @@ unlinked_row cells r line none =
 further-links : (further : List Cell) (r : ElementStyle) (lines : List (List ℕ)) → All IsUnlinked further
     → links_of (map (λ l. further ++ text_cells r l) lines) ≡ []
 further-links further r [] none = refl
-further-links further r (line ∷ lines) none =
-    ap (λ (urls : List (List ℕ)). urls ++ links_of (map (λ l. further ++ text_cells r l) lines)) (unlinked_row further r line none)
-    ∙ further-links further r lines none
+further-links further r (line ∷ lines) none = grind (arith, common_steps, unlinked_row, further-links further r lines none)
 
 -- the links of lines are those of what stands before the first
 pub lines-links : (first further : List Cell) (r : ElementStyle) (lines : List (List ℕ)) → 0 < length lines → All IsUnlinked further
     → links_of (lines_below first further r lines) ≡ links_after None first
 lines-links first further r [] some none = absurd (omega (arith, some))
-lines-links first further r (line ∷ lines) some none =
-    ap (λ (urls : List (List ℕ)). links_after None (first ++ text_cells r line) ++ urls) (further-links further r lines none)
-    ∙ append-nil (links_after None (first ++ text_cells r line)) ∙ links_after-unlinked None first (text_cells r line) (drawn_unlinked r line)
+lines-links first further r (line ∷ lines) some none = grind (arith, common_steps, further-links, links_after-unlinked, drawn_unlinked)
 
 -- rows that aren't there link to nothing
 on_top-links : (row : List Cell) (rows : List (List Cell)) → links_of (on_top row rows) ≡ links_after None row ++ links_of rows
@@ -141,15 +123,7 @@ pub heading_rows-links : (hyperlink : Bool) (style : TitleStyle) (heading : Head
     → links_of (heading_rows hyperlink style heading) ≡ id_links hyperlink heading.id
 unfolding heading_rows
 heading_rows-links hyperlink style heading =
-    let roles : HeadingRoles = roles_of style heading.level.kind heading.allows_styling in
-    let label : List Cell = label_cells hyperlink roles heading in
-    let first : List Cell = sign_cells style ++ label in
-    let further : List Cell = indent_cells style (label_width heading) in
-    let lines : List (List ℕ) = heading_lines heading in
-    trimmed-links (lines_below first further roles.text lines)
-    ∙ lines-links first further roles.text lines (omega (arith, length-slice_split (λ c. c == 10) (shown_text heading)))
-    (indent_unlinked style (label_width heading)) ∙ links-before (sign_cells style) label (sign_unlinked style)
-    ∙ label-links hyperlink roles heading
+    grind (arith, common_steps, heading.level.kind, trimmed-links, lines-links, length-slice_split, indent_unlinked, links-before, sign_unlinked, label-links)
 
 -- and those of a title
 pub title_rows-links : (hyperlink : Bool) (title : the_title.Title) → links_of (title_rows hyperlink title) ≡ id_links hyperlink title.id

@@ -1,6 +1,6 @@
 -- Names of levels that are drawn as they are.
-use Rattle.snippet_titles.proofs.Common.{◌≡◌, ◌∙◌, ℕ, List, [], ap, codes, refl, sym, name_of, standard_name_of, Level, LevelName, Hidden}
-use Rattle.snippet_titles.proofs.Common.{Standard, LevelInner, Error, Help, Info, Note, Warning, norm-unlisted, norm}
+use Rattle.snippet_titles.proofs.Common.{common_steps, arith, ◌≡◌, ℕ, List, [], codes, refl, name_of, standard_name_of, Level, Hidden, Standard, LevelInner}
+use Rattle.snippet_titles.proofs.Common.{Error, Help, Info, Note, Warning, norm-unlisted, norm}
 use Rattle.std.specs.Str.{chars}
 use Rattle.snippet_model.specs.Level as level
 
@@ -15,13 +15,9 @@ standard_unlisted Help = norm-unlisted (chars (codes "help")) refl
 
 -- so a kind's name is shown as it is
 pub standard_shown : (of : Level) (shown : List ℕ) → of.name ≡ Standard → shown ≡ name_of of → chars shown ≡ norm (chars (name_of of))
-standard_shown of shown is given =
-    let name : name_of of ≡ standard_name_of of.kind = ap (λ (n : LevelName). level.shown_name of.kind n) is in
-    ap chars (given ∙ name) ∙ sym (standard_unlisted of.kind) ∙ ap (λ (t : List ℕ). norm (chars t)) (sym name)
+standard_shown of shown is given = grind (arith, common_steps, of.kind, standard_unlisted)
 
 -- and a name that is hidden has no characters
 pub hidden_shown : (of : Level) → of.name ≡ Hidden → chars [] ≡ norm (chars (name_of of))
 unfolding chars
-hidden_shown of is =
-    let name : name_of of ≡ [] = ap (λ (n : LevelName). level.shown_name of.kind n) is in
-    sym (norm-unlisted (chars []) refl) ∙ ap (λ (t : List ℕ). norm (chars t)) (sym name)
+hidden_shown of is = grind (arith, common_steps, of.kind, norm-unlisted)

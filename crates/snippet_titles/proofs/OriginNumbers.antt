@@ -1,9 +1,9 @@
 -- No row of a path, and none that sets others off, can be taken for a line's: none begins with a number.
-use Rattle.snippet_titles.proofs.Common.{◌≡◌, ℕ, ◌+◌, ◌<◌, Bool, true, false, List, [], ◌∷◌, ◌++◌, All, length, replicate, refl, ap}
-use Rattle.snippet_titles.proofs.Common.{◌∙◌, arith, is_ascii_alphanumeric, list_any, length-append, length-replicate, get_or_append_left, All-append}
-use Rattle.snippet_titles.proofs.Common.{All-replicate, All-get_or, DecorStyle, Ascii, Unicode, LineAndColumn, LineNumber, closing_of, separator_of, Cell}
-use Rattle.snippet_titles.proofs.Common.{SPACE, text_cells, All-text_cells, length-text_cells, HasNoNumber, FileStart, Alone, First, Later, Secondary}
-use Rattle.snippet_titles.proofs.Common.{OriginLocation, OriginLayout, file_glyph, file_row, origin_row, origin_text, separator_row, closing_row}
+use Rattle.snippet_titles.proofs.Common.{common_steps, ◌≡◌, ℕ, ◌+◌, ◌<◌, Bool, true, false, List, [], ◌∷◌, ◌++◌, All, length, replicate, refl, arith}
+use Rattle.snippet_titles.proofs.Common.{is_ascii_alphanumeric, list_any, length-replicate, All-append, All-replicate, All-get_or, DecorStyle, Ascii, Unicode}
+use Rattle.snippet_titles.proofs.Common.{LineNumber, closing_of, separator_of, Cell, SPACE, text_cells, All-text_cells, length-text_cells, HasNoNumber}
+use Rattle.snippet_titles.proofs.Common.{FileStart, Alone, First, Later, Secondary, OriginLocation, OriginLayout, file_glyph, file_row, origin_row}
+use Rattle.snippet_titles.proofs.Common.{separator_row, closing_row}
 use Rattle.snippet_titles.proofs.PaddingWords.{padding_row}
 use Rattle.snippet_titles.proofs.FileRowLemmas.{file_glyph-some}
 use Rattle.snippet_titles.proofs.OriginFree.{each-fails}
@@ -24,9 +24,7 @@ abbrev pub IsPlain : Cell → Type 0
 IsPlain cell = is_ascii_alphanumeric cell.ch ≡ false
 
 front-unnumbered : (gutter : ℕ) (front others : List Cell) → gutter < length front → All IsPlain front → HasNoNumber gutter (front ++ others)
-front-unnumbered gutter front others long plain c within =
-    let inside : c < length front = omega (arith, within, long) in
-    ap (λ (cell : Cell). is_ascii_alphanumeric cell.ch) (get_or_append_left front others SPACE c inside) ∙ All-get_or IsPlain front c SPACE inside plain
+front-unnumbered gutter front others long plain c within = grind (arith, common_steps)
 
 spaces-plain : (n : ℕ) → All IsPlain (replicate n SPACE)
 spaces-plain n = All-replicate IsPlain n SPACE refl
@@ -54,16 +52,7 @@ padding_row-unnumbered decor gutter false = separator_row-unnumbered decor gutte
 -- nor in those that lead to a file, and those of paths
 file_row-long : (layout : OriginLayout) (start : FileStart) → layout.base.gutter < length (file_row layout start)
 unfolding file_row
-file_row-long layout start =
-    let glyph : List ℕ = file_glyph start layout.base.decor in
-    omega (
-      arith,
-      length-append (replicate layout.base.gutter SPACE)
-          (text_cells LineNumber glyph),
-      length-replicate layout.base.gutter SPACE,
-      length-text_cells LineNumber glyph,
-      file_glyph-some start layout.base.decor,
-    )
+file_row-long layout start = grind (arith, common_steps, length-text_cells, file_glyph-some)
 
 file_row-plain : (layout : OriginLayout) (start : FileStart) → All IsPlain (file_row layout start)
 unfolding file_row
@@ -76,9 +65,7 @@ file_row-plain layout start =
 pub origin_row-unnumbered : (layout : OriginLayout) (start : FileStart) (path : List ℕ) (place : OriginLocation)
     → HasNoNumber layout.base.gutter (origin_row layout start path place)
 unfolding origin_row
-origin_row-unnumbered layout start path place =
-    front-unnumbered layout.base.gutter (file_row layout start) (text_cells LineAndColumn (origin_text layout.anonymized path place))
-    (file_row-long layout start) (file_row-plain layout start)
+origin_row-unnumbered layout start path place = grind (arith, common_steps, front-unnumbered, layout.anonymized, file_row-long, file_row-plain)
 
 -- the row of a file has no number
 pub file_row-unnumbered : (layout : OriginLayout) (start : FileStart) → HasNoNumber layout.base.gutter (file_row layout start)

@@ -1,7 +1,7 @@
 -- The characters of a path and of the place after it.
-use Rattle.snippet_titles.proofs.Common.{◌≡◌, ℕ, ◌<◌, Bool, true, false, Option, None, Some, List, [], ◌∷◌, ◌++◌, All, codes, ap}
-use Rattle.snippet_titles.proofs.Common.{◌∙◌, arith, decimal, IsUtf8, All-nil, All-cons, All-append, All-weaker, chars-append, chars-IsAscii}
-use Rattle.snippet_titles.proofs.Common.{IsAscii-from_all, norm, OriginLocation, line_name, column_text, line_text, origin_text}
+use Rattle.snippet_titles.proofs.Common.{common_steps, ◌≡◌, ℕ, ◌<◌, Bool, true, false, Option, None, Some, List, [], ◌∷◌, ◌++◌, All, arith, decimal, IsUtf8}
+use Rattle.snippet_titles.proofs.Common.{All-nil, All-cons, All-append, All-weaker, chars-append, chars-IsAscii, IsAscii-from_all, norm, OriginLocation}
+use Rattle.snippet_titles.proofs.Common.{line_name, column_text, line_text, origin_text}
 use Rattle.std.proofs.Common.{chars}
 use Rattle.snippet_titles.proofs.DigitLemmas.{IsDigit, decimal-all}
 
@@ -20,9 +20,7 @@ module _ (P : ℕ → Type 0) (digit : (c : ℕ) → IsDigit c → P c) (colon :
 
   line_text-each : (anonymized : Bool) (line column : Option ℕ) → All P (line_text anonymized line column)
   line_text-each anonymized None column = All-nil P
-  line_text-each anonymized (Some line) column =
-      All-append P (codes ":" ++ line_name anonymized line) (column_text column)
-      (All-cons P 58 (line_name anonymized line) colon (line_name-each anonymized line)) (column_text-each column)
+  line_text-each anonymized (Some line) column = grind (arith, common_steps, All-append, All-cons, line_name-each, column_text-each)
 
   -- what holds of what a place is made of holds of its text
   pub place-each : (anonymized : Bool) (place : OriginLocation) → All P (line_text anonymized place.line place.column)
@@ -39,7 +37,4 @@ place-chars anonymized place =
 pub origin_text-added : (path before after : List ℕ) (anonymized : Bool) (place : OriginLocation) → IsUtf8 before → chars before ≡ norm (chars path)
     → after ≡ before ++ line_text anonymized place.line place.column → chars after ≡ origin_text anonymized path place
 unfolding origin_text
-origin_text-added path before after anonymized place utf8 shown added =
-    ap chars added ∙ chars-append before (line_text anonymized place.line place.column) utf8
-    ∙ ap (λ cs. cs ++ chars (line_text anonymized place.line place.column)) shown
-    ∙ ap (λ cs. norm (chars path) ++ cs) (place-chars anonymized place)
+origin_text-added path before after anonymized place utf8 shown added = grind (arith, common_steps, chars-append, place.line, place.column, place-chars)

@@ -1,23 +1,18 @@
 -- Which cells of a heading's rows link to its id's address.
-use Rattle.snippet_titles.proofs.Common.{◌≡◌, ℕ, suc, ◌+◌, ◌-◌, ◌<◌, ◌≤◌, ◌==◌, ◌&&◌, nat_le, nat_lt, cond, Bool, true, false}
-use Rattle.snippet_titles.proofs.Common.{Option, None, Some, List, [], ◌∷◌, ◌++◌, length, map, get_or, All, refl, sym, ap, ◌∙◌, arith, inl, inr}
-use Rattle.snippet_titles.proofs.Common.{cow_str_bytes, Global, CowStr, option_map, and_parts, cases_Bool, cases_eq, cases_lt, eqb-true, leb-true, ltb-true}
-use Rattle.snippet_titles.proofs.Common.{nat_tests, length-slice_split, append-nil, append_assoc, get_or-map, get_or_past, length-map, length-append, places}
-use Rattle.snippet_titles.proofs.Common.{All-nil, All-append, All-get_or, cell_at, linked, Cell, SPACE, text_cells, ElementStyle, length-text_cells, norm, Id}
-use Rattle.snippet_titles.proofs.Common.{Heading, is_hidden, name_of, HeadingRoles, TitleStyle, address_of, bracketed_cells, closing_bracket_of, colon_of}
-use Rattle.snippet_titles.proofs.Common.{shown_text, heading_lines, heading_rows, id_cells, indent_cells, label_cells, label_width, lines_below, linked_to}
-use Rattle.snippet_titles.proofs.Common.{opening_bracket_of, roles_of, sign_cells, LinksId, id_start, is_id_cell, id_address, id_chars}
+use Rattle.snippet_titles.proofs.Common.{common_steps, ◌≡◌, ℕ, suc, ◌+◌, ◌-◌, ◌<◌, ◌≤◌, ◌==◌, ◌&&◌, nat_le, nat_lt, cond, Bool, true, false, Option, None, Some}
+use Rattle.snippet_titles.proofs.Common.{List, [], ◌∷◌, ◌++◌, length, map, get_or, All, refl, sym, ap, ◌∙◌, arith, inl, inr, cow_str_bytes, Global, CowStr}
+use Rattle.snippet_titles.proofs.Common.{option_map, cases_Bool, cases_eq, cases_lt, nat_tests, length-slice_split, append-nil, get_or-map, get_or_past}
+use Rattle.snippet_titles.proofs.Common.{length-map, places, All-nil, All-append, cell_at, linked, Cell, SPACE, text_cells, ElementStyle, length-text_cells}
+use Rattle.snippet_titles.proofs.Common.{norm, Id, Heading, is_hidden, name_of, HeadingRoles, TitleStyle, address_of, bracketed_cells, closing_bracket_of}
+use Rattle.snippet_titles.proofs.Common.{colon_of, shown_text, heading_lines, heading_rows, id_cells, indent_cells, label_cells, label_width, lines_below}
+use Rattle.snippet_titles.proofs.Common.{linked_to, opening_bracket_of, roles_of, sign_cells, LinksId, id_start, is_id_cell, id_address, id_chars}
 use Rattle.std.proofs.Common.{chars}
 use Rattle.snippet_titles.proofs.EndLemmas.{row_at-trimmed}
 use Rattle.snippet_titles.proofs.LinkLemmas.{IsUnlinked, drawn_unlinked, indent_unlinked, sign_unlinked}
 
 -- no cell of such a row links to anything, nor does any after it
 unlinked_at : (row : List Cell) → All IsUnlinked row → (c : ℕ) → (get_or row c SPACE).link ≡ None
-unlinked_at row all c =
-    elim (cases_lt c (length row)) [
-      | inl within ↦ All-get_or IsUnlinked row c SPACE within all
-      | inr past ↦ ap (λ (cell : Cell). cell.link) (get_or_past row c SPACE past)
-    ]
+unlinked_at row all c = grind (arith, common_steps, get_or_past)
 
 -- in cells that link to an address each does
 linked_at : (address : Option (List ℕ)) (r : ElementStyle) (cs : List ℕ) (c : ℕ) → c < length cs
@@ -37,26 +32,11 @@ module _ (xs ys zs : List Cell) where
 
   other_parts : All IsUnlinked xs → All IsUnlinked zs → (c : ℕ) → (length xs ≤ c → c < length xs + length ys → ⊥)
       → (get_or (xs ++ (ys ++ zs)) c SPACE).link ≡ None
-  other_parts first third c outside =
-      elim (cases_lt c (length xs)) [
-        | inl left ↦ (let same : get_or (xs ++ (ys ++ zs)) c SPACE ≡ get_or xs c SPACE = grind (arith, places) in ap (λ (cell : Cell). cell.link) same
-            ∙ unlinked_at xs first c)
-        | inr after ↦ elim (cases_lt c (length xs + length ys)) [
-          | inl inside ↦ absurd (outside (omega (arith, after)) inside)
-          | inr right ↦ (let same : get_or (xs ++ (ys ++ zs)) c SPACE ≡ get_or zs (c - length xs - length ys) SPACE = grind (arith, places) in ap
-              (λ (cell : Cell). cell.link) same ∙ unlinked_at zs third (c - length xs - length ys))
-        ]
-      ]
+  other_parts first third c outside = grind (arith, common_steps)
 
 -- a first row in three parts: what stands before an id's text, the text, and what stands after it
 regrouped : (s n o l k c e : List Cell) → (s ++ ((n ++ ((o ++ l) ++ k)) ++ c)) ++ e ≡ (s ++ (n ++ o)) ++ (l ++ ((k ++ c) ++ e))
-regrouped s n o l k c e =
-    let p : List Cell = n ++ o in
-    ap (λ (xs : List Cell). (s ++ (xs ++ c)) ++ e)
-    (sym (append_assoc n (o ++ l) k) ∙ ap (λ (xs : List Cell). xs ++ k) (sym (append_assoc n o l)) ∙ append_assoc p l k)
-    ∙ ap (λ (xs : List Cell). (s ++ xs) ++ e) (append_assoc p (l ++ k) c)
-    ∙ ap (λ (xs : List Cell). xs ++ e) (sym (append_assoc s p ((l ++ k) ++ c))) ∙ append_assoc (s ++ p) ((l ++ k) ++ c) e
-    ∙ ap (λ (xs : List Cell). (s ++ p) ++ (xs ++ e)) (append_assoc l k c) ∙ ap (λ (xs : List Cell). (s ++ p) ++ xs) (append_assoc l (k ++ c) e)
+regrouped s n o l k c e = grind (arith, common_steps)
 
 module _ (hyperlink : Bool) (style : TitleStyle) (roles : HeadingRoles) (heading : Heading) (line : List ℕ) where
   abbrev hidden : Bool
@@ -96,20 +76,10 @@ module _ (hyperlink : Bool) (style : TitleStyle) (roles : HeadingRoles) (heading
 
     in_parts : row ≡ before ++ (shown ++ after)
     unfolding label_cells
-    in_parts =
-        ap (λ (i : Option Id). (sign_cells style ++ (name ++ id_cells hyperlink hidden roles.label i ++ colon)) ++ rest) own
-        ∙ ap (λ t. (sign_cells style ++ (name ++ bracketed_cells hidden roles.label (address_of hyperlink id) t ++ colon)) ++ rest) given
-        ∙ regrouped (sign_cells style) name opening shown closing colon rest
+    in_parts = grind (arith, common_steps, regrouped)
 
     length-before : length before ≡ id_start style heading
-    length-before =
-        omega (
-          arith,
-          length-append (sign_cells style) (name ++ opening),
-          length-append name opening,
-          length-text_cells roles.label name_chars,
-          length-text_cells roles.label (opening_bracket_of hidden),
-        )
+    length-before = grind (arith, common_steps, length-text_cells)
 
     length-shown : length shown ≡ length (norm (chars text))
     length-shown =
@@ -126,11 +96,7 @@ module _ (hyperlink : Bool) (style : TitleStyle) (roles : HeadingRoles) (heading
         (drawn_unlinked roles.colon (colon_of hidden heading.id))) (drawn_unlinked roles.text line)
 
     text_linked : (c : ℕ) → c < length (norm (chars text)) → (get_or row (id_start style heading + c) SPACE).link ≡ address_of hyperlink id
-    text_linked c within =
-        ap (λ (r : List Cell). (get_or r (id_start style heading + c) SPACE).link) in_parts
-        ∙ ap (λ n. (get_or (before ++ (shown ++ after)) (n + c) SPACE).link) (sym length-before)
-        ∙ ap (λ (cell : Cell). cell.link) (second_part before shown after c (omega (arith, within, length-shown)))
-        ∙ linked_at (address_of hyperlink id) roles.label (norm (chars text)) c within
+    text_linked c within = grind (arith, common_steps, in_parts, length-before, second_part, length-shown, linked_at)
 
     others_unlinked : (c : ℕ) → (id_start style heading ≤ c → c < id_start style heading + length (norm (chars text)) → ⊥) → (get_or row c SPACE).link ≡ None
     others_unlinked c outside =
@@ -194,11 +160,7 @@ further_at further r lines k c none =
 -- what the test for a cell of the id says
 id_cell : (style : TitleStyle) (heading : Heading) (i c : ℕ) → is_id_cell style heading i c ≡ true
     → (i ≡ 0) × (id_start style heading ≤ c) × (c < id_start style heading + length (id_chars heading.id))
-id_cell style heading i c is =
-    let start : ℕ = id_start style heading in
-    let parts = and_parts (i == 0 && nat_le start c) (nat_lt c (start + length (id_chars heading.id))) is in
-    let front = and_parts (i == 0) (nat_le start c) parts.0 in
-    (eqb-true i 0 front.0, leb-true start c front.1, ltb-true c (start + length (id_chars heading.id)) parts.1)
+id_cell style heading i c is = grind (arith, common_steps, heading.id)
 
 id_cell_from : (start end i c : ℕ) → i ≡ 0 → start ≤ c → c < end → (i == 0 && nat_le start c && nat_lt c end) ≡ true
 id_cell_from start end i c first from to = grind (arith, nat_tests, first, from, to)

@@ -1,8 +1,8 @@
 -- The one row of a plain heading.
-use Rattle.snippet_titles.proofs.Common.{◌≡◌, ◌<◌, ℕ, Bool, List, [], ◌∷◌, ◌++◌, length, map, refl, subst, sym, ap, ◌∙◌, arith, IsUtf8, length-append}
-use Rattle.snippet_titles.proofs.Common.{chars_some, Heading, ElementStyle, length-text_cells, Cell, text_cells, heading_lines, heading_rows}
-use Rattle.snippet_titles.proofs.Common.{indent_cells, label_cells}
-use Rattle.snippet_titles.proofs.Common.{label_width, lines_below, roles_of, sign_cells, without_empty_end, IsPlainHeading, TitleStyle, HeadingRoles, Level}
+use Rattle.snippet_titles.proofs.Common.{common_steps, ◌≡◌, ◌<◌, ℕ, Bool, List, [], ◌∷◌, ◌++◌, length, map, refl, sym, ap, ◌∙◌, arith, IsUtf8, length-append}
+use Rattle.snippet_titles.proofs.Common.{chars_some, Heading, ElementStyle, length-text_cells, Cell, text_cells, heading_lines, heading_rows, indent_cells}
+use Rattle.snippet_titles.proofs.Common.{label_cells, label_width, lines_below, roles_of, sign_cells, without_empty_end, IsPlainHeading, TitleStyle}
+use Rattle.snippet_titles.proofs.Common.{HeadingRoles, Level}
 use Rattle.std.specs.Str.{chars}
 use Rattle.snippet_titles.proofs.HeadingLemmas.{plain_shown, roles_known}
 use Rattle.snippet_titles.proofs.LineLemmas.{lines_at-plain}
@@ -43,19 +43,9 @@ pub row_known : (hyperlink : Bool) (style : TitleStyle) (heading : Heading) (lev
     → IsPlainHeading heading → ((sign_cells style ++ label_cells hyperlink roles heading) ++ text_cells roles.text (chars text)) ∷ []
     ≡ heading_rows hyperlink style heading
 row_known hyperlink style heading level trusted roles text leveled trusts are given utf8 plain =
-    let known = roles_known style heading level trusted roles leveled trusts are in
-    let own : HeadingRoles = roles_of style heading.level.kind heading.allows_styling in
-    ap (λ (rs : HeadingRoles). ((sign_cells style ++ label_cells hyperlink rs heading) ++ text_cells rs.text (chars text)) ∷ []) known
-    ∙ ap (λ (t : List ℕ). ((sign_cells style ++ label_cells hyperlink own heading) ++ text_cells own.text (chars t)) ∷ []) given
-    ∙ sym (one_row hyperlink style heading (subst IsUtf8 given utf8) plain)
+    grind (arith, common_steps, roles_known, heading.level.kind, one_row)
 
 -- a row that has the text of a heading has cells
 pub row_some : (front : List Cell) (role : ElementStyle) (heading : Heading) (text : List ℕ) → text ≡ heading.text → IsUtf8 text → IsPlainHeading heading
     → 0 < length (front ++ text_cells role (chars text))
-row_some front role heading text given utf8 plain =
-    omega (
-      arith,
-      length-append front (text_cells role (chars text)),
-      length-text_cells role (chars text),
-      chars_some text utf8 (omega (arith, ap length given, plain.some)),
-    )
+row_some front role heading text given utf8 plain = grind (arith, common_steps, length-text_cells, chars_some, plain.some)

@@ -1,8 +1,8 @@
 -- What the rows of the short form show.
-use Rattle.snippet_titles.proofs.Common.{◌≡◌, ◌∙◌, ℕ, ◌==◌, Bool, false, None, List, [], ◌∷◌, ◌++◌, All, map, refl, sym, subst, ap}
-use Rattle.snippet_titles.proofs.Common.{arith, slice_index_or, append-nil, All-nil, All-append, All-cons, All-head, All-tail, length-slice_split}
-use Rattle.snippet_titles.proofs.Common.{LineAndColumn, NoStyle, row_at, Cell, text_cells, row_text, links_after, links_of, is_listed, Heading, HeadingRoles}
-use Rattle.snippet_titles.proofs.Common.{Short, shown_text, heading_lines, indent_cells, label_cells, heading_label_text, label_width, lines_below, roles_of}
+use Rattle.snippet_titles.proofs.Common.{common_steps, ◌≡◌, ◌∙◌, ℕ, ◌==◌, Bool, false, None, List, [], ◌∷◌, ◌++◌, All, map, refl, sym, subst, ap, arith}
+use Rattle.snippet_titles.proofs.Common.{slice_index_or, append-nil, All-nil, All-append, All-cons, All-head, All-tail, length-slice_split, LineAndColumn}
+use Rattle.snippet_titles.proofs.Common.{NoStyle, row_at, Cell, text_cells, row_text, links_after, links_of, is_listed, Heading, HeadingRoles, Short}
+use Rattle.snippet_titles.proofs.Common.{shown_text, heading_lines, indent_cells, label_cells, heading_label_text, label_width, lines_below, roles_of}
 use Rattle.snippet_titles.proofs.Common.{short_rows, short_texts, with_end, IsFreeButText, id_links, row_text-text_cells}
 use Rattle.snippet_titles.proofs.EndLemmas.{row_at-trimmed}
 use Rattle.snippet_titles.proofs.FreeLemmas.{All-slice_split, All-trimmed, IsUnlisted, IsOwn, from_free, indent-all, label-all, lines_all, own_text}
@@ -14,10 +14,7 @@ use Rattle.snippet_titles.proofs.TextLemmas.{row_text-append, row_text-after, ro
 -- the row that a text and a label begin
 first_text : (hyperlink : Bool) (roles : HeadingRoles) (before : List ℕ) (heading : Heading)
     → row_text (text_cells LineAndColumn before ++ label_cells hyperlink roles heading) ≡ before ++ heading_label_text heading
-first_text hyperlink roles before heading =
-    let label : List Cell = label_cells hyperlink roles heading in
-    row_text-append (text_cells LineAndColumn before) label ∙ ap (λ cs. cs ++ row_text label) (row_text-text_cells LineAndColumn before)
-    ∙ ap (λ cs. before ++ cs) (row_text-label hyperlink roles heading)
+first_text hyperlink roles before heading = grind (arith, common_steps, row_text-append, row_text-text_cells, row_text-label)
 
 -- a text after the first row
 with_end-texts : (after : List ℕ) (rows : List (List Cell)) → map row_text (with_end (text_cells NoStyle after) rows) ≡ with_end after (map row_text rows)
@@ -30,14 +27,7 @@ pub row_text-short_rows : (hyperlink : Bool) (before after : List ℕ) (heading 
     → row_text (row_at (short_rows hyperlink before after heading) i) ≡ slice_index_or (short_texts before after heading) i []
 unfolding short_rows
 row_text-short_rows hyperlink before after heading i =
-    let roles : HeadingRoles = roles_of Short heading.level.kind heading.allows_styling in
-    let first : List Cell = text_cells LineAndColumn before ++ label_cells hyperlink roles heading in
-    let further : List Cell = indent_cells Short (label_width heading) in
-    let rows : List (List Cell) = lines_below first further roles.text (heading_lines heading) in
-    let all : List (List Cell) = with_end (text_cells NoStyle after) rows in
-    ap row_text (row_at-trimmed all i) ∙ text_at all i ∙ ap (λ ts. slice_index_or ts i [])
-    (with_end-texts after rows ∙ ap (with_end after) (texts_of_lines first further (before ++ heading_label_text heading) roles.text
-    (heading_lines heading) (first_text hyperlink roles before heading)))
+    grind (arith, common_steps, heading.level.kind, row_at-trimmed, text_at, with_end-texts, texts_of_lines, first_text)
 
 -- a text after the first row links to nothing
 with_end-links : (cells : List Cell) (rows : List (List Cell)) → All IsUnlinked cells → links_of (with_end cells rows) ≡ links_of rows
@@ -66,9 +56,7 @@ links_of-short_rows hyperlink before after heading =
 module _ (P : ℕ → Type 0) (free : (c : ℕ) → IsUnlisted c → P c) where
   with_end-all : (after : List ℕ) (rows : List (List Cell)) → All P after → All (λ row. All P (row_text row)) rows
       → All (λ row. All P (row_text row)) (with_end (text_cells NoStyle after) rows)
-  with_end-all after [] more all =
-      All-cons (λ row. All P (row_text row)) (text_cells NoStyle after) [] (row-all P free [] NoStyle (All-nil P) after more)
-      (All-nil (λ row. All P (row_text row)))
+  with_end-all after [] more all = grind (arith, common_steps, All-cons, row-all P free [] NoStyle (All-nil P) after more, All-nil P, more, All-nil)
   with_end-all after (row ∷ rows) more all =
       All-cons (λ r. All P (row_text r)) (row ++ text_cells NoStyle after) rows
       (row-all P free row NoStyle (All-head (λ r. All P (row_text r)) row rows all) after more) (All-tail (λ r. All P (row_text r)) row rows all)

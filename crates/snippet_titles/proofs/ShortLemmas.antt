@@ -1,8 +1,8 @@
 -- The rows of the short form, from what is drawn of them.
-use Rattle.snippet_titles.proofs.Common.{◌≡◌, ℕ, ◌-◌, List, [], ◌∷◌, ◌++◌, length, replicate, take, Bool, refl, sym, ap, ◌∙◌, arith}
-use Rattle.snippet_titles.proofs.Common.{append-nil, places, same_lists, row_at, Cell, text_cells, written, LineAndColumn, NoStyle, Level, Heading}
-use Rattle.snippet_titles.proofs.Common.{HeadingRoles, Short, appended, heading_lines, indent_cells, label_cells, label_width, lines_below, on_top, roles_of}
-use Rattle.snippet_titles.proofs.Common.{without_empty_end, short_rows, with_end}
+use Rattle.snippet_titles.proofs.Common.{common_steps, ◌≡◌, ℕ, List, [], ◌∷◌, ◌++◌, length, take, Bool, refl, sym, ap, ◌∙◌, arith, append-nil, places}
+use Rattle.snippet_titles.proofs.Common.{same_lists, row_at, Cell, text_cells, written, LineAndColumn, NoStyle, Level, Heading, HeadingRoles, Short, appended}
+use Rattle.snippet_titles.proofs.Common.{heading_lines, indent_cells, label_cells, label_width, lines_below, on_top, roles_of, without_empty_end, short_rows}
+use Rattle.snippet_titles.proofs.Common.{with_end}
 use Rattle.snippet_grid.proofs.AppendLemmas.{appended-is, written_past}
 use Rattle.snippet_titles.proofs.EndLemmas.{IsAtEnd-begun, appended_below, get_or-append_seam, row_at-trimmed}
 use Rattle.snippet_titles.proofs.HeadingLemmas.{roles_known}
@@ -10,10 +10,7 @@ use Rattle.snippet_titles.proofs.HeadingLemmas.{roles_known}
 -- a row with cells in the place of the first of some rows, or where none of them is there
 first_written : (base : List (List Cell)) (row : List Cell) (rows : List (List Cell)) (new : List Cell)
     → written [] (base ++ on_top row rows) (length base) (new ∷ []) ≡ base ++ new ∷ rows
-first_written base [] [] new =
-    let none : length base - length base ≡ 0 = omega arith in
-    ap (λ rs. written [] rs (length base) (new ∷ [])) (append-nil base) ∙ written_past [] base (new ∷ []) (length base) (omega arith)
-    ∙ ap (λ n. base ++ replicate n [] ++ new ∷ []) none ∙ ap (λ (rs : List (List Cell)). rs ++ new ∷ []) (append-nil base)
+first_written base [] [] new = grind (arith, common_steps, written_past)
 first_written base [] (r ∷ rows) new =
     same_lists _ _ (unfold written in grind (arith, places)) (λ k d h. unfold written in grind (arith, places))
 first_written base (cell ∷ cells) rows new =
@@ -45,16 +42,4 @@ pub short_drawn : (old two three new : List (List Cell)) (row : ℕ) (hyperlink 
     → new ≡ appended three row (text_cells NoStyle after) → new ≡ old ++ short_rows hyperlink before after heading
 unfolding short_rows
 short_drawn old two three new row hyperlink before after heading level trusted roles at leveled trusts roles_are second third fourth =
-    let begun = IsAtEnd-begun old two row (text_cells LineAndColumn before ++ label_cells hyperlink roles heading) at second in
-    let known : roles ≡ roles_of Short heading.level.kind heading.allows_styling = roles_known Short heading level trusted roles leveled trusts roles_are in
-    let further : List Cell = indent_cells Short (label_width heading) in
-    let lines : List (List ℕ) = heading_lines heading in
-    let front : List Cell = text_cells LineAndColumn before ++ label_cells hyperlink roles heading in
-    let drawn_are : three ≡ old ++ without_empty_end (lines_below front further roles.text lines) = third
-    ∙ ap (λ rs. rs ++ without_empty_end (lines_below (row_at two row) further roles.text lines)) begun.0
-    ∙ ap (λ (r : List Cell). old ++ without_empty_end (lines_below r further roles.text lines)) begun.1 in
-    fourth ∙ ap (λ rs. appended rs row (text_cells NoStyle after)) drawn_are
-    ∙ appended-first old (lines_below front further roles.text lines) row (text_cells NoStyle after) at
-    ∙ ap (λ (rs : HeadingRoles). old ++ without_empty_end
-    (with_end (text_cells NoStyle after)
-    (lines_below (text_cells LineAndColumn before ++ label_cells hyperlink rs heading) further rs.text lines))) known
+    grind (arith, common_steps, IsAtEnd-begun, heading.level.kind, roles_known, roles.text, appended-first)

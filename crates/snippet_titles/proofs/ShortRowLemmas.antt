@@ -1,10 +1,8 @@
 -- A title in the short form that has one row, put together from its parts.
-use Rattle.snippet_titles.proofs.Common.{◌≡◌, ℕ, ◌<◌, Bool, List, [], ◌∷◌, ◌++◌, length, map, refl, sym, ap}
-use Rattle.snippet_titles.proofs.Common.{◌∙◌, arith, All, length-append, IsUtf8, Cell}
-use Rattle.snippet_titles.proofs.Common.{text_cells, ElementStyle, LineAndColumn, NoStyle, length-text_cells, Heading, IsPlain}
-use Rattle.snippet_titles.proofs.Common.{HeadingRoles, Short, heading_lines, indent_cells, label_cells}
-use Rattle.snippet_titles.proofs.Common.{label_width, lines_below, on_top, roles_of, without_empty_end, short_rows, with_end}
-use Rattle.snippet_titles.proofs.Common.{subst, LevelInner, Stylesheet, PrintedRow, Prints, WeavesRows}
+use Rattle.snippet_titles.proofs.Common.{common_steps, ◌≡◌, ℕ, ◌<◌, Bool, List, [], ◌∷◌, ◌++◌, length, map, refl, sym, ap, ◌∙◌, arith, All, length-append}
+use Rattle.snippet_titles.proofs.Common.{IsUtf8, Cell, text_cells, ElementStyle, LineAndColumn, NoStyle, length-text_cells, Heading, IsPlain, HeadingRoles}
+use Rattle.snippet_titles.proofs.Common.{Short, heading_lines, label_cells, on_top, roles_of, short_rows, LevelInner, Stylesheet, PrintedRow, Prints}
+use Rattle.snippet_titles.proofs.Common.{WeavesRows}
 use Rattle.snippet_grid.proofs.WovenLemmas.{Prints-from_adds}
 use Rattle.std.proofs.Common.{chars}
 use Rattle.snippet_titles.proofs.HeadingLemmas.{plain_shown}
@@ -28,28 +26,14 @@ pub one_row : (hyperlink : Bool) (before after line : List ℕ) (heading : Headi
     → short_rows hyperlink before after heading
     ≡ (((text_cells LineAndColumn before ++ label_cells hyperlink roles heading) ++ text_cells roles.text line) ++ text_cells NoStyle after) ∷ []
 unfolding short_rows
-one_row hyperlink before after line heading roles known lines some =
-    let given : HeadingRoles = roles_of Short heading.level.kind heading.allows_styling in
-    let front : List Cell = text_cells LineAndColumn before ++ label_cells hyperlink given heading in
-    let words : List Cell = text_cells given.text line in
-    let end : List Cell = text_cells NoStyle after in
-    ap (λ ls. without_empty_end (with_end end (lines_below front (indent_cells Short (label_width heading)) given.text ls))) lines
-    ∙ on_top-some ((front ++ words) ++ end)
-    (omega (arith, length-append (front ++ words) end, length-append front words, length-text_cells given.text line, some))
-    ∙ ap (λ (rs : HeadingRoles).
-    (((text_cells LineAndColumn before ++ label_cells hyperlink rs heading) ++ text_cells rs.text line) ++ text_cells NoStyle after) ∷ []) (sym known)
+one_row hyperlink before after line heading roles known lines some = grind (arith, common_steps, heading.level.kind, on_top-some, length-text_cells)
 
 -- the row of a title whose text is one line, from its parts
 pub row_is : (hyperlink : Bool) (before after line a b c : List ℕ) (heading : Heading) (roles : HeadingRoles)
     → roles ≡ roles_of Short heading.level.kind heading.allows_styling → heading_lines heading ≡ line ∷ [] → 0 < length line → a ≡ before → b ≡ line → c ≡ after
     → (((text_cells LineAndColumn a ++ label_cells hyperlink roles heading) ++ text_cells roles.text b) ++ text_cells NoStyle c) ∷ []
     ≡ short_rows hyperlink before after heading
-row_is hyperlink before after line a b c heading roles known lines some first words last =
-    let label = label_cells hyperlink roles heading in
-    ap (λ (t : List ℕ). (((text_cells LineAndColumn t ++ label) ++ text_cells roles.text b) ++ text_cells NoStyle c) ∷ []) first
-    ∙ ap (λ (t : List ℕ). (((text_cells LineAndColumn before ++ label) ++ text_cells roles.text t) ++ text_cells NoStyle c) ∷ []) words
-    ∙ ap (λ (t : List ℕ). (((text_cells LineAndColumn before ++ label) ++ text_cells roles.text line) ++ text_cells NoStyle t) ∷ []) last
-    ∙ sym (one_row hyperlink before after line heading roles known lines some)
+row_is hyperlink before after line a b c heading roles known lines some first words last = grind (arith, common_steps, roles.text, one_row)
 
 -- it has cells
 pub row_some : (front last : List Cell) (role : ElementStyle) (line : List ℕ) → 0 < length line → 0 < length ((front ++ text_cells role line) ++ last)
@@ -60,7 +44,4 @@ row_some front last role line some =
 pub row_printed : (sheet : Stylesheet) (level : LevelInner) (start : PrintedRow) (row : List Cell) (rows : List (List Cell)) (room text : List ℕ)
     → start.codes.now ≡ sheet → start.level ≡ level → row ∷ [] ≡ rows → room ≡ [] → WeavesRows start.codes.now start.level (row ∷ []) room text
     → Prints sheet level rows text
-row_printed sheet level start row rows room text under in_level is none adds =
-    Prints-from_adds sheet level rows (row ∷ []) room text is none
-    (subst (λ (s : Stylesheet). WeavesRows s level (row ∷ []) room text) under
-    (subst (λ (l : LevelInner). WeavesRows start.codes.now l (row ∷ []) room text) in_level adds))
+row_printed sheet level start row rows room text under in_level is none adds = grind (arith, common_steps, Prints-from_adds)
