@@ -68,6 +68,7 @@ pub use Rattle.std.proofs.Math.Seq.{take-append-add, drop-append-add, take-appen
 pub use Rattle.std.proofs.lemmas.Bool.{and_parts, cases_Bool, cases_lt, not-true, and_from, or_right, eq-eqb, eqb-true, lt-leb, le-leb, cond-true, cond-false}
 pub use Rattle.std.proofs.lemmas.Bool.{eqb-false, leb-true, or_cases}
 pub use Rattle.std.proofs.lemmas.Bool.Decides.{nat_tests}
+pub use Rattle.std.proofs.lemmas.Grind.{common_steps}
 pub use Rattle.std.proofs.lemmas.Grind.{flat_map-append}
 pub use Rattle.std.proofs.lemmas.Iterator.{YieldsList-from_chars}
 pub use Rattle.std.proofs.lemmas.Iterator.Consumers.{YieldsList-turn, YieldsList-end}

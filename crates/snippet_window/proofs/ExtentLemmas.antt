@@ -1,12 +1,11 @@
 -- Lemmas on how far lines reach, line by line and entry by entry.
-use Rattle.snippet_window.proofs.Common.{◌≡◌, ℕ, min, max, Bool, true, false, not, List, [], ◌∷◌, ◌++◌, Option, Some, None, All, map, refl}
-use Rattle.snippet_window.proofs.Common.{sym, ap, subst, cond, ◌∙◌, inl, inr, flat_map, filter_map, option_map_or, option_to_list, map-append, map_push}
-use Rattle.snippet_window.proofs.Common.{append-nil, filter-append, filter_map-append, All-nil, All-cons, All-head, All-tail, flat_map-append, cases_Bool}
-use Rattle.snippet_window.proofs.Common.{width_of, LineAnnotation, AnnotatedLineInfo, Extent, least, greatest, is_bar, end_with, leading_whitespace}
-use Rattle.snippet_window.proofs.Common.{ReachesEntries, ReachesLines, with_columns, entries_of, columns_of, ends_of, line_texts, least-push, greatest-push}
-use Rattle.snippet_window.proofs.Common.{least-push_two, greatest-push_two}
+use Rattle.snippet_window.proofs.Common.{common_steps, arith, ◌≡◌, ℕ, min, max, Bool, true, false, not, List, [], ◌∷◌, ◌++◌, Option, Some, None, All, sym, ap}
+use Rattle.snippet_window.proofs.Common.{subst, cond, ◌∙◌, inl, inr, flat_map, option_map_or, option_to_list, map_push, append-nil, filter-append}
+use Rattle.snippet_window.proofs.Common.{filter_map-append, All-nil, All-cons, All-head, All-tail, flat_map-append, cases_Bool, width_of, LineAnnotation}
+use Rattle.snippet_window.proofs.Common.{AnnotatedLineInfo, Extent, least, greatest, is_bar, end_with, leading_whitespace, ReachesEntries, ReachesLines}
+use Rattle.snippet_window.proofs.Common.{with_columns, entries_of, columns_of, ends_of, least-push, greatest-push, least-push_two, greatest-push_two}
 use Rattle.std.proofs.Common.{chars}
-use Rattle.snippet_window.proofs.MeasureWords.{whitespaces_of, widths_of}
+use Rattle.snippet_window.proofs.MeasureWords.{whitespaces_of}
 
 -- one more entry, by whether it is a bar
 with_columns-push : (es : List LineAnnotation) (e : LineAnnotation) (bar : Bool) → is_bar e.annotation_type ≡ bar
@@ -16,15 +15,11 @@ with_columns-push es e bar is =
 
 columns_of-push : (es : List LineAnnotation) (e : LineAnnotation) → is_bar e.annotation_type ≡ false
     → columns_of (es ++ e ∷ []) ≡ columns_of es ++ e.start.display ∷ e.end.display ∷ []
-columns_of-push es e not_bar =
-    ap (flat_map (λ (x : LineAnnotation). x.start.display ∷ x.end.display ∷ [])) (with_columns-push es e false not_bar)
-    ∙ flat_map-append (λ (x : LineAnnotation). x.start.display ∷ x.end.display ∷ []) (with_columns es) (e ∷ [])
+columns_of-push es e not_bar = grind (arith, common_steps, with_columns-push, flat_map-append)
 
 ends_of-push : (es : List LineAnnotation) (e : LineAnnotation) → is_bar e.annotation_type ≡ false
     → ends_of (es ++ e ∷ []) ≡ ends_of es ++ end_with e.end.display e.label ∷ []
-ends_of-push es e not_bar =
-    ap (map (λ (x : LineAnnotation). end_with x.end.display x.label)) (with_columns-push es e false not_bar)
-    ∙ map-append (λ (x : LineAnnotation). end_with x.end.display x.label) (with_columns es) (e ∷ [])
+ends_of-push es e not_bar = grind (arith, common_steps, with_columns-push)
 
 -- a bar takes no part
 with_columns-push_bar : (es : List LineAnnotation) (e : LineAnnotation) → is_bar e.annotation_type ≡ true → with_columns (es ++ e ∷ []) ≡ with_columns es
@@ -33,14 +28,7 @@ with_columns-push_bar es e bar = with_columns-push es e true bar ∙ append-nil 
 -- a bar more doesn't change how far entries reach
 pub bar_added : (es : List LineAnnotation) (e : LineAnnotation) (x : Extent) → is_bar e.annotation_type ≡ true → ReachesEntries es x
     → ReachesEntries (es ++ e ∷ []) x
-bar_added es e x bar reaches =
-    let same = sym (with_columns-push_bar es e bar) in
-    record {
-      first = reaches.first ∙ ap (λ (ys : List LineAnnotation). least (flat_map (λ (y : LineAnnotation). y.start.display ∷ y.end.display ∷ []) ys)) same;
-      last = reaches.last ∙ ap (λ (ys : List LineAnnotation). greatest (flat_map (λ (y : LineAnnotation). y.start.display ∷ y.end.display ∷ []) ys)) same;
-      label_end = reaches.label_end ∙ ap (λ (ys : List LineAnnotation). greatest
-          (map (λ (y : LineAnnotation). end_with y.end.display y.label) ys)) same;
-    }
+bar_added es e x bar reaches = grind (arith, common_steps, with_columns-push_bar, reaches.first, reaches.last, reaches.label_end)
 
 -- another entry is taken in
 pub entry_added : (es : List LineAnnotation) (e : LineAnnotation) (x y : Extent) (once : Option ℕ) → is_bar e.annotation_type ≡ false
@@ -71,11 +59,7 @@ least-push_known ns None = ap least (append-nil ns)
 least-push_known ns (Some n) = least-push ns n
 
 whitespaces_of-push : (ts : List (List ℕ)) (t : List ℕ) → whitespaces_of (ts ++ t ∷ []) ≡ whitespaces_of ts ++ option_to_list (leading_whitespace t)
-whitespaces_of-push ts t = filter_map-append leading_whitespace ts (t ∷ []) ∙ ap (λ ns. whitespaces_of ts ++ ns) (known (leading_whitespace t))
-  where
-    known : (o : Option ℕ) → filter_map (λ (p : Option ℕ). p) (o ∷ []) ≡ option_to_list o
-    known None = refl
-    known (Some n) = refl
+whitespaces_of-push ts t = grind (arith, common_steps, filter_map-append)
 
 -- one more line is taken in
 pub line_added : (infos : List AnnotatedLineInfo) (info : AnnotatedLineInfo) (x y : Extent) → ReachesLines infos x
@@ -83,16 +67,7 @@ pub line_added : (infos : List AnnotatedLineInfo) (info : AnnotatedLineInfo) (x 
     → y.whitespace ≡ option_map_or (λ n. Some (option_map_or (λ m. min m n) x.whitespace n)) (leading_whitespace (chars info.line.now)) x.whitespace
     → y.widest ≡ max x.widest (width_of (chars info.line.now)) → ReachesLines (infos ++ info ∷ []) y
 line_added infos info x y reaches entries whitespace widest =
-    let text = chars info.line.now in
-    let texts : line_texts (infos ++ info ∷ []) ≡ line_texts infos ++ text ∷ [] = map_push (λ (i : AnnotatedLineInfo). chars i.line.now) infos info in
-    record {
-      entries = subst (λ es. ReachesEntries es y) (sym (entries_of-push infos info)) entries;
-      whitespace = whitespace ∙ ap (λ (o : Option ℕ). option_map_or (λ n. Some (option_map_or (λ m. min m n) o n)) (leading_whitespace text) o)
-          reaches.whitespace ∙ sym (least-push_known (whitespaces_of (line_texts infos)) (leading_whitespace text))
-          ∙ ap least (sym (whitespaces_of-push (line_texts infos) text)) ∙ ap (λ ts. least (whitespaces_of ts)) (sym texts);
-      widest = widest ∙ ap (λ n. max n (width_of text)) reaches.widest ∙ sym (greatest-push (widths_of (line_texts infos)) (width_of text))
-          ∙ ap greatest (sym (map_push width_of (line_texts infos) text)) ∙ ap (λ ts. greatest (widths_of ts)) (sym texts);
-    }
+    grind (arith, common_steps, map_push, entries_of-push, reaches.whitespace, least-push_known, whitespaces_of-push, reaches.widest, greatest-push)
 
 -- what holds of a list's parts
 all_front : {X : Type 0} (P : X → Type 0) (xs ys : List X) → All P (xs ++ ys) → All P xs

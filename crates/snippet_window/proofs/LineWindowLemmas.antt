@@ -1,9 +1,8 @@
 -- How the window of a line is found, character by character.
-use Rattle.snippet_window.proofs.Common.{◌≡◌, ◌^◌, Option, Some, None, IfSome, unwrap_or, ℕ, ◌+◌, ◌-◌, ◌<◌, ◌≤◌, cond, eqb, leb}
-use Rattle.snippet_window.proofs.Common.{true, false, List, [], ◌∷◌, ◌++◌, length, take, drop, refl, sym, ap, ◌∙◌, le_refl, arith, encode_utf8}
-use Rattle.snippet_window.proofs.Common.{IsUtf8, zero, suc, Bool, reverse, encodes-chars, drop_all, length-drop, length-take, take_all, length-reverse, places}
-use Rattle.snippet_window.proofs.Common.{reverse-append, same_lists, sum_by-cons, fold_push, le-leb, nat_tests, char_width, width_of, reaching, fitting}
-use Rattle.snippet_window.proofs.Common.{uncovered_part, reaching_last, length-chars_le, bytes_of}
+use Rattle.snippet_window.proofs.Common.{common_steps, ◌≡◌, ◌^◌, Option, Some, None, IfSome, unwrap_or, ℕ, ◌+◌, ◌-◌, ◌<◌, ◌≤◌, cond, leb, true, false, List, []}
+use Rattle.snippet_window.proofs.Common.{◌∷◌, ◌++◌, length, take, drop, refl, sym, ap, ◌∙◌, arith, encode_utf8, IsUtf8, zero, suc, Bool, reverse, encodes-chars}
+use Rattle.snippet_window.proofs.Common.{drop_all, length-drop, length-take, take_all, same_lists, sum_by-cons, fold_push, le-leb, nat_tests, char_width}
+use Rattle.snippet_window.proofs.Common.{width_of, reaching, fitting, uncovered_part, reaching_last, length-chars_le, bytes_of}
 use Rattle.std.proofs.Common.{chars}
 pub use Rattle.snippet_style.proofs.CutLemmas.{text_parts, cut_boundary, cut_front, cut_back, bytes-push, IsNext, take-next, drop-next, bytes_within}
 pub use Rattle.snippet_style.proofs.CutLemmas.{bytes_next}
@@ -32,38 +31,21 @@ reaching-none (c ∷ cs) = refl
 
 -- before any character nothing is reached
 pub reaches_start : (columns : ℕ) (cs : List ℕ) → ReachesSoFar columns cs 0 0 0
-reaches_start columns cs =
-    let same : reaching (columns - 0) (drop 0 cs) ≡ reaching columns cs = ap (λ k. reaching k cs) (omega arith) in
-    record { bytes = refl; width_is = refl; rest = omega arith }
+reaches_start columns cs = grind (arith, common_steps)
 
 -- a character is passed where the column isn't reached yet
 pub reaches-next : (columns : ℕ) (cs : List ℕ) (n m at width c len w : ℕ) → IsNext cs n c → m ≡ n + 1 → width < columns → len ≡ length (encode_utf8 c)
     → w ≡ char_width c → ReachesSoFar columns cs n at width → ReachesSoFar columns cs m (at + len) (width + w)
 reaches-next columns cs n m at width c len w next one less is_len is_width so_far =
-    let front = ap (λ k. take k cs) one ∙ take-next cs n c next in
-    let left : (columns - width) - char_width c ≡ columns - (width + w) = omega arith in
-    let goes : reaching (columns - width) (drop n cs) ≡ reaching (columns - (width + w)) (drop (n + 1) cs) + 1 = ap (reaching (columns - width))
-    (drop-next cs n c next) ∙ reaching-cons (columns - width) c (drop (n + 1) cs) (omega arith) ∙ ap (λ k. reaching k (drop (n + 1) cs) + 1) left in
-    let same : reaching (columns - (width + w)) (drop m cs) ≡ reaching (columns - (width + w)) (drop (n + 1) cs) = ap (λ k.
-    reaching (columns - (width + w)) (drop k cs)) one in
-    record {
-      bytes = omega (arith, so_far.bytes, ap bytes_of front, bytes-push (take n cs) c, is_len);
-      width_is = omega (arith, so_far.width_is, ap width_of front, width-push (take n cs) c, is_width);
-      rest = omega (arith, so_far.rest, goes, same, one);
-    }
+    grind (arith, common_steps, take-next, drop-next, reaching-cons, so_far.bytes, bytes-push, so_far.width_is, width-push, so_far.rest)
 
 -- they are enough, or there are no more
 pub reaches_enough : (columns : ℕ) (cs : List ℕ) (n at width : ℕ) → columns ≤ width → ReachesSoFar columns cs n at width → reaching columns cs ≡ n
-reaches_enough columns cs n at width enough so_far =
-    let none : columns - width ≡ 0 = omega arith in
-    let stop : reaching (columns - width) (drop n cs) ≡ 0 = ap (λ k. reaching k (drop n cs)) none ∙ reaching-none (drop n cs) in
-    omega (arith, so_far.rest, stop)
+reaches_enough columns cs n at width enough so_far = grind (arith, common_steps, reaching-none, so_far.rest)
 
 -- a text that ends before the column is passed whole
 pub reaches_all : (columns : ℕ) (cs : List ℕ) (n at width : ℕ) → n ≡ length cs → ReachesSoFar columns cs n at width → reaching columns cs ≡ n
-reaches_all columns cs n at width all so_far =
-    let stop : reaching (columns - width) (drop n cs) ≡ 0 = ap (reaching (columns - width)) (drop_all n cs (omega arith)) in
-    omega (arith, so_far.rest, stop)
+reaches_all columns cs n at width all so_far = grind (arith, common_steps, drop_all, so_far.rest)
 
 -- the characters so far fit, and so much is left after them
 pub record FitsSoFar (columns : ℕ) (cs : List ℕ) (n at left : ℕ) : Type 0 where
@@ -87,29 +69,16 @@ fits_start columns cs = record { bytes = refl; width_is = omega arith; rest = om
 pub fits_next : (columns : ℕ) (cs : List ℕ) (n m at left c len w : ℕ) → IsNext cs n c → m ≡ n + 1 → w ≤ left → len ≡ length (encode_utf8 c) → w ≡ char_width c
     → FitsSoFar columns cs n at left → FitsSoFar columns cs m (at + len) (left - w)
 fits_next columns cs n m at left c len w next one less is_len is_width so_far =
-    let front = ap (λ k. take k cs) one ∙ take-next cs n c next in
-    let same_left : left - char_width c ≡ left - w = omega arith in
-    let goes : fitting left (drop n cs) ≡ fitting (left - w) (drop (n + 1) cs) + 1 = ap (fitting left) (drop-next cs n c next)
-    ∙ fitting-cons left c (drop (n + 1) cs) (omega arith) ∙ ap (λ k. fitting k (drop (n + 1) cs) + 1) same_left in
-    let same : fitting (left - w) (drop m cs) ≡ fitting (left - w) (drop (n + 1) cs) = ap (λ k. fitting (left - w) (drop k cs)) one in
-    record {
-      bytes = omega (arith, so_far.bytes, ap bytes_of front, bytes-push (take n cs) c, is_len);
-      width_is = omega (arith, so_far.width_is, ap width_of front, width-push (take n cs) c, is_width, less);
-      rest = omega (arith, so_far.rest, goes, same, one);
-    }
+    grind (arith, common_steps, take-next, drop-next, fitting-cons, so_far.bytes, bytes-push, so_far.width_is, width-push, so_far.rest)
 
 -- a character that doesn't fit ends what does
 pub fits_enough : (columns : ℕ) (cs : List ℕ) (n at left c w : ℕ) → IsNext cs n c → w ≡ char_width c → left < w → FitsSoFar columns cs n at left
     → fitting columns cs ≡ n
-fits_enough columns cs n at left c w next is_width wide so_far =
-    let stop : fitting left (drop n cs) ≡ 0 = ap (fitting left) (drop-next cs n c next) ∙ fitting-stop left c (drop (n + 1) cs) (omega arith) in
-    omega (arith, so_far.rest, stop)
+fits_enough columns cs n at left c w next is_width wide so_far = grind (arith, common_steps, drop-next, fitting-stop, so_far.rest)
 
 -- a text that is passed whole fits whole
 pub fits_all : (columns : ℕ) (cs : List ℕ) (n at left : ℕ) → n ≡ length cs → FitsSoFar columns cs n at left → fitting columns cs ≡ n
-fits_all columns cs n at left all so_far =
-    let stop : fitting left (drop n cs) ≡ 0 = ap (fitting left) (drop_all n cs (omega arith)) in
-    omega (arith, so_far.rest, stop)
+fits_all columns cs n at left all so_far = grind (arith, common_steps, drop_all, so_far.rest)
 
 -- a text that is no wider fits whole
 pub fitting_all : (n : ℕ) (cs : List ℕ) → width_of cs ≤ n → fitting n cs ≡ length cs
@@ -169,36 +138,21 @@ width_after cs n c width w next is_width is =
 pub last_next : (columns : ℕ) (cs : List ℕ) (n m width count c w : ℕ) → IsNext cs n c → m ≡ n + 1 → w ≡ char_width c → columns ≤ width - w
     → LastSoFar columns cs n width count → LastSoFar columns cs m (width - w) (count - 1)
 last_next columns cs n m width count c w next one is_width more so_far =
-    let after = width_after cs n c width w next is_width so_far.width_is in
-    let same : drop m cs ≡ drop (n + 1) cs = ap (λ k. drop k cs) one in
-    record {
-      width_is = omega (arith, after, ap width_of same);
-      count_is = omega (arith, so_far.count_is, next.0, one);
-      rest = so_far.rest ∙ ap (reaching_last columns) (drop-next cs n c next) ∙ reaching_last-more columns c (drop (n + 1) cs) (omega (arith, after, more))
-          ∙ ap (reaching_last columns) (sym same);
-    }
+    grind (arith, common_steps, width_after, so_far.width_is, so_far.count_is, next.0, so_far.rest, drop-next, reaching_last-more)
 
 -- a character whose passing would leave too few columns is the first of the last
 pub last_here : (columns : ℕ) (cs : List ℕ) (n width count c w : ℕ) → IsNext cs n c → w ≡ char_width c → width - w < columns
     → LastSoFar columns cs n width count → count ≡ reaching_last columns cs
 last_here columns cs n width count c w next is_width few so_far =
-    let after = width_after cs n c width w next is_width so_far.width_is in
-    let here = so_far.rest ∙ ap (reaching_last columns) (drop-next cs n c next) ∙ reaching_last-here columns c (drop (n + 1) cs) (omega (arith, after, few)) in
-    omega (arith, here, so_far.count_is, length-drop (n + 1) cs, next.0)
+    grind (arith, common_steps, width_after, so_far.width_is, so_far.rest, drop-next, reaching_last-here, so_far.count_is, next.0)
 
 -- where all characters are passed none is left
 pub last_all : (columns : ℕ) (cs : List ℕ) (n width count : ℕ) → n ≡ length cs → LastSoFar columns cs n width count → count ≡ reaching_last columns cs
-last_all columns cs n width count all so_far =
-    let none : reaching_last columns (drop n cs) ≡ 0 = ap (reaching_last columns) (drop_all n cs (omega arith)) in
-    omega (arith, so_far.rest, none, so_far.count_is)
+last_all columns cs n width count all so_far = grind (arith, common_steps, drop_all, so_far.rest, so_far.count_is)
 
 -- what stands in a window is no longer than the line
 pub uncovered_short : (left : ℕ) (placeholder inner : List ℕ) → length (uncovered_part left placeholder inner) ≤ length inner
-uncovered_short left placeholder inner =
-    elim (eqb left 0) as (λ b. length (cond b inner (drop (reaching (width_of placeholder) inner) inner)) ≤ length inner) [
-      | true ↦ le_refl (length inner)
-      | false ↦ omega (arith, length-drop (reaching (width_of placeholder) inner) inner)
-    ]
+uncovered_short left placeholder inner = grind (arith, common_steps)
 
 -- a part of a text has no more characters than the text
 pub part_short : (n k : ℕ) (cs rest inner : List ℕ) → rest ≡ drop n cs → inner ≡ take k rest → length inner ≤ length cs
@@ -247,19 +201,12 @@ reaching-push (suc k) d (c ∷ cs) =
 
 width-reverse : (cs : List ℕ) → width_of (reverse cs) ≡ width_of cs
 width-reverse [] = refl
-width-reverse (c ∷ cs) =
-    let back : reverse (c ∷ cs) ≡ reverse cs ++ c ∷ [] = reverse-append (c ∷ []) cs in
-    omega (arith, ap width_of back, width-push (reverse cs) c, width-reverse cs, width-cons c cs)
+width-reverse (c ∷ cs) = grind (arith, common_steps, width-push, width-reverse cs, width-cons)
 
 -- the last characters that reach so many columns are the first ones of the reverse
 pub reaching_last-reverse : (k : ℕ) (cs : List ℕ) → reaching_last k cs ≡ reaching k (reverse cs)
 reaching_last-reverse k [] = refl
-reaching_last-reverse k (c ∷ cs) =
-    let back : reverse (c ∷ cs) ≡ reverse cs ++ c ∷ [] = reverse-append (c ∷ []) cs in
-    ap (λ n. cond (leb k (width_of cs)) n (length cs + 1)) (reaching_last-reverse k cs)
-    ∙ ap (λ n. cond (leb k (width_of cs)) (reaching k (reverse cs)) (n + 1)) (sym (length-reverse cs))
-    ∙ ap (λ n. cond (leb k n) (reaching k (reverse cs)) (length (reverse cs) + 1)) (sym (width-reverse cs))
-    ∙ sym (ap (reaching k) back ∙ reaching-push k c (reverse cs))
+reaching_last-reverse k (c ∷ cs) = grind (arith, common_steps, reaching_last-reverse k cs, width-reverse, reaching-push)
 
 -- no character is needed to reach no column
 pub none_reaching : (cs : List ℕ) → take (reaching 0 cs) cs ≡ []
@@ -268,6 +215,4 @@ none_reaching (c ∷ cs) = refl
 
 -- an empty text has no character
 pub none_fitting : (columns : ℕ) (text : List ℕ) → length text ≡ 0 → take (fitting columns (chars text)) (chars text) ≡ []
-none_fitting columns text none =
-    let no_chars : length (chars text) ≡ 0 = omega (arith, length-chars_le text, none) in
-    same_lists _ _ (grind (arith, places, no_chars)) (λ k d h. grind (arith, places, no_chars))
+none_fitting columns text none = grind (arith, common_steps, length-chars_le, same_lists)

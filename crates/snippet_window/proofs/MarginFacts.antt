@@ -1,10 +1,9 @@
 -- What holds of the bounds of a snippet's window: they are in order, and entries stand after the padding of the left one.
-use Rattle.snippet_window.proofs.Common.{◌≡◌, ℕ, ◌+◌, ◌-◌, ◌*◌, ◌/◌, ◌<◌, ◌≤◌, ◌^◌, ◌&&◌, nat_le, nat_lt, Bool, true}
-use Rattle.snippet_window.proofs.Common.{false, cond, not, min, max, List, [], ◌∷◌, All, ap, arith, inl, inr, map, refl, unwrap_or, fold, flat_map}
-use Rattle.snippet_window.proofs.Common.{filter, cases_lt, All-append, All-cons, All-head, All-nil, All-tail, All-weaker, AnnotatedLineInfo, LineAnnotation}
-use Rattle.snippet_window.proofs.Common.{KeptLine, is_bar, AllEntries, HasColumnRoom, seen_kept, greatest, least, least_below, max_usize, Margin, Extent}
-use Rattle.snippet_window.proofs.Common.{ReachesLines, columns_of, ends_of, entries_of, line_texts, with_columns, capped_sum, StandsClear, margin_of, end_with}
-use Rattle.std.proofs.Common.{chars}
+use Rattle.snippet_window.proofs.Common.{common_steps, ◌≡◌, ℕ, ◌+◌, ◌-◌, ◌*◌, ◌/◌, ◌<◌, ◌≤◌, ◌^◌, ◌&&◌, nat_le, nat_lt, Bool, true, false, cond, not, min, max}
+use Rattle.snippet_window.proofs.Common.{List, [], ◌∷◌, All, ap, arith, map, refl, unwrap_or, fold, flat_map, All-append, All-cons, All-head, All-nil, All-tail}
+use Rattle.snippet_window.proofs.Common.{All-weaker, AnnotatedLineInfo, LineAnnotation, KeptLine, is_bar, AllEntries, HasColumnRoom, seen_kept, greatest, least}
+use Rattle.snippet_window.proofs.Common.{least_below, max_usize, Margin, Extent, ReachesLines, columns_of, ends_of, entries_of, line_texts, with_columns}
+use Rattle.snippet_window.proofs.Common.{capped_sum, StandsClear, margin_of}
 use Rattle.snippet_window.proofs.ExtentLemmas.{lines_all, starts_all}
 use Rattle.snippet_window.proofs.MarginLaws.{bounds_reached}
 use Rattle.snippet_window.proofs.MeasureWords.{margin_by, whitespaces_of, widths_of}
@@ -27,11 +26,7 @@ either P false x y first second = second
 
 -- a room that begins before the padding
 room_sound : (first room left : ℕ) → (0 < left → left + 6 ≤ first) → first ≤ max_usize → IsSound first (room_from room left)
-room_sound first room left padded fits =
-    elim (cases_lt 0 left) [
-      | inl some ↦ record { ordered = omega (arith, padded some, fits); padded = padded }
-      | inr none ↦ record { ordered = omega (arith, none); padded = padded }
-    ]
+room_sound first room left padded fits = grind (arith, common_steps)
 
 -- of whitespace no more is cut than there is
 cut_low : (blank : ℕ) → cond (nat_lt 20 blank) (blank - 16) 0 ≤ blank
@@ -69,32 +64,10 @@ either_room : (room : ℕ) (b : Bool) (x y : Margin) → x.term_width ≡ room �
 either_room room b x y = either (λ (m : Margin). m.term_width ≡ room) b x y
 
 margin_bounds-room : (whitespace first last label_end room widest : ℕ) → (margin_by whitespace first last label_end room widest).term_width ≡ room
-margin_bounds-room whitespace first last label_end room widest =
-    let blank : ℕ = min whitespace first - 6 in
-    let from : ℕ = first - 6 in
-    let to : ℕ = capped_sum last 6 in
-    let after : ℕ = capped_sum label_end 6 in
-    let left : ℕ = cond (nat_lt 20 blank) (blank - 16) 0 in
-    let all : Margin = record { computed_left = left; computed_right = max widest left; term_width = room } in
-    let spans : Margin = record { computed_left = from; computed_right = to; term_width = room } in
-    let by_spans : Margin = room_from room (from - (room - (to - from)) / 5 * 2) in
-    let by_labels : Margin = room_from room (from - (room - (after - from)) / 2) in
-    let within_spans : Margin = cond (nat_le (to - from) room) by_spans spans in
-    let within_labels : Margin = cond (nat_le (after - from) room) by_labels within_spans in
-    let after_blank : Margin = cond (nat_le (after - blank) room && nat_le blank after) (room_from room blank) within_labels in
-    either_room room (nat_le (max widest left - left) room) all after_blank refl
-    (either_room room (nat_le (after - blank) room && nat_le blank after) (room_from room blank) within_labels refl
-    (either_room room (nat_le (after - from) room) by_labels within_spans refl
-    (either_room room (nat_le (to - from) room) by_spans spans refl refl)))
+margin_bounds-room whitespace first last label_end room widest = grind (arith, common_steps, either_room)
 
 pub margin_of-room : (room : ℕ) (lines : List KeptLine) → (margin_of room lines).term_width ≡ room
-margin_of-room room lines =
-    let texts : List (List ℕ) = map (λ (l : KeptLine). chars l.text) lines in
-    let parts : List LineAnnotation = filter (λ (p : LineAnnotation). not (is_bar p.annotation_type)) (flat_map (λ (l : KeptLine). l.parts) lines) in
-    let columns : List ℕ = flat_map (λ (p : LineAnnotation). p.start.display ∷ p.end.display ∷ []) parts in
-    let ends : List ℕ = map (λ (p : LineAnnotation). end_with p.end.display p.label) parts in
-    margin_bounds-room (unwrap_or (least (whitespaces_of texts)) 0) (unwrap_or (least columns) 0) (greatest columns) (greatest ends) room
-    (greatest (widths_of texts))
+margin_of-room room lines = grind (arith, common_steps, margin_bounds-room)
 
 -- ---- the least and the greatest column
 

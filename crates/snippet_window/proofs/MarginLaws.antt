@@ -1,21 +1,19 @@
 -- The bounds of a snippet's window follow from its spans, as they do from the entries of its lines.
-use Rattle.snippet_window.proofs.Common.{◌≡◌, ◌∙◌, ◌⊎◌, ℕ, ◌+◌, ◌-◌, ◌<◌, ◌≤◌, Bool, true, false, not, cond, eqb, leb}
-use Rattle.snippet_window.proofs.Common.{◌&&◌, ◌||◌, List, [], ◌∷◌, ◌++◌, All, Option, None, map, unwrap_or, refl, sym, ap, subst, inl, inr}
-use Rattle.snippet_window.proofs.Common.{arith, length, filter, flat_map, list_any, range_with_len, cases_Bool, or_right, and_parts, and_from, eq-eqb, eqb-true}
-use Rattle.snippet_window.proofs.Common.{nat_tests, Annotation, Primary, LongExtent, AnnotatedLineInfo, LineAnnotation, Singleline, MultilineEnd, Loc}
-use Rattle.snippet_window.proofs.Common.{long_entry, long_place, is_long, long_spans, bar_lines, bar_part, single_part, start_part, end_part, span_parts}
-use Rattle.snippet_window.proofs.Common.{promoted, long_parts, made_parts, parts_on, KeptLine, kept_line, annotated_lines, seen_kept, same_place, depth_among}
-use Rattle.snippet_window.proofs.Common.{keeps, kept_lines, Source, source_lines, is_marking, is_single_line, first_line, last_line, ReachesLines, columns_of}
-use Rattle.snippet_window.proofs.Common.{ends_of, entries_of, with_columns, end_with, margin_of, greatest, least, Extent, start_location, IsSpan, chars_at}
-use Rattle.snippet_window.proofs.Common.{Among, all_among, among_left, among_right, append_cases, among_map, among_filter, among_flat_map, flat_map_cases}
+use Rattle.snippet_window.proofs.Common.{common_steps, ◌≡◌, ◌∙◌, ◌⊎◌, ℕ, ◌+◌, ◌-◌, ◌<◌, ◌≤◌, Bool, true, false, not, cond, eqb, leb, ◌&&◌, ◌||◌, List, [], ◌∷◌}
+use Rattle.snippet_window.proofs.Common.{◌++◌, All, None, map, unwrap_or, refl, sym, ap, subst, inl, inr, arith, length, filter, flat_map, cases_Bool, or_right}
+use Rattle.snippet_window.proofs.Common.{and_parts, and_from, eq-eqb, eqb-true, nat_tests, Annotation, Primary, LongExtent, AnnotatedLineInfo, LineAnnotation}
+use Rattle.snippet_window.proofs.Common.{Singleline, MultilineEnd, Loc, long_entry, long_place, is_long, long_spans, bar_lines, bar_part, single_part}
+use Rattle.snippet_window.proofs.Common.{start_part, end_part, span_parts, promoted, long_parts, made_parts, parts_on, KeptLine, kept_line, annotated_lines}
+use Rattle.snippet_window.proofs.Common.{seen_kept, same_place, depth_among, keeps, kept_lines, Source, source_lines, is_marking, is_single_line, first_line}
+use Rattle.snippet_window.proofs.Common.{last_line, ReachesLines, end_with, margin_of, greatest, least, Extent, start_location, IsSpan, chars_at, Among}
+use Rattle.snippet_window.proofs.Common.{all_among, among_left, among_right, append_cases, among_map, among_filter, among_flat_map, flat_map_cases}
 use Rattle.snippet_window.proofs.Common.{among_in_order, among_range, any_among, any_cases, least_same, greatest_same, start-line, end-line, entry_of-line}
 use Rattle.snippet_window.proofs.Common.{line_of-mono, line_of-within, locations_of-start, start_byte, is_promoted, is_short, long_places, stands_among}
 use Rattle.snippet_window.proofs.Common.{stands_before}
-use Rattle.std.proofs.Common.{chars}
 use Rattle.snippet_window.proofs.MeasureWords.{margin_by, whitespaces_of, widths_of}
 use Rattle.snippet_window.proofs.SpanMeasures.{Measure, columns, drawn_end, drawn_start, ends, has_columns, kept_parts, kept_texts, long_among, long_span}
-use Rattle.snippet_window.proofs.SpanMeasures.{measured, measured_long, measured_parts, measured_span, parts_there, seen_entries}
-use Rattle.snippet_window.proofs.SpanMeasures.{seen_texts, short_span, single_list, span_columns, span_ends}
+use Rattle.snippet_window.proofs.SpanMeasures.{measured, measured_long, measured_parts, measured_span, parts_there, seen_entries, seen_texts, short_span}
+use Rattle.snippet_window.proofs.SpanMeasures.{single_list, span_columns, span_ends}
 
 -- ---- what is measured of the spans is measured of the parts
 
@@ -57,17 +55,7 @@ end_there g s places before (d ∷ later) e (inl same) =
           ∙ ap (λ (x : LineAnnotation). x.end.line) same,
       found.4 ∙ ap (λ (x : LineAnnotation). measured g (end_part x Singleline)) same,
     )
-end_there g s places before (d ∷ later) e (inr more) =
-    let depth = depth_among places (long_place d) in
-    let again = stands_among d later in
-    let found = end_there g s places (before ++ d ∷ []) later e more in (
-      found.0,
-      among_right (span_parts s depth again (promoted before d))
-          (long_parts s places (before ++ d ∷ []) later) found.0 found.1,
-      found.2,
-      found.3,
-      found.4,
-    )
+end_there g s places before (d ∷ later) e (inr more) = grind (arith, common_steps, end_there g s places (before ++ d ∷ []) later e more, among_right)
 
 -- of the spans of one place the last has a part at its start
 abbrev StandsSomewhere : Measure → Source → List LongExtent → List LineAnnotation → List LineAnnotation → LineAnnotation → Type 0
@@ -77,9 +65,7 @@ StandsSomewhere g s places before es e =
 later_stands : (g : Measure) (s : Source) (places : List LongExtent) (before later : List LineAnnotation) (d e : LineAnnotation)
     → StandsSomewhere g s places (before ++ d ∷ []) later e → StandsSomewhere g s places before (d ∷ later) e
 later_stands g s places before later d e found =
-    let first = span_parts s (depth_among places (long_place d)) (stands_among d later) (promoted before d) in
-    let part = found.3 in
-    (found.0, inr found.1, found.2, (part.0, among_right first (long_parts s places (before ++ d ∷ []) later) part.0 part.1, part.2, part.3, part.4))
+    grind (arith, common_steps, found.3, found.0, found.1, found.2, found.3.0, among_right, found.3.1, found.3.2, found.3.3, found.3.4)
 
 start_there : (g : Measure) (s : Source) (places : List LongExtent) (before es : List LineAnnotation) (e : LineAnnotation) → Among es e
     → StandsSomewhere g s places before es e
@@ -122,26 +108,15 @@ keeps-ends f l k x y up (inr last) = grind (arith, nat_tests)
 
 line_kept : (fold : Bool) (source : List ℕ) (marks : List Annotation) (a : Annotation) (k : ℕ) → Among marks a → k < length (source_lines source)
     → keeps source k a ≡ true → Among (kept_lines fold source marks) k
-line_kept fold source marks a k here within keep =
-    among_filter (λ j. not fold || list_any (keeps source j) marks) (range_with_len 0 (length (source_lines source))) k
-    (among_range 0 (length (source_lines source)) k (omega arith) (omega arith))
-    (or_right (not fold) (list_any (keeps source k) marks) (any_among (keeps source k) marks a here keep))
+line_kept fold source marks a k here within keep = grind (arith, common_steps, among_filter, among_range, or_right, any_among)
 
 first_kept : (fold : Bool) (source : List ℕ) (marks : List Annotation) (a : Annotation) → a.span.start ≤ a.span.end → Among marks a
     → Among (kept_lines fold source marks) (first_line source a)
-first_kept fold source marks a ordered here =
-    let up : first_line source a ≤ last_line source a = line_of-mono (source_lines source) a.span.start a.span.end
-    (omega (arith, line_of-within source 0)) ordered in
-    line_kept fold source marks a (first_line source a) here (line_of-within source a.span.start)
-    (keeps-ends (first_line source a) (last_line source a) (first_line source a) _ _ up (inl refl))
+first_kept fold source marks a ordered here = grind (arith, common_steps, line_of-mono, a.span.start, a.span.end, line_of-within, line_kept, keeps-ends)
 
 last_kept : (fold : Bool) (source : List ℕ) (marks : List Annotation) (a : Annotation) → a.span.start ≤ a.span.end → Among marks a
     → Among (kept_lines fold source marks) (last_line source a)
-last_kept fold source marks a ordered here =
-    let up : first_line source a ≤ last_line source a = line_of-mono (source_lines source) a.span.start a.span.end
-    (omega (arith, line_of-within source 0)) ordered in
-    line_kept fold source marks a (last_line source a) here (line_of-within source a.span.end)
-    (keeps-ends (first_line source a) (last_line source a) (last_line source a) _ _ up (inr refl))
+last_kept fold source marks a ordered here = grind (arith, common_steps, line_of-mono, a.span.start, a.span.end, line_of-within, line_kept, keeps-ends)
 
 -- a part that stands on a kept line is measured
 part_measured : (g : Measure) (fold : Bool) (s : Source) (marks : List Annotation) (k c : ℕ) (ns : List ℕ) → Among (kept_lines fold s.text marks) k
@@ -166,14 +141,7 @@ long_there s marks a here long =
 
 made_long : (g : Measure) (s : Source) (marks : List Annotation) (line : ℕ) (ns : List ℕ)
     → Stands g (long_parts s (long_places s marks) [] (long_spans s marks)) line ns → Stands g (made_parts s marks) line ns
-made_long g s marks line ns found = (
-  found.0,
-  among_right (map (single_part s) (filter (is_short s.text) marks))
-      (long_parts s (long_places s marks) [] (long_spans s marks)) found.0 found.1,
-  found.2,
-  found.3,
-  found.4,
-)
+made_long g s marks line ns found = grind (arith, common_steps, found.0, among_right, s.text, found.1, found.2, found.3, found.4)
 
 short_back : (g : Measure) (fold : Bool) (s : Source) (marks : List Annotation) (a : Annotation) (c : ℕ) → a.span.start ≤ a.span.end → Among marks a
     → is_short s.text a ≡ true → Among (measured g (single_part s a)) c → Among (measured_parts g (kept_parts fold s marks)) c
@@ -243,27 +211,23 @@ parts_back g fold s marks c spans here =
 pub bounds_reached : (room : ℕ) (infos : List AnnotatedLineInfo) (x : Extent) → ReachesLines infos x
     → margin_by (unwrap_or x.whitespace 0) (unwrap_or x.first 0) x.last x.label_end room x.widest ≡ margin_of room (map seen_kept infos)
 bounds_reached room infos x reaches =
-    let lines = map seen_kept infos in
-    let es = entries_of infos in
-    let texts = map (λ (l : KeptLine). chars l.text) lines in
-    let parts = filter has_columns (flat_map (λ (l : KeptLine). l.parts) lines) in
-    let end_of : LineAnnotation → ℕ = λ p. end_with p.end.display p.label in
-    let all_columns : columns_of es ≡ flat_map (measured columns) parts = ap (measured_parts columns) (seen_entries infos) in
-    let all_ends : ends_of es ≡ map end_of parts = single_list end_of (with_columns es) ∙ ap (measured_parts ends) (seen_entries infos)
-    ∙ sym (single_list end_of parts) in
-    let blank : unwrap_or x.whitespace 0 ≡ unwrap_or (least (whitespaces_of texts)) 0 = ap (λ (o : Option ℕ). unwrap_or o 0) reaches.whitespace
-    ∙ ap (λ ts. unwrap_or (least (whitespaces_of ts)) 0) (seen_texts infos) in
-    let low : unwrap_or x.first 0 ≡ unwrap_or (least (flat_map (measured columns) parts)) 0 = ap (λ (o : Option ℕ). unwrap_or o 0) reaches.entries.first
-    ∙ ap (λ ns. unwrap_or (least ns) 0) all_columns in
-    ap (λ n. margin_by n (unwrap_or x.first 0) x.last x.label_end room x.widest) blank
-    ∙ ap (λ n. margin_by (unwrap_or (least (whitespaces_of texts)) 0) n x.last x.label_end room x.widest) low
-    ∙ ap (λ n. margin_by (unwrap_or (least (whitespaces_of texts)) 0) (unwrap_or (least (flat_map (measured columns) parts)) 0) n x.label_end room x.widest)
-    (reaches.entries.last ∙ ap greatest all_columns)
-    ∙ ap (λ n. margin_by (unwrap_or (least (whitespaces_of texts)) 0) (unwrap_or (least (flat_map (measured columns) parts)) 0)
-    (greatest (flat_map (measured columns) parts)) n room x.widest) (reaches.entries.label_end ∙ ap greatest all_ends)
-    ∙ ap (λ n. margin_by (unwrap_or (least (whitespaces_of texts)) 0) (unwrap_or (least (flat_map (measured columns) parts)) 0)
-    (greatest (flat_map (measured columns) parts)) (greatest (map end_of parts)) room n)
-    (reaches.widest ∙ ap (λ ts. greatest (widths_of ts)) (seen_texts infos))
+    grind (
+      arith,
+      common_steps,
+      seen_entries,
+      single_list,
+      x.whitespace,
+      reaches.whitespace,
+      seen_texts,
+      x.first,
+      reaches.entries.first,
+      x.last,
+      x.label_end,
+      x.widest,
+      reaches.entries.last,
+      reaches.entries.label_end,
+      reaches.widest,
+    )
 
 -- the bounds for the lines that are kept follow from the spans
 pub margin_of_spans : (room : ℕ) (fold : Bool) (s : Source) (marks : List Annotation) → All (λ (a : Annotation). IsSpan s.text a.span.start a.span.end) marks

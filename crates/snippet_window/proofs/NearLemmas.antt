@@ -1,30 +1,23 @@
 -- The window of a line is found in a part of the line that is sure to hold it.
-use Rattle.snippet_window.proofs.Common.{◌≡◌, ℕ, suc, ◌+◌, ◌-◌, ◌<◌, ◌≤◌, inl, inr, Option, Some, None, unwrap_or, cond, nat_le}
-use Rattle.snippet_window.proofs.Common.{nat_lt, true, false, min, List, [], ◌∷◌, ◌++◌, length, take, drop, sym, ap, ◌∙◌, subst, arith, reverse}
-use Rattle.snippet_window.proofs.Common.{take-append-add, drop-append-add, take-append-drop, take-append-le, drop-append-le, append-nil, sum_by-append}
-use Rattle.snippet_window.proofs.Common.{cases_lt, flat_map-append, norm, shown, char_width, width_of, width_of-norm, nat_tests, reaching, fitting, window_left}
-use Rattle.snippet_window.proofs.Common.{window_right, dropped_part, inner_part, covered_columns, uncovered_part, covered_end, Margin, HoldsWindow, IsPartOf}
-use Rattle.snippet_window.proofs.Common.{falling_short, window_columns, reaching_last}
+use Rattle.snippet_window.proofs.Common.{common_steps, ◌≡◌, ℕ, ◌+◌, ◌-◌, ◌<◌, ◌≤◌, inl, inr, Option, Some, None, unwrap_or, cond, nat_le, min, List, [], ◌∷◌}
+use Rattle.snippet_window.proofs.Common.{◌++◌, length, take, drop, sym, ap, ◌∙◌, arith, take-append-add, drop-append-add, take-append-drop, take-append-le}
+use Rattle.snippet_window.proofs.Common.{drop-append-le, append-nil, sum_by-append, cases_lt, flat_map-append, norm, shown, char_width, width_of, width_of-norm}
+use Rattle.snippet_window.proofs.Common.{nat_tests, reaching, fitting, window_left, window_right, dropped_part, inner_part, covered_columns, uncovered_part}
+use Rattle.snippet_window.proofs.Common.{covered_end, Margin, HoldsWindow, IsPartOf, falling_short, window_columns, reaching_last}
 use Rattle.snippet_window.proofs.LineWindowLemmas.{width-cons, reaching-cons, reaching-none, fitting-cons, fitting-stop, reaching_last-reverse}
 
 take-cons : (n c : ℕ) (cs : List ℕ) → take (n + 1) (c ∷ cs) ≡ c ∷ take n cs
-take-cons n c cs =
-    let next : n + 1 ≡ suc n = omega arith in
-    ap (λ k. take k (c ∷ cs)) next
+take-cons n c cs = grind (arith, common_steps)
 
 drop-cons : (n c : ℕ) (cs : List ℕ) → drop (n + 1) (c ∷ cs) ≡ drop n cs
-drop-cons n c cs =
-    let next : n + 1 ≡ suc n = omega arith in
-    ap (λ k. drop k (c ∷ cs)) next
+drop-cons n c cs = grind (arith, common_steps)
 
 reaching-zero : (n : ℕ) (cs : List ℕ) → n ≡ 0 → reaching n cs ≡ 0
 reaching-zero n cs none = ap (λ k. reaching k cs) none ∙ reaching-none cs
 
 -- characters that don't reach so many columns are among those that do
 reaching_after : (n : ℕ) (a b : List ℕ) → (0 < length a → width_of a < n) → reaching n (a ++ b) ≡ length a + reaching (n - width_of a) b
-reaching_after n [] b few =
-    let same : n - 0 ≡ n = omega arith in
-    omega (arith, ap (λ k. reaching k b) same)
+reaching_after n [] b few = grind (arith, common_steps)
 reaching_after n (c ∷ a) b few =
     let wide = width-cons c a in
     let less : width_of (c ∷ a) < n = few (omega arith) in
@@ -129,12 +122,7 @@ by_after P (c ∷ cs) none some = some (omega arith)
 -- what stands before a part ends left of this column, and the part reaches it
 pub near_reaching : (left skipped : ℕ) (before part after : List ℕ) → skipped ≡ width_of before → (0 < length before → skipped < left)
     → (0 < length after → left - skipped ≤ width_of part) → reaching left (before ++ (part ++ after)) ≡ length before + reaching (left - skipped) part
-near_reaching left skipped before part after is starts reaches =
-    let within : reaching (left - skipped) (part ++ after) ≡ reaching (left - skipped) part =
-    by_after (λ b. reaching (left - skipped) (part ++ b) ≡ reaching (left - skipped) part) after (ap (reaching (left - skipped)) (append-nil part)) (λ some.
-    reaching_within (left - skipped) part after (reaches some)) in
-    let same : left - width_of before ≡ left - skipped = omega (arith, is) in
-    omega (arith, reaching_after left before (part ++ after) (λ some. omega (arith, is, starts some)), ap (λ k. reaching k (part ++ after)) same, within)
+near_reaching left skipped before part after is starts reaches = grind (arith, common_steps, reaching_within, reaching_after)
 
 pub near_dropped : (left skipped : ℕ) (before part after : List ℕ) → skipped ≡ width_of before → (0 < length before → skipped < left)
     → (0 < length after → left - skipped ≤ width_of part)
@@ -175,9 +163,7 @@ near_inner columns reached part after rest is enough =
 pub width_left : (n skipped width : ℕ) (cs rest : List ℕ) → width ≡ width_of cs → skipped ≡ width_of (take n cs) → rest ≡ drop n cs
     → width - skipped ≡ width_of rest
 width_left n skipped width cs rest is is_skipped is_rest =
-    let both : width_of cs ≡ width_of (take n cs) + width_of (drop n cs) = ap width_of (sym (take-append-drop n cs))
-    ∙ sum_by-append char_width (take n cs) (drop n cs) in
-    omega (arith, is, is_skipped, ap width_of is_rest, both)
+    grind (arith, common_steps, sum_by-append char_width (take n cs) (drop n cs), is, is_skipped, is_rest)
 
 -- the part that is made so
 pub near_holds : (room left right skipped columns : ℕ) (cs rest part : List ℕ) → skipped ≡ width_of (take (falling_short (window_left left cs) cs) cs)
@@ -199,18 +185,13 @@ near_holds room left right skipped columns cs rest part is_skipped is_rest is_co
 -- the columns at which a line's window begins and ends, as a margin gives them
 pub right_is : (room left right width result : ℕ) (line : List ℕ) → width ≡ width_of line → result ≡ cond (nat_le (width - left) room) width (min width right)
     → result ≡ window_right room left right line
-right_is room left right width result line is value =
-    let same : width_of line - left ≡ width_of line - window_left left line = omega arith in
-    value ∙ ap (λ w. cond (nat_le (w - left) room) w (min w right)) is ∙ ap (λ k. cond (nat_le k room) (width_of line) (min (width_of line) right)) same
+right_is room left right width result line is value = grind (arith, common_steps)
 
 -- what is dropped left of the window, and what stands in it
 pub window_dropped : (room left right skipped l : ℕ) (line part : List ℕ) → HoldsWindow room left right line skipped part → l ≡ window_left left line
     → skipped + width_of (take (reaching (l - skipped) part) part) ≡ width_of (dropped_part left line)
 window_dropped room left right skipped l line part holds is =
-    let from = window_left left line in
-    let found = ap (λ xs. width_of (take (reaching from xs) xs)) holds.text_is
-    ∙ near_dropped from skipped holds.before part holds.after holds.skipped_is holds.starts (λ some. omega (arith, holds.reaches some)) in
-    ap (λ k. skipped + width_of (take (reaching (k - skipped) part) part)) is ∙ sym found
+    grind (arith, common_steps, holds.text_is, near_dropped, holds.before, holds.after, holds.skipped_is, holds.starts, holds.reaches)
 
 -- the inner part of the near text is that of the line
 pub window_inner : (room left right skipped l n : ℕ) (line part rest inner : List ℕ) → HoldsWindow room left right line skipped part
@@ -247,23 +228,12 @@ pub end_some : (room left right end : ℕ) (start : Option ℕ) (placeholder lin
     → shown ≡ uncovered_part left placeholder inner → end ≡ (unwrap_or start 0 + length shown) - reaching_last (width_of placeholder) inner
     → Some end ≡ covered_end room left right placeholder line
 end_some room left right end start placeholder line inner shown is_inner cut is_start is_shown is_end =
-    let at : List ℕ → ℕ = λ i. (unwrap_or (covered_columns left placeholder i) 0 + length (uncovered_part left placeholder i)) - reaching
-    (width_of placeholder) (reverse i) in
-    let cut_off : nat_lt (window_right room left right line) (width_of line) ≡ true = grind (arith, nat_tests, cut) in
-    let value = is_end ∙ ap (λ (s : Option ℕ). (unwrap_or s 0 + length shown) - reaching_last (width_of placeholder) inner) is_start
-    ∙ ap (λ t. (unwrap_or (covered_columns left placeholder inner) 0 + length t) - reaching_last (width_of placeholder) inner) is_shown
-    ∙ ap (λ n. (unwrap_or (covered_columns left placeholder inner) 0 + length (uncovered_part left placeholder inner)) - n)
-    (reaching_last-reverse (width_of placeholder) inner) ∙ ap at is_inner in
-    ap Some value ∙ sym (ap (λ b. cond b (Some (at (inner_part room left right line))) None) cut_off)
+    grind (arith, common_steps, nat_tests, reaching_last-reverse)
 
 -- a line that ends within the window isn't covered at its end
 pub end_none : (room left right : ℕ) (placeholder line : List ℕ) → width_of line ≤ window_right room left right line
     → None ≡ covered_end room left right placeholder line
-end_none room left right placeholder line uncut =
-    let at : List ℕ → ℕ = λ i. (unwrap_or (covered_columns left placeholder i) 0 + length (uncovered_part left placeholder i)) - reaching
-    (width_of placeholder) (reverse i) in
-    let whole : nat_lt (window_right room left right line) (width_of line) ≡ false = grind (arith, nat_tests, uncut) in
-    sym (ap (λ b. cond b (Some (at (inner_part room left right line))) None) whole)
+end_none room left right placeholder line uncut = grind (arith, common_steps, nat_tests)
 
 -- normalising a line normalises the part of it that holds the window
 norm-append : (a b : List ℕ) → norm (a ++ b) ≡ norm a ++ norm b
@@ -296,8 +266,4 @@ holds_norm room left right skipped line part holds =
 pub part_of_norm : (margin : Margin) (width skipped : ℕ) (line near part : List ℕ) → width ≡ width_of line → part ≡ norm near
     → HoldsWindow margin.term_width margin.computed_left margin.computed_right line skipped near → IsPartOf margin (norm line) width skipped part
 part_of_norm margin width skipped line near part is_width is_part holds =
-    let all = holds_norm margin.term_width margin.computed_left margin.computed_right skipped line near holds in (
-      is_width ∙ sym (width_of-norm line),
-      subst (HoldsWindow margin.term_width margin.computed_left
-          margin.computed_right (norm line) skipped) (sym is_part) all,
-    )
+    grind (arith, common_steps, holds_norm, margin.term_width, margin.computed_left, margin.computed_right, width_of-norm)

@@ -1,9 +1,9 @@
 -- A text that begins with printable ASCII: each of these bytes is a character of one column.
-use Rattle.snippet_window.proofs.Common.{◌≡◌, ℕ, ◌+◌, ◌-◌, ◌<◌, ◌≤◌, List, [], ◌∷◌, ◌++◌, length, take, drop}
-use Rattle.snippet_window.proofs.Common.{encode_utf8_all, IsUtf8, All, sym, ap, ◌∙◌, arith, cond, inl, inr, min, cases_lt, lt-leb, nat_tests}
-use Rattle.snippet_window.proofs.Common.{length-append, length-take-le, take-append-drop, All-head, All-tail, All-weaker, sum_by-append, IsUtf8-from_ascii}
-use Rattle.snippet_window.proofs.Common.{chars-append, encodes-append, encodes-chars, IsAscii-from_all, take-append-add, take-append_seam, bytes_of, IsPlain}
-use Rattle.snippet_window.proofs.Common.{char_width, width_of, char_width-plain, chars-plain, width_of-all_plain, fitting, reaching, reaching_last}
+use Rattle.snippet_window.proofs.Common.{common_steps, ◌≡◌, ℕ, ◌+◌, ◌-◌, ◌<◌, ◌≤◌, List, [], ◌∷◌, ◌++◌, length, take, drop, IsUtf8, All, sym, ap, ◌∙◌, arith}
+use Rattle.snippet_window.proofs.Common.{cond, inl, inr, min, cases_lt, lt-leb, nat_tests, length-take-le, take-append-drop, All-head, All-tail, All-weaker}
+use Rattle.snippet_window.proofs.Common.{sum_by-append, IsUtf8-from_ascii, chars-append, encodes-append, encodes-chars, IsAscii-from_all, take-append-add}
+use Rattle.snippet_window.proofs.Common.{bytes_of, IsPlain, char_width, width_of, char_width-plain, chars-plain, width_of-all_plain, fitting, reaching}
+use Rattle.snippet_window.proofs.Common.{reaching_last}
 use Rattle.std.proofs.Common.{chars}
 use Rattle.snippet_window.proofs.LineWindowLemmas.{fitting-cons, reaching-cons}
 
@@ -24,12 +24,7 @@ plain_chars text k all =
 
 -- the text may be cut after them
 pub plain_cut : (text : List ℕ) (k : ℕ) → k ≤ length text → All IsPlain (take k text) → k ≡ bytes_of (take k (chars text))
-plain_cut text k within all =
-    let front = take k text in
-    let count = length-take-le k text within in
-    let same : take k (chars text) ≡ front = ap (λ (l : List ℕ). take k l) (plain_chars text k all)
-    ∙ ap (λ n. take n (front ++ chars (drop k text))) (sym count) ∙ take-append_seam front (chars (drop k text)) in
-    sym (ap bytes_of same ∙ plain_bytes front all ∙ count)
+plain_cut text k within all = grind (arith, common_steps, within, plain_chars text k all, all, plain_bytes)
 
 -- so many columns are filled by as many of them, and what is left by what stands after them
 fitting_front : (columns : ℕ) (front rest : List ℕ) → All IsPlain front → length front ≤ columns
@@ -99,9 +94,7 @@ last_plain columns text all = ap (reaching_last columns) (chars-plain text all) 
 
 -- the bytes of both, and their columns
 pub bytes_front : (text xs : List ℕ) (k : ℕ) → k ≤ length text → All IsPlain (take k text) → bytes_of (take k text ++ xs) ≡ k + bytes_of xs
-bytes_front text xs k within all =
-    let both = ap length (encodes-append (take k text) xs) ∙ length-append (encode_utf8_all (take k text)) (encode_utf8_all xs) in
-    omega (arith, both, plain_bytes (take k text) all, length-take-le k text within)
+bytes_front text xs k within all = grind (arith, common_steps, encodes-append, plain_bytes)
 
 pub width_front : (text xs : List ℕ) (k : ℕ) → k ≤ length text → All IsPlain (take k text) → width_of (take k text ++ xs) ≡ k + width_of xs
 width_front text xs k within all =

@@ -1,12 +1,11 @@
 -- What is measured of a snippet's spans, and of the entries that they become, is measured of no other: no part has more.
-use Rattle.snippet_window.proofs.Common.{◌≡◌, ◌∙◌, ℕ, ◌+◌, ◌-◌, Bool, true, false, not, cond, eqb, List, [], ◌∷◌, ◌++◌, Option}
-use Rattle.snippet_window.proofs.Common.{map, refl, sym, ap, subst, inl, inr, filter, flat_map, and_parts, not-true, Annotation, Primary, LongExtent}
-use Rattle.snippet_window.proofs.Common.{AnnotatedLineInfo, LineAnnotation, LineAnnotationType, Singleline, MultilineEnd, Loc, long_entry, long_place, is_long}
-use Rattle.snippet_window.proofs.Common.{long_spans, bar_part, single_part, start_part, end_part, span_parts, promoted, long_parts, made_parts, parts_on}
-use Rattle.snippet_window.proofs.Common.{KeptLine, kept_line, annotated_lines, seen_kept, depth_among, bar_lines, kept_lines, Source, is_marking}
-use Rattle.snippet_window.proofs.Common.{is_single_line, entries_of, line_texts, end_with, is_bar, chars_at, Among, among_left, among_right, append_cases}
-use Rattle.snippet_window.proofs.Common.{map_cases, filter_cases, among_flat_map, flat_map_cases, in_order_cases, is_promoted, is_short, long_places}
-use Rattle.snippet_window.proofs.Common.{stands_among, stands_before}
+use Rattle.snippet_window.proofs.Common.{common_steps, arith, ◌≡◌, ◌∙◌, ℕ, ◌+◌, ◌-◌, Bool, true, false, not, cond, eqb, List, [], ◌∷◌, ◌++◌, Option, map, refl}
+use Rattle.snippet_window.proofs.Common.{sym, ap, subst, inl, inr, filter, flat_map, Annotation, LongExtent, AnnotatedLineInfo, LineAnnotation}
+use Rattle.snippet_window.proofs.Common.{LineAnnotationType, Singleline, MultilineEnd, Loc, long_entry, long_place, is_long, long_spans, bar_part, single_part}
+use Rattle.snippet_window.proofs.Common.{start_part, end_part, span_parts, promoted, long_parts, made_parts, parts_on, KeptLine, kept_line, annotated_lines}
+use Rattle.snippet_window.proofs.Common.{seen_kept, depth_among, bar_lines, kept_lines, Source, is_marking, is_single_line, entries_of, line_texts, end_with}
+use Rattle.snippet_window.proofs.Common.{is_bar, chars_at, Among, among_left, among_right, append_cases, map_cases, filter_cases, among_flat_map}
+use Rattle.snippet_window.proofs.Common.{flat_map_cases, in_order_cases, is_short, long_places, stands_among, stands_before}
 use Rattle.std.proofs.Common.{chars}
 
 -- what is measured of an entry: some numbers, by where it starts and ends and by its label
@@ -70,30 +69,20 @@ span_ends s a = measured_span ends s a
 
 -- what is measured of a span on one line is measured of its part
 pub short_span : (g : Measure) (s : Source) (a : Annotation) → is_short s.text a ≡ true → measured_span g s a ≡ measured g (single_part s a)
-short_span g s a short =
-    let both = and_parts (is_marking a.kind) (is_single_line s.text a) short in
-    ap (λ b. cond (not b) [] (cond (is_single_line s.text a) (measured g (single_part s a)) (measured_long g (long_entry s a)))) both.0
-    ∙ ap (λ b. cond b (measured g (single_part s a)) (measured_long g (long_entry s a))) both.1
+short_span g s a short = grind (arith, common_steps, a.kind, s.text)
 
 -- what is measured of a span of several lines is measured of its entry
 pub long_span : (g : Measure) (s : Source) (a : Annotation) → is_long s.text a ≡ true → measured_span g s a ≡ measured_long g (long_entry s a)
-long_span g s a long =
-    let both = and_parts (is_marking a.kind) (not (is_single_line s.text a)) long in
-    ap (λ b. cond (not b) [] (cond (is_single_line s.text a) (measured g (single_part s a)) (measured_long g (long_entry s a)))) both.0
-    ∙ ap (λ b. cond b (measured g (single_part s a)) (measured_long g (long_entry s a))) (not-true (is_single_line s.text a) both.1)
+long_span g s a long = grind (arith, common_steps, a.kind, s.text)
 
 -- the kind with which a span is drawn isn't measured
 pub drawn_start : (g : Measure) (before : List LineAnnotation) (e : LineAnnotation) (depth : ℕ)
     → measured g (start_part (promoted before e) depth) ≡ measured g (start_part e 0)
-drawn_start g before e depth =
-    elim (is_promoted before e) as (λ b. measured g (start_part (cond b (record e { kind = Primary }) e) depth)
-    ≡ measured g (start_part e 0)) [ true ↦ refl | false ↦ refl ]
+drawn_start g before e depth = grind (arith, common_steps)
 
 pub drawn_end : (g : Measure) (before : List LineAnnotation) (e : LineAnnotation) (part : LineAnnotationType)
     → measured g (end_part (promoted before e) part) ≡ measured g (end_part e Singleline)
-drawn_end g before e part =
-    elim (is_promoted before e) as (λ b. measured g (end_part (cond b (record e { kind = Primary }) e) part)
-    ≡ measured g (end_part e Singleline)) [ true ↦ refl | false ↦ refl ]
+drawn_end g before e part = grind (arith, common_steps)
 
 -- ---- what is measured of the parts is measured of the spans
 
@@ -107,13 +96,9 @@ bars_none e depth first ks p here some =
 
 span_part : (g : Measure) (s : Source) (before : List LineAnnotation) (depth : ℕ) (again : Bool) (e : LineAnnotation) (p : LineAnnotation) (c : ℕ)
     → Among (span_parts s depth again (promoted before e)) p → has_columns p ≡ true → Among (measured g p) c → Among (measured_long g e) c
-span_part g s before depth true e p c (inl same) some inside =
-    among_right (measured g (start_part e 0)) (measured g (end_part e Singleline)) c
-    (subst (λ ns. Among ns c) (ap (measured g) (sym same) ∙ drawn_end g before e Singleline) inside)
+span_part g s before depth true e p c (inl same) some inside = grind (arith, common_steps, among_right, drawn_end)
 span_part g s before depth true e p c (inr later) some inside = elim later [ ]
-span_part g s before depth false e p c (inl same) some inside =
-    among_left (measured g (start_part e 0)) (measured g (end_part e Singleline)) c
-    (subst (λ ns. Among ns c) (ap (measured g) (sym same) ∙ drawn_start g before e depth) inside)
+span_part g s before depth false e p c (inl same) some inside = grind (arith, common_steps, among_left, drawn_start)
 span_part g s before depth false e p c (inr later) some inside =
     let x = promoted before e in
     let lines = bar_lines s.text (x.start.line - s.first) (x.end.line - s.first) in

@@ -1,17 +1,15 @@
 -- Where a snippet stands whole, nothing of its lines is cut on the left.
-use Rattle.snippet_window.proofs.Common.{◌≡◌, ◌∙◌, ℕ, ◌+◌, ◌-◌, ◌≤◌, Bool, true, false, not, cond, eqb, leb, ltb, max, min}
-use Rattle.snippet_window.proofs.Common.{◌&&◌, ◌||◌, List, [], ◌∷◌, ◌++◌, Option, Some, None, map, unwrap_or, refl, sym, ap, subst, inl, inr}
-use Rattle.snippet_window.proofs.Common.{arith, cons_option, flat_map, list_all, list_any, is_none, option_map_or, cases_Bool, cond-true, cond-false, and_parts}
-use Rattle.snippet_window.proofs.Common.{and_from, not-true, eqb-false, leb-true, or_cases, nat_tests, width_of, Annotation, Loc, annotated_lines, long_entry}
-use Rattle.snippet_window.proofs.Common.{single_part, kept_lines, Source, source_lines, is_marking, is_marked_on, is_single_line, is_wide, start_column}
-use Rattle.snippet_window.proofs.Common.{first_line, last_line, greatest, least, margin_of, IsSpan, end_location, line_of, location_of, locations_of, place_of}
-use Rattle.snippet_window.proofs.Common.{prefix_at, steps_after_text, chars_at, end_mark_column, is_near_left, is_near_span, leading_whitespace, stands_whole}
-use Rattle.snippet_window.proofs.Common.{Among, among_map, map_cases, among_flat_map, any_cases, least_le, greatest_most, all_pass, among_filter_map}
-use Rattle.snippet_window.proofs.Common.{start_column-from, locations_of-end, Margin}
-use Rattle.std.proofs.Common.{chars}
+use Rattle.snippet_window.proofs.Common.{common_steps, ◌≡◌, ◌∙◌, ℕ, ◌+◌, ◌-◌, ◌≤◌, Bool, true, false, not, cond, eqb, leb, max, min, ◌&&◌, ◌||◌, List, [], ◌∷◌}
+use Rattle.snippet_window.proofs.Common.{◌++◌, Option, Some, None, map, unwrap_or, refl, ap, inl, inr, arith, cons_option, flat_map, list_all, list_any}
+use Rattle.snippet_window.proofs.Common.{is_none, option_map_or, cases_Bool, cond-true, cond-false, and_parts, and_from, not-true, leb-true, or_cases}
+use Rattle.snippet_window.proofs.Common.{nat_tests, width_of, Annotation, annotated_lines, long_entry, single_part, kept_lines, Source, is_marking}
+use Rattle.snippet_window.proofs.Common.{is_marked_on, is_single_line, is_wide, start_column, greatest, least, margin_of, IsSpan, end_location, location_of}
+use Rattle.snippet_window.proofs.Common.{place_of, chars_at, end_mark_column, is_near_left, is_near_span, leading_whitespace, stands_whole, Among, among_map}
+use Rattle.snippet_window.proofs.Common.{map_cases, among_flat_map, any_cases, least_le, greatest_most, all_pass, among_filter_map, start_column-from}
+use Rattle.snippet_window.proofs.Common.{locations_of-end, Margin}
 use Rattle.std.specs.List.{All}
 use Rattle.snippet_window.proofs.MarginLaws.{margin_of_spans}
-use Rattle.snippet_window.proofs.SpanMeasures.{columns, measured, measured_long, short_span, long_span, span_columns, span_ends}
+use Rattle.snippet_window.proofs.SpanMeasures.{columns, measured, measured_long, long_span, span_columns, span_ends}
 use Rattle.snippet_window.proofs.MeasureWords.{margin_by, whitespaces_of, widths_of}
 
 -- lines of which each is blank begin with no whitespace that counts
@@ -48,32 +46,17 @@ same_lines f a b = grind (arith, nat_tests)
 
 end_display : (s : Source) (start end : ℕ) → (end_location s start end).display ≡ (end_location (record { text = s.text; first = 0 }) start end).display
 unfolding end_location location_of place_of
-end_display s start end =
-    let ls = source_lines s.text in
-    ap (λ b. width_of (chars (prefix_at ls (line_of ls end) end)) + cond b 0 (steps_after_text s.text end))
-    (same_lines s.first (line_of ls start) (line_of ls end))
+end_display s start end = grind (arith, common_steps, s.text, same_lines, s.first)
 
 end_mark : (s : Source) (a : Annotation) → is_single_line s.text a ≡ false → (long_entry s a).end.display - 1 ≡ end_mark_column s.text a
-end_mark s a several =
-    let apart : a.span.start ≡ a.span.end → ⊥ = λ same. eqb-false (last_line s.text a) (first_line s.text a) several
-    (ap (line_of (source_lines s.text)) (sym same)) in
-    ap (λ (l : Loc). l.display - 1) (locations_of-end s a.span.start a.span.end apart) ∙ ap (λ n. n - 1) (end_display s a.span.start a.span.end)
+end_mark s a several = grind (arith, common_steps, a.span.start, a.span.end, s.text, locations_of-end, end_display)
 
 -- the first column of a span, and that of the mark at the end of one of several lines
 start_among : (s : Source) (a : Annotation) → is_marking a.kind ≡ true → Among (span_columns s a) (start_column s.text a)
-start_among s a marked =
-    let start : (long_entry s a).start.display ≡ start_column s.text a = start_column-from s a (locations_of s a.span.start a.span.end) refl in
-    elim (cases_Bool (is_single_line s.text a)) [
-      | inl one ↦ subst (λ ns. Among ns (start_column s.text a)) (sym
-          (short_span columns s a (and_from (is_marking a.kind) (is_single_line s.text a) marked one))) (inl start)
-      | inr some ↦ subst (λ ns. Among ns (start_column s.text a)) (sym
-          (long_span columns s a (and_from (is_marking a.kind) (not (is_single_line s.text a)) marked (ap not some)))) (inl start)
-    ]
+start_among s a marked = grind (arith, common_steps, start_column-from, cases_Bool, long_span)
 
 end_among : (s : Source) (a : Annotation) → is_marking a.kind ≡ true → is_single_line s.text a ≡ false → Among (span_columns s a) (end_mark_column s.text a)
-end_among s a marked some =
-    subst (λ ns. Among ns (end_mark_column s.text a)) (sym (long_span columns s a
-    (and_from (is_marking a.kind) (not (is_single_line s.text a)) marked (ap not some)))) (inr (inr (inl (end_mark s a some))))
+end_among s a marked some = grind (arith, common_steps, s.text, long_span, and_from, a.kind, end_mark)
 
 near_span : (s : Source) (marks : List Annotation) → list_any (is_near_span s.text) marks ≡ true → unwrap_or (least (flat_map (span_columns s) marks)) 0 ≤ 26
 near_span s marks any =
@@ -135,16 +118,11 @@ near_left s marks ks near =
 -- lines that fit the room, of which little is blank on the left, aren't cut
 uncut_left : (left room widest : ℕ) (rest : Margin) → left ≡ 0 → widest ≤ room
     → (cond (leb (max widest left - left) room) (record { computed_left = left; computed_right = max widest left; term_width = room }) rest).computed_left ≡ 0
-uncut_left left room widest rest none fits =
-    let here : leb (max widest left - left) room ≡ true = grind (arith, nat_tests) in
-    let kept : Margin = record { computed_left = left; computed_right = max widest left; term_width = room } in
-    ap (λ (m : Margin). m.computed_left) (cond-true (leb (max widest left - left) room) kept rest here) ∙ none
+uncut_left left room widest rest none fits = grind (arith, common_steps, nat_tests, cond-true)
 
 margin_near : (whitespace first last after room widest : ℕ) → min whitespace first ≤ 26 → widest ≤ room
     → (margin_by whitespace first last after room widest).computed_left ≡ 0
-margin_near whitespace first last after room widest near fits =
-    let blank : ℕ = min whitespace first - 6 in
-    uncut_left (cond (ltb 20 blank) (blank - 16) 0) room widest _ (cond-false (ltb 20 blank) (blank - 16) 0 (grind (arith, nat_tests))) fits
+margin_near whitespace first last after room widest near fits = grind (arith, common_steps, uncut_left, cond-false, nat_tests)
 
 -- where a line stands whole, nothing is cut on the left
 pub margin_whole : (room placeholder_width : ℕ) (fold : Bool) (s : Source) (marks : List Annotation) (k : ℕ)

@@ -1,15 +1,13 @@
 -- How the leading whitespace of a line is counted character by character.
-use Rattle.snippet_window.proofs.Common.{◌≡◌, ℕ, ◌+◌, ◌<◌, cond, true, false, List, Option, Some, None, length, drop, get_or, refl, sym, ap}
-use Rattle.snippet_window.proofs.Common.{◌∙◌, add_assoc, add-zero, le_refl, option_map, is_whitespace, at_drop_more, drop_all, leading_whitespace}
+use Rattle.snippet_window.proofs.Common.{common_steps, arith, ◌≡◌, ℕ, ◌+◌, ◌<◌, cond, true, false, List, Option, Some, None, length, drop, get_or, refl, sym}
+use Rattle.snippet_window.proofs.Common.{ap, add_assoc, option_map, is_whitespace, at_drop_more, drop_all, leading_whitespace}
 use Rattle.snippet_window.proofs.MeasureWords.{whitespace_width}
 
 -- what stands from a character on
 leading-drop : (cs : List ℕ) (n c : ℕ) → (n < length cs) × (c ≡ get_or cs n c)
     → leading_whitespace (drop n cs) ≡ cond (is_whitespace c) (option_map (λ columns. whitespace_width c + columns) (leading_whitespace (drop (n + 1) cs)))
     (Some 0)
-leading-drop cs n c at =
-    at_drop_more leading_whitespace cs n c at.0 ∙ ap (λ x. cond (is_whitespace x)
-    (option_map (λ columns. whitespace_width x + columns) (leading_whitespace (drop (n + 1) cs))) (Some 0)) (sym at.1)
+leading-drop cs n c at = grind (arith, common_steps, at_drop_more, at.0, at.1)
 
 -- two sums after another are one
 twice : (a b : ℕ) (o : Option ℕ) → option_map (λ n. a + n) (option_map (λ n. b + n) o) ≡ option_map (λ n. (a + b) + n) o
@@ -20,24 +18,14 @@ twice a b (Some n) = ap Some (sym (add_assoc a b n))
 pub leading-more : (cs : List ℕ) (n c columns more : ℕ) → (n < length cs) × (c ≡ get_or cs n c) → is_whitespace c ≡ true
     → more ≡ columns + whitespace_width c → option_map (λ k. columns + k) (leading_whitespace (drop n cs)) ≡ leading_whitespace cs
     → option_map (λ k. more + k) (leading_whitespace (drop (n + 1) cs)) ≡ leading_whitespace cs
-leading-more cs n c columns more at blank is before =
-    ap (λ m. option_map (λ k. m + k) (leading_whitespace (drop (n + 1) cs))) is
-    ∙ sym (twice columns (whitespace_width c) (leading_whitespace (drop (n + 1) cs)))
-    ∙ ap (λ (o : Option ℕ). option_map (λ k. columns + k) o)
-    (sym (leading-drop cs n c at ∙ ap (λ b. cond b (option_map (λ k. whitespace_width c + k) (leading_whitespace (drop (n + 1) cs))) (Some 0))
-    blank)) ∙ before
+leading-more cs n c columns more at blank is before = grind (arith, common_steps, twice, leading-drop)
 
 -- a character that isn't whitespace ends it
 pub leading-found : (cs : List ℕ) (n c columns : ℕ) → (n < length cs) × (c ≡ get_or cs n c) → is_whitespace c ≡ false
     → option_map (λ k. columns + k) (leading_whitespace (drop n cs)) ≡ leading_whitespace cs → Some columns ≡ leading_whitespace cs
-leading-found cs n c columns at other before =
-    ap Some (sym (add-zero columns)) ∙ ap (λ (o : Option ℕ). option_map (λ k. columns + k) o)
-    (sym (leading-drop cs n c at ∙ ap (λ b. cond b (option_map (λ k. whitespace_width c + k) (leading_whitespace (drop (n + 1) cs))) (Some 0)) other))
-    ∙ before
+leading-found cs n c columns at other before = grind (arith, common_steps, leading-drop)
 
 -- a line of nothing else is blank
 pub leading-blank : (cs : List ℕ) (n columns : ℕ) → length cs ≡ n → option_map (λ k. columns + k) (leading_whitespace (drop n cs)) ≡ leading_whitespace cs
     → None ≡ leading_whitespace cs
-leading-blank cs n columns all before =
-    sym (ap (λ (o : Option ℕ). option_map (λ k. columns + k) o) (ap (λ k. leading_whitespace (drop k cs)) (sym all)
-    ∙ ap leading_whitespace (drop_all (length cs) cs (le_refl (length cs))))) ∙ before
+leading-blank cs n columns all before = grind (arith, common_steps, drop_all)

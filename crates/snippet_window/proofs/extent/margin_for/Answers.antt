@@ -1,11 +1,9 @@
-use Rattle.snippet_window.proofs.Common.{◌++◌, ◌∷◌, [], sym, ◌≡◌, ◌∙◌, ◌≤◌, ℕ, Option, take, ap, subst, arith, unwrap_or, rules}
-use Rattle.snippet_window.proofs.Common.{take_all, ReachesLines, columns_of, entries_of, ShownLine, kept_of, StandsClear, least, least_below, kept_of-next}
-use Rattle.snippet_window.proofs.Common.{kept_of-past}
+use Rattle.snippet_window.proofs.Common.{common_steps, [], ◌≡◌, ◌∙◌, ◌≤◌, ℕ, Option, take, ap, subst, arith, unwrap_or, rules, take_all, ReachesLines}
+use Rattle.snippet_window.proofs.Common.{columns_of, entries_of, kept_of, StandsClear, least, least_below, kept_of-next, kept_of-past}
 use Rattle.snippet_window.proofs.ExtentLemmas.{lines_all, starts_all}
 use Rattle.snippet_window.proofs.MarginLaws.{bounds_reached}
 use Rattle.snippet_window.proofs.extent.margin_for.Goals as goal
 use Rattle.snippet_window.proofs.MeasureWords.{margin_by}
-use Rattle.snippet_window.proofs.extent.margin_for.Goals.{else-not-line, then-not-line}
 
 pub returns : goal.returns
 returns c =
@@ -28,16 +26,15 @@ returns c =
 
 pub loop-line-preserved : goal.loop-line-preserved
 loop-line-preserved c =
-    let lines = c.args.lines.now in
-    let i = c.loop-line.line-index in
-    let line : ShownLine = c.line-item.result in
-    elim c.if-not-line.branch [
-      | then-not-line w ↦
-          let next = kept_of-next lines i line c.loop-line-test.true c.line-item.is w.if-not-line.true in
-          subst (λ is. ReachesLines is c.if-not-line.extent) (sym next)
-          (subst (ReachesLines (kept_of (take i lines) ++ line.info ∷ [])) (sym w.extent-is)
-          (w.add_line.ensures.adds (kept_of (take i lines)) c.loop-line.invariant))
-      | else-not-line w ↦
-          let past = kept_of-past lines i line c.loop-line-test.true c.line-item.is w.if-not-line.false in
-          subst (λ is. ReachesLines is c.if-not-line.extent) (sym past) (subst (ReachesLines (kept_of (take i lines))) (sym w.extent-is) c.loop-line.invariant)
-    ]
+    grind (
+      arith,
+      common_steps,
+      c.loop-line.line-index,
+      c.if-not-line.branch,
+      kept_of-next,
+      c.loop-line-test.true,
+      c.line-item.is,
+      c.if-not-line.extent,
+      c.loop-line.invariant,
+      kept_of-past,
+    )

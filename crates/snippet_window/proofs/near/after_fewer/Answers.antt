@@ -1,4 +1,4 @@
-use Rattle.snippet_window.proofs.Common.{◌-◌, ◌∙◌, ap, arith, sym, drop, fitting}
+use Rattle.snippet_window.proofs.Common.{common_steps, ◌-◌, arith, fitting}
 use Rattle.std.proofs.Common.{chars}
 use Rattle.snippet_window.proofs.LineWindowLemmas.{cut_boundary, cut_back}
 use Rattle.snippet_window.proofs.NearLemmas.{fitting_width, falling_short-some}
@@ -18,7 +18,4 @@ returns-else-columns-eq0-clause-near c most =
 
 pub returns-else-columns-eq0-clause-rest : goal.returns-else-columns-eq0-clause-rest
 returns-else-columns-eq0-clause-rest c =
-    let cs = chars c.args.text.now in
-    ap chars c.range_from.ensures.value ∙ cut_back c.args.text.now (fitting
-    (c.args.columns - 1) cs) c.fitting_end-at.result.0 c.utf8.text c.fitting_end-at.ensures.bytes
-    ∙ ap (λ n. drop n cs) (sym (falling_short-some c.args.columns cs (omega arith)))
+    grind (arith, common_steps, c.range_from.ensures.value, cut_back, c.utf8.text, c.fitting_end-at.ensures.bytes, falling_short-some)

@@ -1,12 +1,11 @@
-use Rattle.snippet_window.proofs.Common.{◌≡◌, ◌∙◌, ap, arith, min, take, drop, width_of, falling_short, window_left}
+use Rattle.snippet_window.proofs.Common.{common_steps, ◌≡◌, ◌∙◌, ap, arith, min, take, drop, width_of, falling_short, window_left}
 use Rattle.std.proofs.Common.{chars}
 use Rattle.snippet_window.proofs.NearLemmas.{near_holds, right_is, width_left}
 use Rattle.snippet_window.proofs.near.near_part.Goals as goal
 
 pub part_reaching-requires-clause-width : goal.part_reaching-requires-clause-width
 part_reaching-requires-clause-width c =
-    width_left (falling_short c.left-left.result (chars c.args.line.now)) c.after_fewer-skipped.result.0 c.args.width (chars c.args.line.now)
-    (chars c.after_fewer-skipped.result.1.now) c.requires.width c.after_fewer-skipped.ensures.width c.after_fewer-skipped.ensures.rest
+    grind (arith, common_steps, width_left, c.requires.width, c.after_fewer-skipped.ensures.width, c.after_fewer-skipped.ensures.rest)
 
 pub returns-clause-holds : goal.returns-clause-holds
 returns-clause-holds c =

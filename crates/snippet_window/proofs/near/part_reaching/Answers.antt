@@ -1,4 +1,4 @@
-use Rattle.snippet_window.proofs.Common.{◌≡◌, ◌∙◌, ◌-◌, arith, ap, sym, take, width_of, reaching}
+use Rattle.snippet_window.proofs.Common.{common_steps, arith, ap, sym, width_of, reaching}
 use Rattle.std.proofs.Common.{chars}
 use Rattle.snippet_window.proofs.LineWindowLemmas.{cut_boundary, cut_front, reaching_whole}
 use Rattle.snippet_window.proofs.near.part_reaching.Goals as goal
@@ -12,11 +12,7 @@ returns-then-width-columns-clause-value c =
     sym (reaching_whole c.args.columns (chars c.args.text.now) (omega (arith, c.requires.width, c.if-width-columns.true)))
 
 pub returns-clause-value : goal.returns-clause-value
-returns-clause-value c =
-    let n = c.reaching_end-at.result.0 in
-    let same : n - 0 ≡ n = omega arith in
-    ap chars (c.range.ensures.value ∙ ap (λ k. take k c.args.text.now) same)
-    ∙ cut_front c.args.text.now (reaching c.args.columns (chars c.args.text.now)) n c.utf8.text c.reaching_end-at.ensures.bytes
+returns-clause-value c = grind (arith, common_steps, c.range.ensures.value, cut_front, c.utf8.text, c.reaching_end-at.ensures.bytes)
 
 pub returns-clause-near : goal.returns-clause-near
 returns-clause-near c = omega (arith, ap width_of (returns-clause-value c), c.reaching_end-at.ensures.width, c.reaching_end-at.ensures.near)

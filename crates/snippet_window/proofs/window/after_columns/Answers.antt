@@ -1,4 +1,4 @@
-use Rattle.snippet_window.proofs.Common.{◌∙◌, ap, reaching}
+use Rattle.snippet_window.proofs.Common.{common_steps, arith, reaching}
 use Rattle.std.proofs.Common.{chars}
 use Rattle.snippet_window.proofs.LineWindowLemmas.{cut_boundary, cut_back}
 use Rattle.snippet_window.proofs.window.after_columns.Goals as goal
@@ -8,6 +8,4 @@ range_from-requires c _ =
     cut_boundary c.args.text.now (reaching c.args.columns (chars c.args.text.now)) c.reaching_end-at.result.0 c.utf8.text c.reaching_end-at.ensures.bytes
 
 pub returns-clause-rest : goal.returns-clause-rest
-returns-clause-rest c =
-    ap chars c.range_from.ensures.value ∙ cut_back c.args.text.now (reaching c.args.columns
-    (chars c.args.text.now)) c.reaching_end-at.result.0 c.utf8.text c.reaching_end-at.ensures.bytes
+returns-clause-rest c = grind (arith, common_steps, c.range_from.ensures.value, cut_back, c.utf8.text, c.reaching_end-at.ensures.bytes)

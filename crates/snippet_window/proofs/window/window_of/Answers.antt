@@ -1,6 +1,6 @@
-use Rattle.snippet_window.proofs.Common.{Option, IfSome, ℕ, sym, subst, ◌≡◌, ◌<◌, ◌≤◌, ◌+◌, ◌-◌, ◌^◌, ◌∙◌, min, ap, arith}
-use Rattle.snippet_window.proofs.Common.{length, unwrap_or, rules, List, width_of-chars, width_of, IsPartOf, reaching_last, covered_columns, uncovered_part}
-use Rattle.snippet_window.proofs.Common.{window_left, window_right}
+use Rattle.snippet_window.proofs.Common.{common_steps, Option, IfSome, ℕ, sym, subst, ◌≡◌, ◌<◌, ◌≤◌, ◌+◌, ◌-◌, ◌^◌, ◌∙◌, min, ap, arith, length, unwrap_or}
+use Rattle.snippet_window.proofs.Common.{rules, List, width_of-chars, width_of, IsPartOf, reaching_last, covered_columns, uncovered_part, window_left}
+use Rattle.snippet_window.proofs.Common.{window_right}
 use Rattle.std.proofs.Common.{chars}
 use Rattle.snippet_window.proofs.LineWindowLemmas.{cells_few, start_is_few, part_short}
 use Rattle.snippet_window.proofs.NearLemmas.{right_is, window_dropped, inner_found, end_some, end_none}
@@ -9,21 +9,20 @@ use Rattle.snippet_window.proofs.window.window_of.Goals.{then-right-width, else-
 
 pub overflow_add-at : goal.overflow_add-at
 overflow_add-at c =
-    let margin = c.args.margin in
-    let inner = chars c.within_columns-inner_width.result.0.now in
-    let short : length inner < 2 ^ 60 = omega (
+    grind (
       arith,
+      common_steps,
       c.requires.short,
-      part_short _ _ (chars c.args.text.now)
-          (chars c.after_columns-reached.result.1.now) inner c.after_columns-reached.ensures.rest c.within_columns-inner_width.ensures.value,
-    ) in
-    omega (
-      arith,
-      cells_few c.uncovered-start.result.0 (width_of (chars c.args.placeholder.now)) margin.computed_left (chars c.args.placeholder.now)
-          inner (chars c.uncovered-start.result.1.now)
-          c.unwrap_or.result c.char_count.result (omega (arith, width_of-chars c.args.placeholder.now, c.requires.placeholder))
-          c.uncovered-start.ensures.bound (c.uncovered-start.ensures.text)
-          short c.unwrap_or.ensures c.char_count.ensures.value,
+      part_short,
+      c.after_columns-reached.ensures.rest,
+      c.within_columns-inner_width.ensures.value,
+      cells_few,
+      width_of-chars,
+      c.requires.placeholder,
+      c.uncovered-start.ensures.bound,
+      c.uncovered-start.ensures.text,
+      c.unwrap_or.ensures,
+      c.char_count.ensures.value,
     )
 
 pub returns : goal.returns
