@@ -102,7 +102,7 @@ pub use Rattle.snippet_labels.proofs.PlacedLemmas.{label_text, placed_at, label_
 pub use Rattle.snippet_labels.specs.PlacedEntries.{shifted, label_role, is_end_part}
 pub use Rattle.snippet_labels.specs.Placing.{HasPlace}
 pub use Rattle.snippet_labels.specs.Pieces.{label_pieces}
-pub use Rattle.snippet_labels.specs.Positions.{are_starts, has_label, line_positions, look_counts, placed_of, positions, is_start_part}
+pub use Rattle.snippet_labels.specs.Positions.{are_starts, line_positions, look_counts, placed_of, positions, is_start_part}
 pub use Rattle.snippet_labels.specs.declared.positions.PlacedEntry.{PlacedEntry}
 pub use Rattle.snippet_lines.proofs.BoundsLemmas.{IsLine-at}
 pub use Rattle.snippet_lines.proofs.CountLemmas.{newline_count-take}
@@ -219,26 +219,21 @@ pub use Rattle.snippet_splice.specs.declared.patches.TrimmedPatch.{TrimmedPatch}
 pub use Rattle.snippet_strokes.proofs.AmongLaws.{all_from_among, among_contains, contains_among, filter_map_cases}
 pub use Rattle.snippet_strokes.proofs.BarFacts.{BarBegins, end_corner}
 pub use Rattle.snippet_strokes.proofs.BarRows.{bar_past}
-pub use Rattle.snippet_strokes.proofs.BarWrites.{All-connector_of, All-stretch_of, All-stem_of, All-stems_of}
 pub use Rattle.snippet_strokes.proofs.BegunLemmas.{same_front, from_map}
-pub use Rattle.snippet_strokes.proofs.CellLemmas.{above_zero, drawn_mark, drawn_strokes, marks_of, cut_row, bar_writes, begun_rows, corner_by}
-pub use Rattle.snippet_strokes.proofs.CellLemmas.{stem_write}
+pub use Rattle.snippet_strokes.proofs.CellLemmas.{above_zero, drawn_strokes, cut_row, begun_rows}
 pub use Rattle.snippet_strokes.proofs.CrossedLaws.{line_clear, highlighted_left, highlighted_text}
 pub use Rattle.snippet_strokes.proofs.CutWords.{Stretch, cuts_of}
 pub use Rattle.snippet_strokes.proofs.DrawnCells.{StandsFrom}
 pub use Rattle.snippet_strokes.proofs.SourceCellLaws.{gap_drawn, line_seen, infos_free, begins, gap_space, line_source}
 pub use Rattle.snippet_strokes.proofs.EndBarLaws.{bar_ends, elision_stands}
-pub use Rattle.snippet_strokes.proofs.WriteLaws.{IsSourceRow, CanBeShown, ShowsLine, AreLineRows, AreOwnRows, StrokesPainted, IsHighlighted}
-pub use Rattle.snippet_strokes.proofs.WriteLaws.{All-flat_map, painted-cell}
+pub use Rattle.snippet_strokes.proofs.WriteLaws.{IsSourceRow, CanBeShown, ShowsLine, AreLineRows, AreOwnRows, StrokesPainted, IsHighlighted, painted-cell}
 pub use Rattle.snippet_strokes.proofs.LineFromValue.{info_rows_show}
-pub use Rattle.snippet_strokes.proofs.MarkStrokeLemmas.{of_first}
 pub use Rattle.snippet_strokes.proofs.OpenLemmas.{room_below}
 pub use Rattle.snippet_strokes.proofs.SeenRows.{IsEntryMark, are_plain, has_column, is_single, wide_entries, EntryCovers, AreSeen, IsStrokeRow, ShowsMarks}
-pub use Rattle.snippet_strokes.proofs.PieceWrites.{All-label_of, label_write}
+pub use Rattle.snippet_strokes.proofs.PieceWrites.{label_write}
 pub use Rattle.snippet_strokes.proofs.PositionLemmas.{positions_sole}
 pub use Rattle.snippet_strokes.proofs.RowLemmas.{bare_row_left}
 pub use Rattle.snippet_strokes.proofs.SeenLabels.{IsLabelledAtEnd, IsLedTo, LabelsStand, PlacedLabel, StandsIn, is_cell_of}
-pub use Rattle.snippet_strokes.proofs.StrokeGlyphs.{of_foot}
 pub use Rattle.snippet_strokes.proofs.StemCells.{stroke_rows-count, row_text-window_cells}
 pub use Rattle.snippet_strokes.proofs.WholeLemmas.{left_none, window_cells-whole}
 pub use Rattle.snippet_strokes.specs.Bars.{Bar, ends_of_bars, open_past, bars_apart, bar_at}
@@ -246,21 +241,18 @@ pub use Rattle.snippet_strokes.specs.Cuts.{overlapped}
 pub use Rattle.snippet_strokes.specs.Drawable.{AreDrawable, HasBarCell, HasBarCellAt, IsDrawableLine}
 pub use Rattle.snippet_strokes.specs.Drawing.{row_count}
 pub use Rattle.snippet_strokes.specs.DrawnBars.{HasOwnDepth, is_whole_line, HasBarRoom, open_below, has_depth}
-pub use Rattle.snippet_strokes.specs.DrawnStems.{stems_of}
 pub use Rattle.snippet_strokes.specs.EndBars.{IsNoBar, BarEnds}
 pub use Rattle.snippet_strokes.specs.EntryMarks.{is_mark_role, IsMarkCell, IsBarCell}
 pub use Rattle.snippet_strokes.specs.InfoRows.{infos_rows, gap_rows, info_rows}
 pub use Rattle.snippet_strokes.specs.LineRows.{line_rows, own_rows}
-pub use Rattle.snippet_strokes.specs.PaintedStrokes.{first_glyph, mark_end, connectors_of, corners_of, labels_of}
-pub use Rattle.snippet_strokes.specs.Painting.{painting_order, stroke_role}
+pub use Rattle.snippet_strokes.specs.Painting.{painting_order}
 pub use Rattle.snippet_strokes.specs.Snippet.{gap_row, shown_rows}
 pub use Rattle.snippet_strokes.specs.SourceRows.{window_cells, bare_row}
 pub use Rattle.snippet_strokes.specs.StrokeRows.{IsElisionRow, bare_elision_row}
-pub use Rattle.snippet_strokes.specs.Strokes.{connector_of, corner_of, label_of, column_of, stroke_rows, is_uncut}
-pub use Rattle.snippet_strokes.specs.Writes.{Write, glyph_at, painted, stretch_of}
+pub use Rattle.snippet_strokes.specs.Strokes.{stroke_rows, is_uncut}
+pub use Rattle.snippet_strokes.specs.Writes.{Write, painted}
 pub use Rattle.snippet_strokes.specs.declared.snippet.LineView.{LineView}
 pub use Rattle.snippet_style.proofs.CellLemmas.{length-text_cells, length-chars_le, slice_index_or-written_inside, All-text_cells}
-pub use Rattle.snippet_style.proofs.StrokeLemmas.{EachBar, EachCode, each_bar, each_code}
 pub use Rattle.snippet_style.proofs.StyleLemmas.{cases_style}
 pub use Rattle.snippet_style.specs.Bounds.{max_usize}
 pub use Rattle.snippet_style.specs.Cell.{Cell, SPACE, text_cells, unlinked_cell}

@@ -1,25 +1,18 @@
 -- The rows of an annotated snippet's lines hold a line feed only where a label that isn't cut at it does, whatever is cut of them.
 use Rattle.std.proofs.lemmas.Grind.{common_steps}
-use Rattle.annotate_snippets.proofs.Common.{◌≡◌, ◌≢◌, ℕ, suc, ◌+◌, ◌-◌, ◌<◌, ◌==◌, ◌&&◌, nat_le, nat_lt, Bool, true, false}
-use Rattle.annotate_snippets.proofs.Common.{cond, Option, None, Some, List, [], ◌∷◌, ◌++◌, All, take, drop, map, length, fold, get_or, replicate}
-use Rattle.annotate_snippets.proofs.Common.{refl, sym, ap, subst, ◌∙◌, arith, inl, inr, cow_str_bytes, Contains, range_with_len, option_map, IsUtf8}
-use Rattle.annotate_snippets.proofs.Common.{cases_Bool, cases_lt, nat_tests, get_or_past, All-append, All-cons, All-contains, All-drop, All-filter}
-use Rattle.annotate_snippets.proofs.Common.{All-from_get_or, All-head, All-map, All-nil, All-replicate, All-tail, All-take, All-weaker, slice_split_none}
-use Rattle.annotate_snippets.proofs.Common.{IsUtf8-nil, cell_at, replaced_within, row_at, Source, source_lines, text_at, IsLine-at, IsUtf8-text_at, is_primary}
-use Rattle.annotate_snippets.proofs.Common.{Annotation, Snippet, Cell, SPACE, text_cells, unlinked_cell, written, EachBar, EachCode, each_bar, each_code}
-use Rattle.annotate_snippets.proofs.Common.{of_first, of_foot, strokes_of, placeholder_of, underline_role, closing_row, separator_row, DecorStyle, Ascii}
-use Rattle.annotate_snippets.proofs.Common.{Unicode, ElementStyle, LineNumber, IsOneLine, lines_at, lines_at-chars, made_parts, LineAnnotation}
-use Rattle.annotate_snippets.proofs.Common.{LineAnnotationType, Singleline, MultilineStart, MultilineEnd, MultilineLine, made-all, Bar, bars_apart}
+use Rattle.annotate_snippets.proofs.Common.{◌≡◌, ◌≢◌, ℕ, suc, ◌+◌, ◌-◌, ◌<◌, ◌==◌, ◌&&◌, nat_le, nat_lt, Bool, true, false, cond, Option, None, Some, List}
+use Rattle.annotate_snippets.proofs.Common.{[], ◌∷◌, ◌++◌, All, take, drop, map, length, fold, get_or, replicate, refl, sym, ap, subst, ◌∙◌, arith, inl, inr}
+use Rattle.annotate_snippets.proofs.Common.{cow_str_bytes, Contains, option_map, IsUtf8, cases_Bool, cases_lt, nat_tests, get_or_past, All-append, All-cons}
+use Rattle.annotate_snippets.proofs.Common.{All-contains, All-drop, All-filter, All-from_get_or, All-head, All-map, All-nil, All-replicate, All-tail}
+use Rattle.annotate_snippets.proofs.Common.{All-take, All-weaker, slice_split_none, IsUtf8-nil, cell_at, replaced_within, row_at, Source, source_lines}
+use Rattle.annotate_snippets.proofs.Common.{text_at, IsLine-at, IsUtf8-text_at, is_primary, Annotation, Snippet, Cell, SPACE, text_cells, unlinked_cell}
+use Rattle.annotate_snippets.proofs.Common.{written, list_any, strokes_of, placeholder_of, underline_role, closing_row, separator_row, DecorStyle, Ascii}
+use Rattle.annotate_snippets.proofs.Common.{Unicode, LineNumber, IsOneLine, lines_at, lines_at-chars, made_parts, LineAnnotation, made-all, Bar, bars_apart}
 use Rattle.annotate_snippets.proofs.Common.{ends_of_bars, overlapped, Stretch, cuts_of, cut_row, shifted, label_text, AreLineRows, AreOwnRows, StrokesPainted}
-use Rattle.annotate_snippets.proofs.Common.{painting_order, stroke_role, row_count, has_label, bare_row, connector_of, corner_of, bar_writes, begun_rows}
-use Rattle.annotate_snippets.proofs.Common.{corner_by, label_of, column_of, first_glyph, mark_end, connectors_of, corners_of, labels_of, is_whole_line}
-use Rattle.annotate_snippets.proofs.Common.{drawn_mark, drawn_strokes, marks_of, stems_of, label_write, stem_write, Write, glyph_at, painted, stretch_of}
-use Rattle.annotate_snippets.proofs.Common.{Layout, All-connector_of, All-stretch_of, All-label_of, entries_all, All-stem_of, All-stems_of, All-flat_map}
-use Rattle.annotate_snippets.proofs.Common.{painted-cell, PlacedEntry, Renderer, HasNoFeed, numbered_source, Elision, NamedRow, OfferedLine}
-use Rattle.annotate_snippets.proofs.Common.{Other, RemovedLine, RowName}
-use Rattle.annotate_snippets.proofs.Common.{SourceRow, cells_of, rows_below, AreRowsOf, IsRowOf, normalized_chars}
+use Rattle.annotate_snippets.proofs.Common.{painting_order, row_count, bare_row, begun_rows, is_whole_line, drawn_strokes, label_write, Write, painted}
+use Rattle.annotate_snippets.proofs.Common.{painted-cell, PlacedEntry, Renderer, HasNoFeed, numbered_source, Elision, NamedRow, OfferedLine, Other}
+use Rattle.annotate_snippets.proofs.Common.{RemovedLine, RowName, SourceRow, cells_of, rows_below, AreRowsOf, IsRowOf, normalized_chars, Layout, entries_all}
 use Rattle.std.proofs.Common.{chars}
-use Rattle.snippet_grid.specs.Layout.{bar_cell as bar_column}
 use Rattle.annotate_snippets.proofs.LineWords.{entries_on}
 use Rattle.annotate_snippets.proofs.DrawnRows.{AreRowsDrawn, IsLineDrawn, IsRowDrawn, open_after}
 use Rattle.annotate_snippets.proofs.OneLineTexts.{HoldsNoFeed, IsNoFeed, IsOneLineLabel, IsOneLineText}
@@ -29,7 +22,12 @@ use Rattle.snippet_grid.specs.Layout.{code_cell}
 use Rattle.snippet_labels.specs.Pieces.{broken_in, text_pieces}
 use Rattle.std.specs.Prelude.{if◌then◌else◌}
 use Rattle.snippet_labels.specs.Positions.{label_place, pieces_of}
+use Rattle.snippet_strokes.proofs.EachStroke.{each_corner, each_label, each_line, each_mark, each_stem_cell, each_stroke}
 use Rattle.snippet_strokes.proofs.PieceWrites.{own_pieces, shown_text}
+use Rattle.snippet_strokes.proofs.StrokeGlyphs.{IsAmong, of_glyph}
+use Rattle.snippet_strokes.specs.Labels.{stem_glyphs, stroke_glyphs}
+use Rattle.snippet_style.proofs.StrokeLemmas.{bars_among}
+use Rattle.snippet_model.proofs.RowLemmas.{each_fails}
 use Rattle.annotate_snippets.proofs.LabelLemmas.{tail_same}
 use Rattle.annotate_snippets.proofs.PathFeedLaws.{alone, cells_plain, norm-plain}
 use Rattle.annotate_snippets.proofs.SourceFeedLaws.{placeholder_plain, source_one_line}
@@ -56,25 +54,13 @@ line_plain source k utf8 =
 
 -- ---- glyphs
 
--- no glyph of the table is a line feed
-bars_plain : (decor : DecorStyle) (primary : Bool) → EachBar IsNoFeed (strokes_of decor primary)
-bars_plain Ascii true = each_bar (λ c. c == 10) false (strokes_of Ascii true) refl
-bars_plain Ascii false = each_bar (λ c. c == 10) false (strokes_of Ascii false) refl
-bars_plain Unicode true = each_bar (λ c. c == 10) false (strokes_of Unicode true) refl
-bars_plain Unicode false = each_bar (λ c. c == 10) false (strokes_of Unicode false) refl
+-- none of a table's that has no line feed in either decor is one
+plain_in : (table : DecorStyle → List ℕ) → list_any (λ c. c == 10) (table Ascii) ≡ false → list_any (λ c. c == 10) (table Unicode) ≡ false
+    → (decor : DecorStyle) (ch : ℕ) → IsAmong (table decor) ch → IsNoFeed ch
+plain_in table ascii unicode Ascii ch among = of_glyph IsNoFeed ch (table Ascii) (each_fails (λ c. c == 10) (table Ascii) ascii) among
+plain_in table ascii unicode Unicode ch among = of_glyph IsNoFeed ch (table Unicode) (each_fails (λ c. c == 10) (table Unicode) unicode) among
 
-code_plain : (decor : DecorStyle) (primary : Bool) → EachCode IsNoFeed (strokes_of decor primary)
-code_plain Ascii true = each_code (λ c. c == 10) false (strokes_of Ascii true) refl
-code_plain Ascii false = each_code (λ c. c == 10) false (strokes_of Ascii false) refl
-code_plain Unicode true = each_code (λ c. c == 10) false (strokes_of Unicode true) refl
-code_plain Unicode false = each_code (λ c. c == 10) false (strokes_of Unicode false) refl
-
--- one of two characters, neither of which is a line feed
-either_plain : (b : Bool) (x y : ℕ) → IsNoFeed x → IsNoFeed y → IsNoFeed (cond b x y)
-either_plain true x y one other = one
-either_plain false x y one other = other
-
--- nor does a piece of a label without line feeds hold one
+-- no piece of a label without line feeds holds one
 pieces_plain : (cut : Bool) (text : List ℕ) → (cut ≡ false → All IsNoFeed text) → All (All IsNoFeed) (text_pieces cut text)
 pieces_plain true text plain = parts_plain text
 pieces_plain false text plain = All-cons (All IsNoFeed) text [] (plain refl) (All-nil (All IsNoFeed))
@@ -85,97 +71,22 @@ pieces_plain false text plain = All-cons (All IsNoFeed) text [] (plain refl) (Al
 abbrev IsPlainWrite : Write → Type 0
 IsPlainWrite w = All IsNoFeed w.text
 
-stretch_plain : (row from to glyph : ℕ) (role : ElementStyle) → IsNoFeed glyph → All IsPlainWrite (stretch_of row from to glyph role)
-stretch_plain row from to glyph role plain =
-    All-stretch_of IsPlainWrite row from to glyph role (All-replicate IsNoFeed (to - from) glyph plain)
-
-column_plain : (start end cell glyph : ℕ) (role : ElementStyle) → IsNoFeed glyph → All IsPlainWrite (column_of start end cell glyph role)
-column_plain start end cell glyph role plain =
-    All-map IsPlainWrite (λ row. glyph_at row cell glyph role) (range_with_len start (end - start)) (λ k d within. alone glyph plain)
-
-module _ (layout : Layout) where
-  connectors_plain : (row : ℕ) (es : List PlacedEntry) → All IsPlainWrite (connectors_of layout row es)
-  connectors_plain row es =
-      All-flat_map IsPlainWrite (connector_of layout row) es (λ k d within. of_entry (get_or es k d))
-    where
-      of_entry : (e : PlacedEntry) → All IsPlainWrite (connector_of layout row e)
-      of_entry e =
-          All-connector_of IsPlainWrite layout row e (λ depth. stretch_plain (row + e.position) (layout.gutter + 3 + depth)
-          (layout.code + e.entry.start.display) _ (stroke_role e) (code_plain layout.decor (is_primary e.entry.kind)).connector)
-
-  corners_plain : (row count : ℕ) (es : List PlacedEntry) → All IsPlainWrite (corners_of layout row count es)
-  corners_plain row count es =
-      All-flat_map IsPlainWrite (corner_of layout row count) es (λ k d within. by_part (get_or es k d) (get_or es k d).entry.annotation_type)
-    where
-      bar : (e : PlacedEntry) (depth start end : ℕ) → All IsPlainWrite (bar_writes layout e depth start end)
-      bar e depth start end =
-          column_plain start end (bar_column layout depth) _ (stroke_role e) (bars_plain layout.decor (is_primary e.entry.kind)).bar
-
-      by_part : (e : PlacedEntry) (part : LineAnnotationType) → All IsPlainWrite (corner_by layout row count e part)
-      by_part e Singleline = All-nil IsPlainWrite
-      by_part e (MultilineStart depth) =
-          let at : ℕ = row + 1 + e.position in
-          let corner : ℕ = (strokes_of layout.decor (is_primary e.entry.kind)).bar_top in
-          let first : Write = glyph_at at (bar_column layout depth) corner (stroke_role e) in
-          All-cons IsPlainWrite first (bar_writes layout e depth (at + 1) count) (alone corner (bars_plain layout.decor (is_primary e.entry.kind)).bar_top)
-          (bar e depth (at + 1) count)
-      by_part e (MultilineEnd depth) =
-          let at : ℕ = row + 1 + e.position in
-          let corner : ℕ = (strokes_of layout.decor (is_primary e.entry.kind)).bar_bottom in
-          let last : Write = glyph_at at (bar_column layout depth) corner (stroke_role e) in
-          let one : All IsPlainWrite (last ∷ []) = All-cons IsPlainWrite last [] (alone corner (bars_plain layout.decor (is_primary e.entry.kind)).bar_bottom)
-          (All-nil IsPlainWrite) in
-          All-append IsPlainWrite (bar_writes layout e depth row at) (last ∷ []) (bar e depth row at) one
-      by_part e (MultilineLine depth) = All-nil IsPlainWrite
-
-  stems_plain : (row : ℕ) (es : List PlacedEntry) → All IsPlainWrite (stems_of layout row es)
-  stems_plain row es =
-      All-stems_of IsPlainWrite layout row es (λ k d within. All-stem_of IsPlainWrite layout row (get_or es k d) (λ below low. of_entry (get_or es k d) below))
-    where
-      of_entry : (e : PlacedEntry) (below : ℕ) → IsPlainWrite (stem_write layout row e below)
-      of_entry e below =
-          let primary : Bool = is_primary e.entry.kind in
-          alone _ (either_plain (below == e.position) _ _ (of_foot IsNoFeed e.entry.annotation_type layout.decor primary (has_label e)
-          (code_plain layout.decor primary).stems) (code_plain layout.decor primary).stems.stem)
-
-  labels_plain : (row : ℕ) (es : List PlacedEntry)
-      → ((k : ℕ) (d : PlacedEntry) (n : ℕ) → k < length es → n < length (pieces_of (get_or es k d)) → IsPlainWrite (label_write layout row (get_or es k d) n))
-      → All IsPlainWrite (labels_of layout row es)
-  labels_plain row es plain =
-      All-flat_map IsPlainWrite (label_of layout row) es (λ k d within.
-      All-label_of IsPlainWrite layout row (get_or es k d) (λ n inside some. plain k d n within inside))
-
-  marks_plain : (row : ℕ) (es : List PlacedEntry) → All IsPlainWrite (marks_of layout row es)
-  marks_plain row es =
-      All-flat_map IsPlainWrite (drawn_mark layout row) es (λ k d within. of_entry (get_or es k d))
-    where
-      of_entry : (e : PlacedEntry) → All IsPlainWrite (drawn_mark layout row e)
-      of_entry e =
-          let from : ℕ = layout.code + e.entry.start.display in
-          let to : ℕ = layout.code + mark_end e in
-          let line : ℕ = (strokes_of layout.decor (is_primary e.entry.kind)).underline in
-          let first : Write = glyph_at row from (first_glyph layout.decor e) (stroke_role e) in
-          let rest : List Write = stretch_of row (from + 1) to line (stroke_role e) in
-          elim (nat_lt from to) as (λ b. All IsPlainWrite (cond b (first ∷ rest) [])) [
-            | true ↦ All-cons IsPlainWrite first rest (alone _ (of_first IsNoFeed layout.decor e (code_plain layout.decor (is_primary e.entry.kind))))
-                (stretch_plain row (from + 1) to line (stroke_role e) (code_plain layout.decor (is_primary e.entry.kind)).underline)
-            | false ↦ All-nil IsPlainWrite
-          ]
-
-  -- no stroke of a line is a line feed, where no label holds one
-  strokes_plain : (row count : ℕ) (placed order : List PlacedEntry)
-      → ((k : ℕ) (d : PlacedEntry) (n : ℕ) → k < length placed → n < length (pieces_of (get_or placed k d))
-      → IsPlainWrite (label_write layout (row + 1) (get_or placed k d) n))
-      → All IsPlainWrite (drawn_strokes layout row count placed order)
-  strokes_plain row count placed order plain =
-      let connectors : List Write = connectors_of layout (row + 1) placed in
-      let corners : List Write = corners_of layout row count placed in
-      let stems : List Write = stems_of layout (row + 1) placed in
-      let labels : List Write = labels_of layout (row + 1) placed in
-      let beside = All-append IsPlainWrite connectors corners (connectors_plain (row + 1) placed) (corners_plain row count placed) in
-      let below = All-append IsPlainWrite (connectors ++ corners) stems beside (stems_plain (row + 1) placed) in
-      let named = All-append IsPlainWrite (connectors ++ corners ++ stems) labels below (labels_plain (row + 1) placed plain) in
-      All-append IsPlainWrite (connectors ++ corners ++ stems ++ labels) (marks_of layout (row + 1) order) named (marks_plain (row + 1) order)
+-- no stroke of a line is a line feed, where no label holds one
+strokes_plain : (layout : Layout) (row count : ℕ) (placed order : List PlacedEntry)
+    → ((k : ℕ) (d : PlacedEntry) (n : ℕ) → k < length placed → n < length (pieces_of (get_or placed k d))
+    → IsPlainWrite (label_write layout (row + 1) (get_or placed k d) n))
+    → All IsPlainWrite (drawn_strokes layout row count placed order)
+strokes_plain layout row count placed order plain =
+    each_stroke IsPlainWrite layout row count placed order
+    (each_line IsPlainWrite layout (row + 1) placed (λ k d within depth _. All-replicate IsNoFeed _ _ (plain_in bar_glyphs refl refl layout.decor _
+    (bars_among layout.decor (is_primary (get_or placed k d).entry.kind)).connector)))
+    (each_corner IsPlainWrite layout row count placed (λ k d within depth r glyph _ _ _ _ among.
+    alone glyph (plain_in bar_glyphs refl refl layout.decor glyph among)))
+    (each_stem_cell IsPlainWrite layout (row + 1) placed (λ k d within below glyph _ among.
+    alone glyph (plain_in stem_glyphs refl refl layout.decor glyph among)))
+    (each_label IsPlainWrite layout (row + 1) placed (λ k d within n inside _. plain k d n within inside))
+    (each_mark IsPlainWrite layout (row + 1) order (λ k d within cell n glyph _ _ among.
+    All-replicate IsNoFeed n glyph (plain_in stroke_glyphs refl refl layout.decor glyph among)))
 
 -- such writes leave no line feed in a cell
 painted_plain : (ws : List Write) (rows : List (List Cell)) (r c : ℕ) → HoldsNoFeed (cell_at rows r c) → All IsPlainWrite ws
@@ -227,7 +138,8 @@ row_barred layout [] row plain = plain
 row_barred layout (bar ∷ bars) row plain =
     let at : ℕ = layout.gutter + 2 + bar.depth in
     let part : Cell = bar_beside layout bar in
-    let one : HasNoFeed (part ∷ []) = All-cons HoldsNoFeed part [] (bars_plain layout.decor bar.primary).bar (All-nil HoldsNoFeed) in
+    let one : HasNoFeed (part ∷ []) = All-cons HoldsNoFeed part []
+    (plain_in bar_glyphs refl refl layout.decor _ (bars_among layout.decor bar.primary).bar) (All-nil HoldsNoFeed) in
     row_barred layout bars (written SPACE row at (part ∷ [])) (row_written row at (part ∷ []) plain one)
 
 -- a cell of rows without line feeds, or a space beside them

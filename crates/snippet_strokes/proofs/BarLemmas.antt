@@ -1,20 +1,19 @@
 -- What drawing bars keeps.
-use Rattle.snippet_strokes.proofs.Common.{◌≡◌, ℕ, ◌+◌, ◌-◌, ◌<◌, ◌≤◌, ◌==◌, ◌&&◌, max, true, false, Bool, None, List, []}
-use Rattle.snippet_strokes.proofs.Common.{◌∷◌, length, map, take, drop, get_or, refl, sym, ap, ◌∙◌, subst, arith, inl, inr, All, list_any}
-use Rattle.snippet_strokes.proofs.Common.{slice_index_or, cases_lt, get_or-map, length-map, get_or_default, get_or_past, get_or-drop, get_or-take, length-drop}
-use Rattle.snippet_strokes.proofs.Common.{length-take, length-take-le, ext_get_or, drop-drop, All-cons, All-from_get_or, All-get_or, All-head, All-nil}
-use Rattle.snippet_strokes.proofs.Common.{All-tail, LineAnnotation, AreReplaced, DecorStyle, bar_glyphs, placeholder_of, row_at, cell_at, cells_written}
-use Rattle.snippet_strokes.proofs.Common.{WritesCells-cells_written, row_at-cells_written_same, Cell, SPACE, row_text, is_listed, Layout, BarStroke, Top, Solid}
-use Rattle.snippet_strokes.proofs.Common.{Dotted, IsBarCell, IsMarkCell, is_mark_role, IsFreeCell, bars_among, HasBarRoom, StandsBeside, bar_glyph}
-use Rattle.snippet_strokes.proofs.Common.{bar_cell_part, WritesCells, OpenBar, ◌||◌, is_whitespace, list_all, false≢true, LineAnnotationType, Singleline}
+use Rattle.snippet_strokes.proofs.Common.{◌≡◌, ℕ, ◌+◌, ◌-◌, ◌<◌, ◌≤◌, ◌==◌, ◌&&◌, max, true, false, Bool, None, List, [], ◌∷◌, length, map, take, drop}
+use Rattle.snippet_strokes.proofs.Common.{get_or, refl, sym, ap, ◌∙◌, subst, arith, inl, inr, All, list_any, slice_index_or, cases_lt, get_or-map, length-map}
+use Rattle.snippet_strokes.proofs.Common.{get_or_default, get_or_past, get_or-drop, get_or-take, length-drop, length-take, length-take-le, ext_get_or}
+use Rattle.snippet_strokes.proofs.Common.{drop-drop, All-cons, All-from_get_or, All-get_or, All-head, All-nil, All-tail, LineAnnotation, AreReplaced}
+use Rattle.snippet_strokes.proofs.Common.{DecorStyle, bar_glyphs, placeholder_of, row_at, cell_at, cells_written, WritesCells-cells_written}
+use Rattle.snippet_strokes.proofs.Common.{row_at-cells_written_same, Cell, SPACE, row_text, is_listed, Layout, BarStroke, Top, Solid, Dotted, IsBarCell}
+use Rattle.snippet_strokes.proofs.Common.{IsMarkCell, is_mark_role, IsFreeCell, bars_among, HasBarRoom, StandsBeside, bar_glyph, bar_cell_part, WritesCells}
+use Rattle.snippet_strokes.proofs.Common.{OpenBar, unlinked_cell, LineNumber, ◌||◌, is_whitespace, list_all, false≢true, LineAnnotationType, Singleline}
 use Rattle.snippet_strokes.proofs.Common.{MultilineStart, MultilineEnd, MultilineLine, is_bar, shifted, label_text, is_beside, is_whole_line, is_start_part}
 use Rattle.snippet_strokes.proofs.Common.{rules}
 use Rattle.snippet_strokes.proofs.SeenRows.{are_plain, wide_entries, AreSeen, AreStrokes, IsBeside, IsStrokeRow, ShowsMarks, HasNoBars}
-use Rattle.snippet_strokes.proofs.StrokeGlyphs.{free_bars}
 use Rattle.snippet_strokes.proofs.CellLemmas.{with_parts, with_bar}
 use Rattle.snippet_strokes.proofs.DrawnCells.{BarsDrawn}
 use Rattle.snippet_strokes.proofs.LabelPlaces.{LabelsStand-kept, LabelsStand-none}
-use Rattle.snippet_strokes.proofs.DrawLemmas.{written_cell}
+use Rattle.snippet_strokes.proofs.DrawLemmas.{free_bar, written_cell}
 use Rattle.snippet_strokes.proofs.SeenLabels.{IsLabelledAtEnd}
 
 -- each part of a bar is one of the glyphs that bars are drawn with, and not listed
@@ -25,9 +24,8 @@ bar_glyph_known Dotted decor primary = (bars_among decor primary).elided_bar
 
 -- the glyph of a bar is no listed character
 pub bar_glyph_free : (stroke : BarStroke) (decor : DecorStyle) (primary : Bool) → is_listed (bar_glyph stroke decor primary) ≡ false
-bar_glyph_free Top decor primary = (free_bars decor primary).whole_line
-bar_glyph_free Solid decor primary = (free_bars decor primary).bar
-bar_glyph_free Dotted decor primary = (free_bars decor primary).elided_bar
+bar_glyph_free stroke decor primary =
+    (free_bar decor (unlinked_cell LineNumber (bar_glyph stroke decor primary)) (record { glyph = bar_glyph_known stroke decor primary; link = refl })).0
 
 -- a space without a link is a cell that a bar may have
 pub bar_space : (decor : DecorStyle) (cell : Cell) → cell.ch ≡ 32 → cell.link ≡ None → IsBarCell decor cell

@@ -14,12 +14,12 @@ pub use Rattle.snippet_grid.specs.Print.{row_text}
 pub use Rattle.snippet_grid.specs.StyledChars.{cell_of}
 pub use Rattle.snippet_grid.specs.declared.styled_char.StyledChar.{StyledChar}
 pub use Rattle.snippet_labels.proofs.CharLemmas.{norm_short, is_empty-chars}
-pub use Rattle.snippet_labels.proofs.PlacedLemmas.{label_text, crowds, flipped, label_chars, labelled, placed_at, entries_all, placed_of-at, ArePlaced-from}
+pub use Rattle.snippet_labels.proofs.PlacedLemmas.{label_text, crowds, label_chars, labelled, placed_at, entries_all, placed_of-at, ArePlaced-from}
 pub use Rattle.snippet_labels.proofs.PlacedLemmas.{is_start}
 pub use Rattle.snippet_labels.proofs.PlacedLemmas.{line_positions-changed, look_counts-changed}
 pub use Rattle.snippet_labels.proofs.RowLemmas.{sorted_same, stable_same}
 pub use Rattle.snippet_labels.specs.PlacedEntries.{shifted, label_role, is_end_part, entry_width}
-pub use Rattle.snippet_labels.specs.Pieces.{LabelPieces, beside_column, broken, label_at, label_of_entry, label_pieces, label_width, pieces_width, shows_any}
+pub use Rattle.snippet_labels.specs.Pieces.{LabelPieces, beside_column, broken, label_at, label_pieces, label_width, pieces_width, shows_any}
 pub use Rattle.snippet_labels.specs.Pieces.{text_pieces}
 pub use Rattle.snippet_labels.specs.Placing.{ArePlaced, HasPlace, HasItsLabel, unplaced, IsFromRight, StandsLeft}
 pub use Rattle.snippet_labels.specs.Positions.{has_label, has_stem, label_place, pieces_of, is_start_part, takes_space, placed_of, line_positions, do_overlap}
@@ -79,10 +79,10 @@ pub use Rattle.snippet_strokes.specs.declared.bars.BarStroke.TheVariants.{Solid,
 pub use Rattle.snippet_strokes.specs.declared.bars.OpenBar.{OpenBar}
 pub use Rattle.snippet_strokes.specs.declared.snippet.LineView.{LineView}
 pub use Rattle.snippet_style.proofs.CellLemmas.{length-text_cells, length-written, slice_index_or-written_before, slice_index_or-written_after}
-pub use Rattle.snippet_style.proofs.CellLemmas.{slice_index_or-written_inside, take-written_past, drop-written, length-chars_le, slice_index_or-text_cells}
+pub use Rattle.snippet_style.proofs.CellLemmas.{slice_index_or-written_inside, take-written_past, drop-written, slice_index_or-text_cells}
 pub use Rattle.snippet_style.proofs.CellLemmas.{text_cells-append}
 pub use Rattle.snippet_style.proofs.RowLemmas.{led_before, closing_some}
-pub use Rattle.snippet_style.proofs.StrokeLemmas.{bars_among, EachCode, each_code, EachBar, EachStem, each_bar, each_stem}
+pub use Rattle.snippet_style.proofs.StrokeLemmas.{bars_among, EachCode, each_code, EachStem, each_stem}
 pub use Rattle.snippet_style.specs.Bounds.{FitsRow}
 pub use Rattle.snippet_style.specs.Cell.{Cell, SPACE, text_cells, unlinked_cell, gives_way}
 unfoldable pub use Rattle.snippet_style.specs.Cell.{written}
@@ -109,10 +109,9 @@ pub use Rattle.snippet_window.specs.declared.margin.Margin.{Margin}
 pub use Rattle.std.proofs.Common.{◌≡◌, ◌∙◌, ap, arith, length, sym, ℕ, List, ◌+◌, [], ◌∷◌, ◌<◌, ◌++◌, ◌-◌, refl, ◌≤◌}
 pub use Rattle.std.proofs.Common.{false, true, All, map, Bool, subst, inl, inr, take, get_or, replicate, ◌==◌, drop, cond, suc, ◌&&◌, zero, nat_lt, not}
 pub use Rattle.std.proofs.Common.{◌||◌, None, ◌^◌, max, ◌≢◌, Some, Option, nat_le, Contains, ◌⊎◌, fold, reverse, IfSome, IsUtf8, filter}
-pub use Rattle.std.proofs.Common.{string_bytes, count_by, nat_cmp, codes, set, is_lt, encode_utf8_all, add-zero, min, ltb, rules}
+pub use Rattle.std.proofs.Common.{string_bytes, count_by, nat_cmp, codes, set, is_lt, add-zero, min, ltb, rules}
 pub use Rattle.std.proofs.Math.Bool.{and-false, and-true}
 pub use Rattle.std.proofs.Math.Seq.{drop-append_seam, get_or-append_seam, set-append_seam}
-pub use Rattle.std.proofs.Math.Utf8.{scalars}
 pub use Rattle.std.proofs.lemmas.Bool.{cases_lt, cases_Bool, cases_eq, false≢true, and_parts, eq-eqb, cond-false, cond-true, or_parts, eqb-true, both_ways}
 pub use Rattle.std.proofs.lemmas.Bool.{and_from, and_left, and_right, le-leb, lt-leb, false_from_ne_true, not-true, leb-true, ltb-true, le-ltb, lt-ltb}
 pub use Rattle.std.proofs.lemmas.Bool.Decides.{nat_tests}
@@ -137,7 +136,7 @@ pub use Rattle.std.proofs.lemmas.List.Sorted.{Contains-permutation, sum_by-IsPer
 pub use Rattle.std.proofs.lemmas.List.Sorted.{IsPermutation-middle, IsPermutation-keeps, IsPermutation-swap, answers_always}
 pub use Rattle.std.proofs.lemmas.List.Sums.{fold-append, sum_by-cons, AllPass-from_list_all}
 pub use Rattle.std.proofs.lemmas.Result.{on_ok_weaker, IfOk-weaker}
-pub use Rattle.std.proofs.lemmas.Str.{chars-nil, chars-IsAscii, chars-encodes, scalars-chars, chars_from_encodes, IsUtf8-string_bytes}
+pub use Rattle.std.proofs.lemmas.Str.{chars-nil, chars-IsAscii, chars_from_encodes, IsUtf8-string_bytes}
 pub use Rattle.std.proofs.lemmas.Str.{IsCharBoundary-from_ascii}
 pub use Rattle.std.proofs.lemmas.Str.Ascii.{IsAscii-from_all}
 pub use Rattle.std.specs.Char.{is_whitespace}

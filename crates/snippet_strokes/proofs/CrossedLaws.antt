@@ -1,20 +1,16 @@
 -- Laws of the cells of bars in all rows of a line: where no bar has its place nothing stands but lines that lead from other bars.
-use Rattle.snippet_strokes.proofs.Common.{◌≡◌, ◌≢◌, ℕ, zero, suc, ◌+◌, ◌-◌, ◌<◌, Bool, true, false, cond, List, [], ◌∷◌}
-use Rattle.snippet_strokes.proofs.Common.{◌++◌, All, map, length, replicate, take, get_or, ap, ◌∙◌, refl, sym, subst, arith, inl, inr, cases_Bool}
-use Rattle.snippet_strokes.proofs.Common.{cases_lt, get_or-map, get_or_past, length-map, All-append, All-cons, All-filter, All-map, All-nil, All-replicate}
-use Rattle.snippet_strokes.proofs.Common.{All-weaker, Cell, SPACE, unlinked_cell, strokes_of, closing_row, separator_row, cell_at, row_at, is_primary}
+use Rattle.snippet_strokes.proofs.Common.{◌≡◌, ◌≢◌, ℕ, ◌+◌, ◌-◌, ◌<◌, Bool, true, false, cond, List, [], ◌∷◌, ◌++◌, All, map, length, replicate, get_or, ap}
+use Rattle.snippet_strokes.proofs.Common.{◌∙◌, refl, sym, subst, arith, inl, inr, cases_Bool, cases_lt, get_or-map, get_or_past, length-map, All-append}
+use Rattle.snippet_strokes.proofs.Common.{All-cons, All-filter, All-map, All-nil, All-replicate, Cell, SPACE, closing_row, separator_row, cell_at, is_primary}
 use Rattle.snippet_strokes.proofs.Common.{LineAnnotation, Layout, PlacedEntry, shifted, painting_order, stroke_role, bare_row, Write, painted, entries_all}
-use Rattle.snippet_strokes.proofs.Common.{Solid, Top, Bar, bars_apart, ends_of_bars, row_count, IsNoBar, connector_of, corner_of, connectors_of, corners_of}
-use Rattle.snippet_strokes.proofs.Common.{labels_of, has_depth, is_whole_line, stems_of, slice_index_or, and_right, ext_get_or, list_any_none, ElementStyle}
-use Rattle.snippet_strokes.proofs.Common.{row_text, highlights, rules}
+use Rattle.snippet_strokes.proofs.Common.{Top, Bar, bars_apart, ends_of_bars, row_count, IsNoBar, has_depth, is_whole_line, slice_index_or, and_right}
+use Rattle.snippet_strokes.proofs.Common.{ext_get_or, list_any_none, ElementStyle, row_text, highlights, rules}
 use Rattle.std.specs.Prelude.{not}
-use Rattle.snippet_strokes.proofs.CellLemmas.{with_parts, drawn_strokes, marks_of, begun_rows, role_in_source}
-use Rattle.snippet_strokes.proofs.WriteLaws.{AreLineRows, AreOwnRows, StrokesPainted, All-flat_map, painted-cell, IsHighlighted}
-use Rattle.snippet_strokes.proofs.LineFromValue.{rows_cut}
+use Rattle.snippet_strokes.proofs.CellLemmas.{with_parts, drawn_strokes, begun_rows, role_in_source}
+use Rattle.snippet_strokes.proofs.WriteLaws.{AreLineRows, AreOwnRows, StrokesPainted, painted-cell, IsHighlighted}
 use Rattle.snippet_strokes.proofs.Reach.{Reaches, cell_of_write}
-use Rattle.snippet_strokes.proofs.BarWrites.{All-connector_of, All-stretch_of}
-use Rattle.snippet_strokes.proofs.EntryBarLaws.{is_at, labels_right, marks_right, part_leaves, stems_right}
-use Rattle.snippet_strokes.proofs.EndBarLaws.{left_same, passed_by}
+use Rattle.snippet_strokes.proofs.EachStroke.{apart_at, each_corner, each_label, each_line, each_mark, each_stem_cell, each_stroke, glyphs_leave, is_at}
+use Rattle.snippet_strokes.proofs.EndBarLaws.{own_cell, passed_by, strokes_left}
 use Rattle.snippet_strokes.proofs.RowLemmas.{bare_row_right}
 use Rattle.snippet_strokes.proofs.SourceCellLaws.{none_has}
 
@@ -28,49 +24,20 @@ module _ (layout : Layout) (depth : ℕ) (some : 0 < depth) (room : layout.gutte
   abbrev NoBar : Cell → Type 0
   NoBar = IsNoBar layout.decor
 
-  -- a write leaves no bar in that cell of a row
-  abbrev Clear : ℕ → Write → Type 0
-  Clear r w = Reaches r cell w → NoBar (cell_of_write w cell)
-
-  -- one that leaves the cell doesn't
-  away : (r : ℕ) (ws : List Write) → All (λ w. Reaches r cell w → ⊥) ws → All (Clear r) ws
-  away r ws leave = All-weaker (λ w. Reaches r cell w → ⊥) (Clear r) (λ w beside there. absurd (beside there)) ws leave
-
-  -- nor does a line to a bar
-  lines_clear : (r : ℕ) (placed : List PlacedEntry) → All (Clear r) (connectors_of layout 1 placed)
-  lines_clear r placed =
-      All-flat_map (Clear r) (connector_of layout 1) placed (λ k d within. line (get_or placed k d))
-    where
-      line : (e : PlacedEntry) → All (Clear r) (connector_of layout 1 e)
-      line e =
-          let primary : Bool = is_primary e.entry.kind in
-          let glyph : ℕ = (strokes_of layout.decor primary).connector in
-          let to : ℕ = layout.code + e.entry.start.display in
-          let S : ℕ → Type 0 = λ ch. NoBar (unlinked_cell (stroke_role e) ch) in
-          All-connector_of (Clear r) layout 1 e (λ deep.
-          let from : ℕ = layout.gutter + 3 + deep in
-          All-stretch_of (Clear r) (1 + e.position) from to glyph (stroke_role e) (λ there.
-          All-replicate S (to - from) glyph (inr (primary, refl)) (cell - from) 0 (omega (arith, there.from, there.to))))
-
-  -- so the strokes of a line leave none, if none was there and no entry has this depth
+  -- the strokes of a line leave no bar there, if none was there and no entry has this depth: nothing but lines to bars
   strokes_clear : (count : ℕ) (placed order : List PlacedEntry) (begun : List (List Cell)) (r : ℕ)
       → All (λ (e : PlacedEntry). is_at depth e.entry.annotation_type ≡ false) placed → NoBar (cell_at begun r cell)
       → NoBar (cell_at (painted (drawn_strokes layout 0 count placed order) begun) r cell)
   strokes_clear count placed order begun r others before =
-      let one : List Write = connectors_of layout 1 placed in
-      let two : List Write = corners_of layout 0 count placed in
-      let three : List Write = stems_of layout 1 placed in
-      let four : List Write = labels_of layout 1 placed in
-      let five : List Write = marks_of layout 1 order in
-      let C : Write → Type 0 = Clear r in
-      let corners : All C two = away r two (All-flat_map (λ w. Reaches r cell w → ⊥) (corner_of layout 0 count) placed (λ k d within.
-      part_leaves layout bar room count placed order begun r (get_or placed k d) (get_or placed k d).entry.annotation_type (others k d within))) in
-      let barred : All C (one ++ two) = All-append C one two (lines_clear r placed) corners in
-      let hung : All C (one ++ two ++ three) = All-append C (one ++ two) three barred (away r three (stems_right layout bar room count placed order begun r)) in
-      let named : All C (one ++ two ++ three ++ four) = All-append C (one ++ two ++ three) four hung
-      (away r four (labels_right layout bar room count placed order begun r)) in
-      painted-cell NoBar (drawn_strokes layout 0 count placed order) begun r cell before
-      (All-append C (one ++ two ++ three ++ four) five named (away r five (marks_right layout bar room count placed order begun r)))
+      let Clear : Write → Type 0 = λ w. Reaches r cell w → NoBar (cell_of_write w cell) in
+      painted-cell NoBar (drawn_strokes layout 0 count placed order) begun r cell before (each_stroke Clear layout 0 count placed order
+      (each_line Clear layout 1 placed (λ k d within deep _. glyphs_leave NoBar r cell _ _ _ _ (stroke_role (get_or placed k d))
+      (inr (is_primary (get_or placed k d).entry.kind, refl))))
+      (each_corner Clear layout 0 count placed (λ k d within deep _ _ at _ _ _ _ there.
+      absurd (apart_at deep depth (get_or placed k d).entry.annotation_type at (others k d within) (omega (arith, there.from, there.to)))))
+      (each_stem_cell Clear layout 1 placed (λ k d within _ _ _ _ there. absurd (omega (arith, there.from, room))))
+      (each_label Clear layout 1 placed (λ k d within _ _ _ there. absurd (omega (arith, there.from, room))))
+      (each_mark Clear layout 1 order (λ k d within _ _ _ right _ _ there. absurd (omega (arith, right, there.from, room)))))
 
   -- ---- rows
 
@@ -105,16 +72,7 @@ module _ (layout : Layout) (depth : ℕ) (some : 0 < depth) (room : layout.gutte
         (All-map Other (shifted dropped) es (none_has depth es others)) in
         let clear = strokes_clear (row_count placed + 1) placed (painting_order placed) begun r none
         (spaces_in begun (begun_spaces closes (row_count placed) source blank) r) in
-        let cut = rows_cut layout width closes (map (shifted dropped) es) source rows drawn in
-        subst NoBar (sym (ap at cut.new_is ∙ uncut r drawn.top drawn.marks cut.source_now cut.marks_now drawn.lower cut.source_cut.left
-        cut.marks_cut.left ∙ ap at drawn.painted_are)) clear
-      where
-        uncut : (i : ℕ) (top marks top_now marks_now : List Cell) (lower : List (List Cell)) → take layout.code top_now ≡ take layout.code top
-            → take layout.code marks_now ≡ take layout.code marks
-            → cell_at (top_now ∷ marks_now ∷ lower) i cell ≡ cell_at (top ∷ marks ∷ lower) i cell
-        uncut zero top marks top_now marks_now lower first second = left_same layout.code cell top_now top room first
-        uncut (suc zero) top marks top_now marks_now lower first second = left_same layout.code cell marks_now marks room second
-        uncut (suc (suc i)) top marks top_now marks_now lower first second = refl
+        subst NoBar (sym (strokes_left layout width closes (map (shifted dropped) es) source rows drawn r cell room)) clear
 
     own_clear : (rows : List (List Cell)) → AreOwnRows layout width closes text dropped es source rows → (r : ℕ) → NoBar (cell_at rows r cell)
     own_clear rows are r =
@@ -141,15 +99,9 @@ module _ (layout : Layout) (depth : ℕ) (some : 0 < depth) (room : layout.gutte
     pub line_clear : (open_bars : List Bar) (rows : List (List Cell)) → AreLineRows layout width closes text dropped open_bars es source rows
         → All (λ b. b.depth ≢ depth) open_bars → (i : ℕ) → i < length rows → IsNoBar layout.decor (cell_at rows i (layout.gutter + 2 + depth))
     line_clear open_bars rows drawn open_others i within =
-        let past : List Bar = bars_apart open_bars (ends_of_bars es) in
-        let rule : List Cell → List Cell = with_parts layout Solid past in
-        let as_many : length rows ≡ length drawn.own = ap length drawn.rows_are ∙ length-map drawn.own rule in
-        let row : row_at rows i ≡ rule (row_at drawn.own i) = ap (λ rs. row_at rs i) drawn.rows_are
-        ∙ get_or-map rule drawn.own i [] [] (omega (arith, within, as_many)) in
-        let apart : All (λ b. b.depth ≢ depth) past = All-filter (λ (b : Bar). not (has_depth (ends_of_bars es) b.depth)) (λ b.
-        b.depth ≢ depth) open_bars open_others in
-        subst NoBar (sym (ap (λ cells. get_or cells cell SPACE) row ∙ passed_by layout bar room Solid past (row_at drawn.own i) apart))
-        (own_clear drawn.own drawn.are i)
+        let apart : All (λ b. b.depth ≢ depth) (bars_apart open_bars (ends_of_bars es)) =
+        All-filter (λ (b : Bar). not (has_depth (ends_of_bars es) b.depth)) (λ b. b.depth ≢ depth) open_bars open_others in
+        subst NoBar (sym (own_cell layout bar room drawn apart i within)) (own_clear drawn.own drawn.are i)
 
 -- What highlighting leaves in a source row.
 -- highlighting leaves the row's text as it was

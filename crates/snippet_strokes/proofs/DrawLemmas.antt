@@ -1,10 +1,10 @@
 -- Drawing in rows from one on, and in cells from one on.
-use Rattle.snippet_strokes.proofs.Common.{◌≡◌, ℕ, ◌+◌, ◌-◌, ◌<◌, ◌≤◌, ◌==◌, ◌||◌, Bool, true, false, List, [], ◌∷◌}
-use Rattle.snippet_strokes.proofs.Common.{length, drop, get_or, refl, sym, ap, ◌∙◌, subst, arith, inl, inr, All, cases_lt, cases_eq, cell_at, row_at}
-use Rattle.snippet_strokes.proofs.Common.{WritesCells, Cell, SPACE, unlinked_cell, bars_among, bar_glyphs, strokes_of, DecorStyle, Ascii, Unicode, ElementStyle}
-use Rattle.snippet_strokes.proofs.Common.{list_any, nat_tests, length-drop, get_or-drop, ext_get_or, All-head, All-tail, All-cons, All-nil, is_listed, Layout}
-use Rattle.snippet_strokes.proofs.Common.{IsBarCell, IsFreeCell, each_fails, rules}
+use Rattle.snippet_strokes.proofs.Common.{◌≡◌, ℕ, ◌+◌, ◌-◌, ◌<◌, ◌≤◌, ◌==◌, Bool, true, false, List, [], ◌∷◌, length, drop, get_or, refl, sym, ap, ◌∙◌, subst}
+use Rattle.snippet_strokes.proofs.Common.{arith, inl, inr, All, cases_lt, cases_eq, cell_at, row_at, WritesCells, Cell, SPACE, unlinked_cell, bars_among}
+use Rattle.snippet_strokes.proofs.Common.{bar_glyphs, strokes_of, DecorStyle, Ascii, Unicode, ElementStyle, list_any, length-drop, get_or-drop, ext_get_or}
+use Rattle.snippet_strokes.proofs.Common.{All-cons, All-nil, is_listed, Layout, IsBarCell, IsFreeCell, each_fails, rules}
 use Rattle.snippet_strokes.proofs.DrawnCells.{DrawsFrom, KeepsBarCells, DrawsBarCells}
+use Rattle.snippet_strokes.proofs.StrokeGlyphs.{of_glyph}
 
 -- what is drawn one after another
 pub DrawsFrom-more : (row from : ℕ) (old mid new : List (List Cell)) → DrawsFrom row from old mid → DrawsFrom row from mid new → DrawsFrom row from old new
@@ -68,19 +68,6 @@ KeepsBarCells-writes layout old new row at cells writes all r c left is =
     ]
 
 -- no part of a bar is a listed character
-in_glyphs : (ch : ℕ) (glyphs : List ℕ) → All (λ g. is_listed g ≡ false) glyphs → list_any (λ g. ch == g) glyphs ≡ true → is_listed ch ≡ false
-in_glyphs ch [] free is = cc is
-in_glyphs ch (g ∷ glyphs) free is =
-    elim (cases_eq ch g) [
-      | inl here ↦ subst (λ x. is_listed x ≡ false) (sym here) (All-head (λ x. is_listed x ≡ false) g glyphs free)
-      | inr other ↦
-          in_glyphs ch glyphs (All-tail (λ x. is_listed x ≡ false) g glyphs free)
-          (sym (ap (λ b. b || list_any (λ x. ch == x) glyphs) (unequal ch g other)) ∙ is)
-    ]
-  where
-    unequal : (m n : ℕ) → (m ≡ n → ⊥) → (m == n) ≡ false
-    unequal m n other = grind (arith, nat_tests, other)
-
 free_bar_glyphs : (decor : DecorStyle) → list_any is_listed (bar_glyphs decor) ≡ false
 free_bar_glyphs Ascii = refl
 free_bar_glyphs Unicode = refl
@@ -88,7 +75,7 @@ free_bar_glyphs Unicode = refl
 -- a cell that a bar may have is free
 pub free_bar : (decor : DecorStyle) (cell : Cell) → IsBarCell decor cell → IsFreeCell cell
 free_bar decor cell is =
-    (in_glyphs cell.ch (bar_glyphs decor) (each_fails is_listed (bar_glyphs decor) (free_bar_glyphs decor)) is.glyph, is.link)
+    (of_glyph (λ ch. is_listed ch ≡ false) cell.ch (bar_glyphs decor) (each_fails is_listed (bar_glyphs decor) (free_bar_glyphs decor)) is.glyph, is.link)
 
 -- the space is one, and so are the glyphs that bars are drawn with
 pub bar_space : (decor : DecorStyle) → IsBarCell decor SPACE
@@ -100,24 +87,6 @@ pub bar_horizontal : (decor : DecorStyle) (primary : Bool) (role : ElementStyle)
     → IsBarCell decor (unlinked_cell role ch)
 bar_horizontal decor primary role ch is =
     record { glyph = subst (λ x. list_any (λ g. x == g) (bar_glyphs decor) ≡ true) (sym is) (bars_among decor primary).connector; link = refl }
-
--- the vertical stroke of a bar is a cell that a bar may have
-pub bar_vertical : (decor : DecorStyle) (primary : Bool) (role : ElementStyle) (ch : ℕ) → ch ≡ (strokes_of decor primary).bar
-    → IsBarCell decor (unlinked_cell role ch)
-bar_vertical decor primary role ch is =
-    record { glyph = subst (λ x. list_any (λ g. x == g) (bar_glyphs decor) ≡ true) (sym is) (bars_among decor primary).bar; link = refl }
-
--- the upper corner of a bar is a cell that a bar may have
-pub bar_top : (decor : DecorStyle) (primary : Bool) (role : ElementStyle) (ch : ℕ) → ch ≡ (strokes_of decor primary).bar_top
-    → IsBarCell decor (unlinked_cell role ch)
-bar_top decor primary role ch is =
-    record { glyph = subst (λ x. list_any (λ g. x == g) (bar_glyphs decor) ≡ true) (sym is) (bars_among decor primary).bar_top; link = refl }
-
--- the lower corner of a bar is a cell that a bar may have
-pub bar_bottom : (decor : DecorStyle) (primary : Bool) (role : ElementStyle) (ch : ℕ) → ch ≡ (strokes_of decor primary).bar_bottom
-    → IsBarCell decor (unlinked_cell role ch)
-bar_bottom decor primary role ch is =
-    record { glyph = subst (λ x. list_any (λ g. x == g) (bar_glyphs decor) ≡ true) (sym is) (bars_among decor primary).bar_bottom; link = refl }
 
 -- bars beside rows: none yet, some more, and one cell
 pub DrawsBarCells-none : (layout : Layout) (row : ℕ) (rows : List (List Cell)) → DrawsBarCells layout row rows rows

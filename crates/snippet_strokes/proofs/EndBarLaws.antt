@@ -1,13 +1,13 @@
 -- Laws of the bars of spans that begin or end on a line: they stand in its rows from their corner on, or down to it.
-use Rattle.snippet_strokes.proofs.Common.{◌≡◌, ◌≢◌, ℕ, zero, suc, ◌+◌, ◌<◌, ◌==◌, ◌||◌, ◌&&◌, Bool, true, false, not, Some}
-use Rattle.snippet_strokes.proofs.Common.{List, [], ◌∷◌, All, Contains, map, length, get_or, take, refl, sym, ap, ◌∙◌, arith, inl, inr}
-use Rattle.snippet_strokes.proofs.Common.{is_whitespace, list_all, list_any, both_ways, cases_Bool, eq-eqb, eqb-true, false_from_ne_true, not-true, list_any_at}
-use Rattle.snippet_strokes.proofs.Common.{get_or-map, get_or-take, length-map, All-contains, All-head, All-map, All-tail, All-weaker, filter_passes}
-use Rattle.snippet_strokes.proofs.Common.{list_any-IsPermutation, Cell, SPACE, cell_at, row_at, is_primary, LineAnnotation, LineAnnotationType, Singleline}
-use Rattle.snippet_strokes.proofs.Common.{MultilineStart, MultilineEnd, MultilineLine, is_bar, Among, all_among, all_pass, among_filter_map, any_among}
-use Rattle.snippet_strokes.proofs.Common.{list_any-map, Layout, PlacedEntry, shifted, is_start_part, painting_order, painted, entries_all, BarStroke, Dotted}
-use Rattle.snippet_strokes.proofs.Common.{Solid, Top, Bar, bar_at, bars_apart, ends_of_bars, is_beside, HasOwnDepth, bar_of, has_depth, is_whole_line}
-use Rattle.snippet_strokes.proofs.Common.{bar_cell_part, row_count, HasRows, BarEnds}
+use Rattle.snippet_strokes.proofs.Common.{◌≡◌, ◌≢◌, ◌⊎◌, ℕ, zero, suc, ◌+◌, ◌<◌, ◌==◌, ◌||◌, ◌&&◌, Bool, true, false, not, Some, List, [], ◌∷◌, All}
+use Rattle.snippet_strokes.proofs.Common.{Contains, map, length, get_or, take, refl, sym, ap, ◌∙◌, arith, inl, inr, is_whitespace, list_all, list_any}
+use Rattle.snippet_strokes.proofs.Common.{both_ways, cases_Bool, eq-eqb, eqb-true, false_from_ne_true, not-true, list_any_at, get_or-map, get_or-take}
+use Rattle.snippet_strokes.proofs.Common.{length-map, All-contains, All-head, All-map, All-tail, All-weaker, filter_passes, list_any-IsPermutation, Cell}
+use Rattle.snippet_strokes.proofs.Common.{SPACE, cell_at, row_at, is_primary, LineAnnotation, LineAnnotationType, Singleline, MultilineStart, MultilineEnd}
+use Rattle.snippet_strokes.proofs.Common.{MultilineLine, is_bar, Among, all_among, all_pass, among_filter_map, any_among, list_any-map, Layout, PlacedEntry}
+use Rattle.snippet_strokes.proofs.Common.{shifted, is_start_part, painting_order, painted, entries_all, BarStroke, Dotted, Solid, Top, Bar, bar_at}
+use Rattle.snippet_strokes.proofs.Common.{bars_apart, ends_of_bars, is_beside, HasOwnDepth, bar_of, has_depth, is_whole_line, bar_cell_part, row_count}
+use Rattle.snippet_strokes.proofs.Common.{HasRows, BarEnds}
 use Rattle.std.specs.List.{filter}
 use Rattle.snippet_strokes.proofs.CellLemmas.{with_bar, with_parts, begun_rows, corner_by, drawn_strokes}
 use Rattle.snippet_strokes.proofs.BarFacts.{BarBegins, BeginsBelow}
@@ -17,14 +17,31 @@ use Rattle.snippet_strokes.proofs.AmongLaws.{all_from_among, among_contains, con
 use Rattle.snippet_strokes.proofs.BarRows.{bar_stands, drawn_beside}
 use Rattle.snippet_strokes.proofs.PieceWrites.{labels_some}
 use Rattle.snippet_strokes.proofs.PositionLemmas.{HasRows-row_count}
-use Rattle.snippet_strokes.proofs.EntryBarLaws.{end_drawn, is_at, last_passing, last_stands, start_drawn}
+use Rattle.snippet_strokes.proofs.EachStroke.{is_at}
+use Rattle.snippet_strokes.proofs.EntryBarLaws.{end_drawn, last_passing, last_stands, start_drawn}
 
 -- ---- the rows of a line
 
 -- lists that begin alike hold the same there
-pub left_same : (n c : ℕ) (a b : List Cell) → c < n → take n a ≡ take n b → get_or a c SPACE ≡ get_or b c SPACE
+left_same : (n c : ℕ) (a b : List Cell) → c < n → take n a ≡ take n b → get_or a c SPACE ≡ get_or b c SPACE
 left_same n c a b within same =
     sym (get_or-take n a c SPACE within) ∙ ap (λ cells. get_or cells c SPACE) same ∙ get_or-take n b c SPACE within
+
+-- in the rows of a line a cell left of the code is as the strokes leave it
+pub strokes_left : (layout : Layout) (width : ℕ) (closes : Bool) (es : List LineAnnotation) (source : List Cell) (rows : List (List Cell))
+    (drawn : StrokesPainted layout width closes es source rows) (r c : ℕ) → c < layout.code
+    → cell_at rows r c ≡ cell_at (painted (drawn_strokes layout 0 (row_count drawn.placed + 1) drawn.placed (painting_order drawn.placed))
+    (begun_rows layout closes (row_count drawn.placed) source)) r c
+strokes_left layout width closes es source rows drawn r c left =
+    let at : List (List Cell) → Cell = λ all. cell_at all r c in
+    let cut = rows_cut layout width closes es source rows drawn in
+    ap at cut.new_is ∙ uncut r drawn.top drawn.marks cut.source_now cut.marks_now drawn.lower cut.source_cut.left cut.marks_cut.left ∙ ap at drawn.painted_are
+  where
+    uncut : (i : ℕ) (top marks top_now marks_now : List Cell) (lower : List (List Cell)) → take layout.code top_now ≡ take layout.code top
+        → take layout.code marks_now ≡ take layout.code marks → cell_at (top_now ∷ marks_now ∷ lower) i c ≡ cell_at (top ∷ marks ∷ lower) i c
+    uncut zero top marks top_now marks_now lower first second = left_same layout.code c top_now top left first
+    uncut (suc zero) top marks top_now marks_now lower first second = left_same layout.code c marks_now marks left second
+    uncut (suc (suc i)) top marks top_now marks_now lower first second = refl
 
 -- bars that are the same have one depth
 same_depth : (b c : Bar) → Some b ≡ Some c → b.depth ≡ c.depth
@@ -75,29 +92,9 @@ module _ (layout : Layout) (bar : Bar) (room : layout.gutter + 2 + bar.depth < l
         long = drawn.count;
         within = omega (arith, lower.mark);
         old = left.0;
-        stands = λ r. cut r ∙ left.1 r ∙ ap (λ t. cell_at (painted (corner_by layout 0 count last.one t) left.0) r cell) its.0;
+        stands = λ r. strokes_left layout width closes moved source rows drawn r (layout.gutter + 2 + bar.depth) room ∙ left.1 r
+            ∙ ap (λ t. cell_at (painted (corner_by layout 0 count last.one t) left.0) r (layout.gutter + 2 + bar.depth)) its.0;
       }
-    where
-      cell : ℕ
-      cell = layout.gutter + 2 + bar.depth
-
-      uncut : (r : ℕ) (top marks top_now marks_now : List Cell) (lower : List (List Cell)) → take layout.code top_now ≡ take layout.code top
-          → take layout.code marks_now ≡ take layout.code marks
-          → cell_at (top_now ∷ marks_now ∷ lower) r (layout.gutter + 2 + bar.depth) ≡ cell_at (top ∷ marks ∷ lower) r (layout.gutter + 2 + bar.depth)
-      uncut zero top marks top_now marks_now lower first second = left_same layout.code (layout.gutter + 2 + bar.depth) top_now top (omega (arith, room)) first
-      uncut (suc zero) top marks top_now marks_now lower first second = left_same layout.code (layout.gutter + 2 + bar.depth) marks_now marks
-          (omega (arith, room)) second
-      uncut (suc (suc r)) top marks top_now marks_now lower first second = refl
-
-      cut : (r : ℕ)
-          → cell_at rows r (layout.gutter + 2 + bar.depth) ≡ cell_at (painted
-          (drawn_strokes layout 0 (row_count drawn.placed + 1) drawn.placed (painting_order drawn.placed))
-          (begun_rows layout closes (row_count drawn.placed) source)) r (layout.gutter + 2 + bar.depth)
-      cut r =
-          let at : List (List Cell) → Cell = λ all. cell_at all r (layout.gutter + 2 + bar.depth) in
-          let changed = rows_cut layout width closes (map (shifted dropped) es) source rows drawn in
-          ap at changed.new_is ∙ uncut r drawn.top drawn.marks changed.source_now changed.marks_now drawn.lower changed.source_cut.left
-          changed.marks_cut.left ∙ ap at drawn.painted_are
 
   own_begins : (rows : List (List Cell)) → HasOwn (MultilineStart bar.depth) rows → cell_at rows 0 (layout.gutter + 2 + bar.depth) ≡ SPACE
       → BeginsBelow layout bar rows
@@ -130,6 +127,21 @@ module _ (layout : Layout) (bar : Bar) (room : layout.gutter + 2 + bar.depth < l
   passed_by stroke (b ∷ bars) row others =
       passed_by stroke bars (with_bar layout stroke row b) (All-tail (λ x. x.depth ≢ bar.depth) b bars others)
       ∙ drawn_beside layout stroke bar b row (All-head (λ x. x.depth ≢ bar.depth) b bars others)
+
+  -- so it is in the rows of a line as the line's own entries leave it, where they have other depths
+  module _ {width : ℕ} {closes : Bool} {text : List ℕ} {dropped : ℕ} {open_bars : List Bar} {es : List LineAnnotation} {source : List Cell}
+      {rows : List (List Cell)} (drawn : AreLineRows layout width closes text dropped open_bars es source rows) where
+    own_count : length rows ≡ length drawn.own
+    own_count = ap length drawn.rows_are ∙ length-map drawn.own (with_parts layout Solid (bars_apart open_bars (ends_of_bars es)))
+
+    pub own_cell : All (λ b. b.depth ≢ bar.depth) (bars_apart open_bars (ends_of_bars es)) → (i : ℕ) → i < length rows
+        → cell_at rows i (layout.gutter + 2 + bar.depth) ≡ cell_at drawn.own i (layout.gutter + 2 + bar.depth)
+    own_cell others i within =
+        let past : List Bar = bars_apart open_bars (ends_of_bars es) in
+        let rule : List Cell → List Cell = with_parts layout Solid past in
+        let row : row_at rows i ≡ rule (row_at drawn.own i) = ap (λ rs. row_at rs i) drawn.rows_are
+        ∙ get_or-map rule drawn.own i [] [] (omega (arith, within, own_count)) in
+        ap (λ cells. get_or cells (layout.gutter + 2 + bar.depth) SPACE) row ∙ passed_by Solid past (row_at drawn.own i) others
 
   -- what is known of the entries of a line, one of which begins or ends the bar
   module _ (es : List LineAnnotation) (among : Contains (ends_of_bars es) bar) (alone : HasOwnDepth bar (ends_of_bars es)) where
@@ -165,55 +177,44 @@ module _ (layout : Layout) (bar : Bar) (room : layout.gutter + 2 + bar.depth < l
     kind_of e here b is same =
         all_among (λ (x : Bar). x.depth ≡ bar.depth → x ≡ bar) (ends_of_bars es) b alone (among_filter_map bar_of es e b here is) same
 
-    all_starts : All (λ e. e.annotation_type ≡ MultilineEnd bar.depth → ⊥) es → All (IsItsPart (MultilineStart bar.depth)) es
+    its_part : (e : LineAnnotation) → Among es e → is_at bar.depth e.annotation_type ≡ true
+        → ((e.annotation_type ≡ MultilineStart bar.depth) ⊎ (e.annotation_type ≡ MultilineEnd bar.depth)) × (is_primary e.kind ≡ bar.primary)
     unfolding is_at
-    all_starts none =
-        all_from_among (IsItsPart (MultilineStart bar.depth)) es (λ e here.
-        by_type e.annotation_type (is_primary e.kind) (kind_of e here)
-        (all_among (λ (x : LineAnnotation). x.annotation_type ≡ MultilineEnd bar.depth → ⊥) es e none here))
+    its_part e here at = by_type e.annotation_type (is_primary e.kind) (kind_of e here) at
       where
         by_type : (t : LineAnnotationType) (primary : Bool) → ((b : Bar) → bar_at t primary ≡ Some b → b.depth ≡ bar.depth → b ≡ bar)
-            → (t ≡ MultilineEnd bar.depth → ⊥) → is_at bar.depth t ≡ true
-            → (t ≡ MultilineStart bar.depth) × (primary ≡ bar.primary)
-        by_type Singleline primary own wrong at = absurd cc
-        by_type (MultilineStart d) primary own wrong at =
+            → is_at bar.depth t ≡ true → ((t ≡ MultilineStart bar.depth) ⊎ (t ≡ MultilineEnd bar.depth)) × (primary ≡ bar.primary)
+        by_type Singleline primary own at = absurd cc
+        by_type (MultilineStart d) primary own at =
             let same : d ≡ bar.depth = eqb-true d bar.depth at in
-            (ap MultilineStart same, ap (λ (b : Bar). b.primary) (own (record { depth = d; primary = primary }) refl same))
-        by_type (MultilineEnd d) primary own wrong at = absurd (wrong (ap MultilineEnd (eqb-true d bar.depth at)))
-        by_type (MultilineLine d) primary own wrong at = absurd cc
+            (inl (ap MultilineStart same), ap (λ (b : Bar). b.primary) (own (record { depth = d; primary = primary }) refl same))
+        by_type (MultilineEnd d) primary own at =
+            let same : d ≡ bar.depth = eqb-true d bar.depth at in
+            (inr (ap MultilineEnd same), ap (λ (b : Bar). b.primary) (own (record { depth = d; primary = primary }) refl same))
+        by_type (MultilineLine d) primary own at = absurd cc
+
+    all_starts : All (λ e. e.annotation_type ≡ MultilineEnd bar.depth → ⊥) es → All (IsItsPart (MultilineStart bar.depth)) es
+    all_starts none =
+        all_from_among (IsItsPart (MultilineStart bar.depth)) es (λ e here at. elim (its_part e here at).0 [
+          | inl start ↦ (start, (its_part e here at).1)
+          | inr end ↦ absurd (all_among (λ (x : LineAnnotation). x.annotation_type ≡ MultilineEnd bar.depth → ⊥) es e none here end)
+        ])
 
     all_ends : All (λ e. e.annotation_type ≡ MultilineStart bar.depth → ⊥) es → All (IsItsPart (MultilineEnd bar.depth)) es
-    unfolding is_at
     all_ends none =
-        all_from_among (IsItsPart (MultilineEnd bar.depth)) es (λ e here.
-        by_type e.annotation_type (is_primary e.kind) (kind_of e here)
-        (all_among (λ (x : LineAnnotation). x.annotation_type ≡ MultilineStart bar.depth → ⊥) es e none here))
-      where
-        by_type : (t : LineAnnotationType) (primary : Bool) → ((b : Bar) → bar_at t primary ≡ Some b → b.depth ≡ bar.depth → b ≡ bar)
-            → (t ≡ MultilineStart bar.depth → ⊥) → is_at bar.depth t ≡ true
-            → (t ≡ MultilineEnd bar.depth) × (primary ≡ bar.primary)
-        by_type Singleline primary own wrong at = absurd cc
-        by_type (MultilineStart d) primary own wrong at = absurd (wrong (ap MultilineStart (eqb-true d bar.depth at)))
-        by_type (MultilineEnd d) primary own wrong at =
-            let same : d ≡ bar.depth = eqb-true d bar.depth at in
-            (ap MultilineEnd same, ap (λ (b : Bar). b.primary) (own (record { depth = d; primary = primary }) refl same))
-        by_type (MultilineLine d) primary own wrong at = absurd cc
+        all_from_among (IsItsPart (MultilineEnd bar.depth)) es (λ e here at. elim (its_part e here at).0 [
+          | inl start ↦ absurd (all_among (λ (x : LineAnnotation). x.annotation_type ≡ MultilineStart bar.depth → ⊥) es e none here start)
+          | inr end ↦ (end, (its_part e here at).1)
+        ])
 
     module _ (width : ℕ) (closes : Bool) (text : List ℕ) (dropped : ℕ) (open_bars : List Bar) (source : List Cell) (rows : List (List Cell))
         (drawn : AreLineRows layout width closes text dropped open_bars es source rows) where
-      abbrev past : List Bar
-      past = bars_apart open_bars (ends_of_bars es)
-
       as_many : length rows ≡ length drawn.own
-      as_many = ap length drawn.rows_are ∙ length-map drawn.own (with_parts layout Solid past)
+      as_many = own_count drawn
 
-      -- so its cell is as the line's own entries leave it
-      own_cell : (i : ℕ) → i < length rows → cell_at rows i (layout.gutter + 2 + bar.depth) ≡ cell_at drawn.own i (layout.gutter + 2 + bar.depth)
-      own_cell i within =
-          let rule : List Cell → List Cell = with_parts layout Solid past in
-          let row : row_at rows i ≡ rule (row_at drawn.own i) = ap (λ rs. row_at rs i) drawn.rows_are
-          ∙ get_or-map rule drawn.own i [] [] (omega (arith, within, as_many)) in
-          ap (λ cells. get_or cells (layout.gutter + 2 + bar.depth) SPACE) row ∙ passed_by Solid past (row_at drawn.own i) (past_apart open_bars)
+      -- its cell is as the line's own entries leave it
+      left_cell : (i : ℕ) → i < length rows → cell_at rows i (layout.gutter + 2 + bar.depth) ≡ cell_at drawn.own i (layout.gutter + 2 + bar.depth)
+      left_cell i within = own_cell drawn (past_apart open_bars) i within
 
       -- the line has entries
       pub some_entries : 0 < length es
@@ -221,7 +222,7 @@ module _ (layout : Layout) (bar : Bar) (room : layout.gutter + 2 + bar.depth < l
 
       -- the bar of a span that begins on a line begins in the line's rows, if nothing stands beside it in the source row
       pub bar_begins : All (λ e. e.annotation_type ≡ MultilineEnd bar.depth → ⊥) es
-          → (is_whole_line text es ≡ false → cell_at rows 0 (layout.gutter + 2 + bar.depth) ≡ SPACE) → BarBegins layout bar rows
+          → (is_whole_line text es ≡ false → cell_at drawn.own 0 (layout.gutter + 2 + bar.depth) ≡ SPACE) → BarBegins layout bar rows
       bar_begins none blank =
           elim (cases_Bool (is_whole_line text es)) [
             | inl whole ↦
@@ -229,21 +230,20 @@ module _ (layout : Layout) (bar : Bar) (room : layout.gutter + 2 + bar.depth < l
                 let alone_there : length rows ≡ 1 = as_many ∙ ap length one in
                 inl (record {
                   alone = alone_there;
-                  top = own_cell 0 (omega (arith, alone_there)) ∙ ap (λ rs. cell_at rs 0 (layout.gutter + 2 + bar.depth)) one
+                  top = left_cell 0 (omega (arith, alone_there)) ∙ ap (λ rs. cell_at rs 0 (layout.gutter + 2 + bar.depth)) one
                       ∙ bar_stands layout Top bar (ends_of_bars es) source alone among;
                 })
             | inr other ↦
                 let has = own_of width closes dropped es source drawn.own (MultilineStart bar.depth) (drawn.are.strokes other some_entries)
                 (all_starts none) some_has in
-                let own : BeginsBelow layout bar drawn.own = own_begins drawn.own has
-                (sym (own_cell 0 (omega (arith, as_many, has.long, has.within))) ∙ blank other) in
+                let own : BeginsBelow layout bar drawn.own = own_begins drawn.own has (blank other) in
                 inr (record {
                   corner = own.corner;
                   below = own.below;
                   within = omega (arith, own.within, as_many);
-                  corner_is = own_cell own.corner (omega (arith, own.within, as_many)) ∙ own.corner_is;
-                  source = blank other;
-                  beside = λ i lower within. own_cell i within ∙ own.beside i lower (omega (arith, within, as_many));
+                  corner_is = left_cell own.corner (omega (arith, own.within, as_many)) ∙ own.corner_is;
+                  source = left_cell 0 (omega (arith, as_many, has.long, has.within)) ∙ blank other;
+                  beside = λ i lower within. left_cell i within ∙ own.beside i lower (omega (arith, within, as_many));
                 })
           ]
 
@@ -260,8 +260,8 @@ module _ (layout : Layout) (bar : Bar) (room : layout.gutter + 2 + bar.depth < l
             corner = own.corner;
             below = own.below;
             within = omega (arith, own.within, as_many);
-            corner_is = own_cell own.corner (omega (arith, own.within, as_many)) ∙ own.corner_is;
-            beside = λ i higher. own_cell i (omega (arith, higher, own.within, as_many)) ∙ own.beside i higher;
+            corner_is = left_cell own.corner (omega (arith, own.within, as_many)) ∙ own.corner_is;
+            beside = λ i higher. left_cell i (omega (arith, higher, own.within, as_many)) ∙ own.beside i higher;
           }
         where
           not_whole : (e : LineAnnotation) → e.annotation_type ≡ MultilineEnd bar.depth → (xs : List LineAnnotation) → Among xs e → is_whole_line text xs ≡ true

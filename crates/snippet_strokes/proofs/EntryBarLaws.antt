@@ -1,20 +1,17 @@
 -- Laws of the bars of a line's entries: what the last entry of a bar's depth leaves in the bar's cells, and which strokes leave them.
 use Rattle.std.proofs.lemmas.Grind.{common_steps}
-use Rattle.snippet_strokes.proofs.Common.{◌≡◌, ◌≢◌, ℕ, zero, suc, ◌+◌, ◌-◌, ◌<◌, ◌≤◌, ◌==◌, ◌||◌, Bool, true, false}
-use Rattle.snippet_strokes.proofs.Common.{cond, List, [], ◌∷◌, ◌++◌, All, Contains, map, length, get_or, refl, ap, ◌∙◌, arith, inl, inr}
-use Rattle.snippet_strokes.proofs.Common.{flat_map, list_any, range_with_len, both_ways, cases_Bool, cases_lt, eq-eqb, or_parts, flat_map-append, All-append}
-use Rattle.snippet_strokes.proofs.Common.{All-cons, All-nil, All-weaker, Cell, SPACE, unlinked_cell, strokes_of, underline_role, ElementStyle, cell_at, row_at}
-use Rattle.snippet_strokes.proofs.Common.{is_primary, LineAnnotationType, Singleline, MultilineStart, MultilineEnd, MultilineLine, contains-here}
-use Rattle.snippet_strokes.proofs.Common.{contains-there, Layout, PlacedEntry, stroke_role, Write, glyph_at, painted, stretch_of, Solid, Bar, column_of}
-use Rattle.snippet_strokes.proofs.Common.{corner_of, label_of, bar_cell_part, first_glyph, mark_end, connectors_of, corners_of, labels_of, stems_of, sym}
-use Rattle.snippet_strokes.proofs.Common.{map-range_with_len_more, text_cells, cells_written, piece_at, foot_glyph, nat_tests}
-use Rattle.std.specs.Prelude.{nat_lt}
-use Rattle.snippet_strokes.proofs.CellLemmas.{written_by, corner_by, bar_writes, drawn_mark, drawn_strokes, marks_of, stem_write, drawn_under_marks}
-use Rattle.snippet_strokes.proofs.PieceWrites.{All-label_of}
-use Rattle.snippet_strokes.proofs.WriteLaws.{painted-append, All-flat_map, cell-unwritten, cell-written, painted-last, painted-untouched}
+use Rattle.snippet_strokes.proofs.Common.{◌≡◌, ℕ, zero, suc, ◌+◌, ◌-◌, ◌<◌, ◌≤◌, ◌==◌, ◌||◌, Bool, true, false, cond, List, [], ◌∷◌, ◌++◌, All, Contains, map}
+use Rattle.snippet_strokes.proofs.Common.{length, get_or, refl, ap, ◌∙◌, arith, inl, inr, flat_map, list_any, range_with_len, both_ways, cases_Bool, cases_lt}
+use Rattle.snippet_strokes.proofs.Common.{or_parts, flat_map-append, All-append, append_assoc, All-cons, All-nil, Cell, unlinked_cell, strokes_of}
+use Rattle.snippet_strokes.proofs.Common.{underline_role, ElementStyle, cell_at, is_primary, MultilineStart, MultilineEnd, contains-here, contains-there}
+use Rattle.snippet_strokes.proofs.Common.{Layout, PlacedEntry, stroke_role, Write, glyph_at, painted, Solid, Bar, column_of, corner_of, bar_cell_part}
+use Rattle.snippet_strokes.proofs.Common.{connectors_of, corners_of, labels_of, stems_of, sym, map-range_with_len_more, text_cells, cells_written, piece_at}
+use Rattle.snippet_strokes.proofs.Common.{foot_glyph, nat_tests}
+use Rattle.snippet_strokes.proofs.CellLemmas.{written_by, corner_by, drawn_strokes, marks_of, stem_write, drawn_under_marks}
+use Rattle.snippet_strokes.proofs.WriteLaws.{painted-append, cell-unwritten, cell-written, painted-last, painted-untouched}
 use Rattle.snippet_strokes.proofs.BarFacts.{end_corner, start_corner}
 use Rattle.snippet_strokes.proofs.Reach.{Reaches}
-use Rattle.snippet_strokes.proofs.BarWrites.{All-column_of, All-stretch_of, All-stems_of, All-stem_of}
+use Rattle.snippet_strokes.proofs.EachStroke.{All-column_of, apart_at, each_corner, each_label, each_mark, each_stem_cell, is_at}
 
 -- ---- lists
 
@@ -97,13 +94,6 @@ column_stands start (suc n) cell glyph role rows r from to =
 
 -- ---- the bars of a line's entries
 
--- whether the start or the end of a span has this depth
-unfoldable pub is_at : ℕ → LineAnnotationType → Bool
-is_at depth Singleline = false
-is_at depth (MultilineStart d) = d == depth
-is_at depth (MultilineEnd d) = d == depth
-is_at depth (MultilineLine d) = false
-
 module _ (layout : Layout) (bar : Bar) (room : layout.gutter + 2 + bar.depth < layout.code) (count : ℕ) (placed order : List PlacedEntry)
     (begun : List (List Cell)) where
   -- the cell of the bar's depth
@@ -114,69 +104,7 @@ module _ (layout : Layout) (bar : Bar) (room : layout.gutter + 2 + bar.depth < l
   abbrev Leaves : ℕ → Write → Type 0
   Leaves r w = Reaches r cell w → ⊥
 
-  -- stems stand right of it
-  pub stems_right : (r : ℕ) → All (Leaves r) (stems_of layout 1 placed)
-  stems_right r =
-      All-stems_of (Leaves r) layout 1 placed (λ k d within. All-stem_of (Leaves r) layout 1 (get_or placed k d) (λ b low there.
-      omega (arith, there.from, room)))
-
-  -- labels do
-  pub labels_right : (r : ℕ) → All (Leaves r) (labels_of layout 1 placed)
-  labels_right r =
-      All-flat_map (Leaves r) (label_of layout 1) placed (λ k d within.
-      All-label_of (Leaves r) layout 1 (get_or placed k d) (λ n _ _ there. omega (arith, there.from, room)))
-
-  -- and marks
-  pub marks_right : (r : ℕ) → All (Leaves r) (marks_of layout 1 order)
-  marks_right r =
-      All-flat_map (Leaves r) (drawn_mark layout 1) order (λ k d within. mark (get_or order k d))
-    where
-      mark : (e : PlacedEntry) → All (Leaves r) (drawn_mark layout 1 e)
-      mark e =
-          let from : ℕ = layout.code + e.entry.start.display in
-          let to : ℕ = layout.code + mark_end e in
-          elim (nat_lt from to) as (λ b. All (Leaves r) (cond b (glyph_at 1 from (first_glyph layout.decor e) (stroke_role e) ∷ stretch_of 1 (from + 1) to
-          (strokes_of layout.decor (is_primary e.entry.kind)).underline (stroke_role e)) [])) [
-            | true ↦ All-cons (Leaves r) (glyph_at 1 from (first_glyph layout.decor e) (stroke_role e))
-                (stretch_of 1 (from + 1) to (strokes_of layout.decor (is_primary e.entry.kind)).underline (stroke_role e))
-                (λ there. omega (arith, there.from, room))
-                (All-stretch_of (Leaves r) 1 (from + 1) to (strokes_of layout.decor (is_primary e.entry.kind)).underline (stroke_role e) (λ there.
-                omega (arith, there.from, room)))
-            | false ↦ All-nil (Leaves r)
-          ]
-
-  -- a glyph at another depth leaves it
-  glyph_leaves : (r row depth glyph : ℕ) (role : ElementStyle) → depth ≢ bar.depth → Leaves r (glyph_at row (layout.gutter + 2 + depth) glyph role)
-  glyph_leaves r row depth glyph role other there = other (omega (arith, there.from, there.to))
-
-  column_leaves : (r start end depth glyph : ℕ) (role : ElementStyle) → depth ≢ bar.depth
-      → All (Leaves r) (column_of start end (layout.gutter + 2 + depth) glyph role)
-  column_leaves r start end depth glyph role other =
-      All-column_of (Leaves r) start end (layout.gutter + 2 + depth) glyph role (λ n from to. glyph_leaves r n depth glyph role other)
-
-  -- and so does what is drawn for the bar of an entry of another depth
-  pub part_leaves : (r : ℕ) (e : PlacedEntry) (part : LineAnnotationType) → is_at bar.depth part ≡ false → All (Leaves r) (corner_by layout 0 count e part)
-  unfolding is_at
-  part_leaves r e Singleline other = All-nil (Leaves r)
-  part_leaves r e (MultilineStart depth) other =
-      let apart : depth ≢ bar.depth = λ same. both_ways (depth == bar.depth) other (eq-eqb depth bar.depth same) in
-      let corner : ℕ = 0 + 1 + e.position in
-      let glyph : ℕ = (strokes_of layout.decor (is_primary e.entry.kind)).bar_top in
-      let line : ℕ = (strokes_of layout.decor (is_primary e.entry.kind)).bar in
-      let own : Write = glyph_at corner (layout.gutter + 2 + depth) glyph (stroke_role e) in
-      All-cons (Leaves r) own (bar_writes layout e depth (corner + 1) count) (glyph_leaves r corner depth glyph (stroke_role e) apart)
-      (column_leaves r (corner + 1) count depth line (stroke_role e) apart)
-  part_leaves r e (MultilineEnd depth) other =
-      let apart : depth ≢ bar.depth = λ same. both_ways (depth == bar.depth) other (eq-eqb depth bar.depth same) in
-      let corner : ℕ = 0 + 1 + e.position in
-      let glyph : ℕ = (strokes_of layout.decor (is_primary e.entry.kind)).bar_bottom in
-      let own : Write = glyph_at corner (layout.gutter + 2 + depth) glyph (stroke_role e) in
-      let line : ℕ = (strokes_of layout.decor (is_primary e.entry.kind)).bar in
-      let last : All (Leaves r) (own ∷ []) = All-cons (Leaves r) own [] (glyph_leaves r corner depth glyph (stroke_role e) apart) (All-nil (Leaves r)) in
-      All-append (Leaves r) (bar_writes layout e depth 0 corner) (own ∷ []) (column_leaves r 0 corner depth line (stroke_role e) apart) last
-  part_leaves r e (MultilineLine depth) other = All-nil (Leaves r)
-
-  -- so in it stands what the last entry of its depth leaves there
+  -- in it stands what the last entry of its depth leaves there: stems, labels and marks stand right of it
   pub last_stands : (before : List PlacedEntry) (e : PlacedEntry) (after : List PlacedEntry) → placed ≡ before ++ e ∷ after
       → All (λ f. is_at bar.depth f.entry.annotation_type ≡ false) after
       → (old : List (List Cell)) × ((r : ℕ) → cell_at (painted (drawn_strokes layout 0 count placed order) begun) r cell
@@ -184,30 +112,25 @@ module _ (layout : Layout) (bar : Bar) (room : layout.gutter + 2 + bar.depth < l
   last_stands before e after split others =
       let f : PlacedEntry → List Write = corner_of layout 0 count in
       let lines : List Write = connectors_of layout 1 placed in
-      let corners : List Write = corners_of layout 0 count placed in
       let stems : List Write = stems_of layout 1 placed in
       let labels : List Write = labels_of layout 1 placed in
       let marks : List Write = marks_of layout 1 order in
-      let joined : List (List Cell) = painted lines begun in
-      let old : List (List Cell) = painted (flat_map f before) joined in
-      let barred : List (List Cell) = painted (lines ++ corners) begun in
-      let stemmed : List (List Cell) = painted (lines ++ corners ++ stems) begun in
-      let labelled : List (List Cell) = painted (lines ++ corners ++ stems ++ labels) begun in
-      let parts : corners ≡ flat_map f before ++ (f e ++ flat_map f after) = ap (flat_map f) split ∙ flat_map-append f before (e ∷ after) in
-      let drawn : barred ≡ painted (flat_map f after) (painted (f e) old) =
-      painted-append lines corners begun ∙ ap (λ ws. painted ws joined) parts ∙ painted-append (flat_map f before) (f e ++ flat_map f after) joined
-      ∙ painted-append (f e) (flat_map f after) old in (
+      let first : List Write = lines ++ flat_map f before in
+      let later : List Write = flat_map f after ++ stems ++ labels ++ marks in
+      let old : List (List Cell) = painted first begun in
+      let parts : drawn_strokes layout 0 count placed order ≡ first ++ f e ++ later =
+      ap (λ ws. lines ++ ws ++ stems ++ labels ++ marks) (ap (flat_map f) split ∙ flat_map-append f before (e ∷ after)) ∙ simp (append_assoc) in (
         old,
         λ r.
-            let own : List Cell → Cell = λ row. get_or row cell SPACE in
-            let at : List (List Cell) → Cell = λ rows. own (row_at rows r) in
-            let leave : All (Leaves r) (flat_map f after) = All-flat_map (Leaves r) f after
-            (All-weaker (λ (x : PlacedEntry). is_at bar.depth x.entry.annotation_type ≡ false) (λ (x : PlacedEntry). All (Leaves r) (f x)) (λ x other.
-            part_leaves r x x.entry.annotation_type other) after others) in
-            ap at (painted-append (lines ++ corners ++ stems ++ labels) marks begun) ∙ painted-untouched marks labelled r cell (marks_right r)
-            ∙ ap at (painted-append (lines ++ corners ++ stems) labels begun) ∙ painted-untouched labels stemmed r cell (labels_right r)
-            ∙ ap at (painted-append (lines ++ corners) stems begun) ∙ painted-untouched stems barred r cell (stems_right r)
-            ∙ ap at drawn ∙ painted-untouched (flat_map f after) (painted (f e) old) r cell leave,
+            let L : Write → Type 0 = Leaves r in
+            ap (λ ws. cell_at (painted ws begun) r cell) parts ∙ ap (λ rows. cell_at rows r cell) (painted-append (first ++ f e) later begun
+            ∙ ap (painted later) (painted-append first (f e) begun)) ∙ painted-untouched later (painted (f e) old) r cell
+            (All-append L (flat_map f after ++ stems ++ labels) marks (All-append L (flat_map f after ++ stems) labels (All-append L (flat_map f after) stems
+            (each_corner L layout 0 count after (λ k d within depth _ _ has _ _ _ _ there.
+            apart_at depth bar.depth (get_or after k d).entry.annotation_type has (others k d within) (omega (arith, there.from, there.to))))
+            (each_stem_cell L layout 1 placed (λ k d within _ _ _ _ there. omega (arith, there.from, room))))
+            (each_label L layout 1 placed (λ k d within _ _ _ there. omega (arith, there.from, room))))
+            (each_mark L layout 1 order (λ k d within _ _ _ right _ _ there. omega (arith, right, there.from, room)))),
       )
 
   -- the corner of an entry is drawn as its bar's

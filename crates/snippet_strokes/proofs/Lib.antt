@@ -16,6 +16,7 @@ pub mod CutPairs
 pub mod CutWords
 pub mod DrawLemmas
 pub mod DrawnCells
+pub mod EachStroke
 pub mod EndBarLaws
 pub mod EntryBarLaws
 pub mod EveryMark
@@ -32,7 +33,6 @@ pub mod LineLemmas
 pub mod OneLineLabels
 pub mod LookedCuts
 pub mod LowerWrites
-pub mod MarkStrokeLemmas
 pub mod OpenLemmas
 pub mod PaintLemmas
 pub mod PieceWrites

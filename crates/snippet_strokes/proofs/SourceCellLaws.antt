@@ -1,24 +1,22 @@
 -- Laws of the cells of bars beside a line and beside lines that are left out: where no bar has its place the row stays as it is.
 use Rattle.std.proofs.lemmas.Grind.{common_steps}
-use Rattle.snippet_strokes.proofs.Common.{◌≡◌, ℕ, ◌+◌, ◌<◌, ◌≤◌, ◌∷◌, ◌++◌, [], List, length, replicate, get_or, All, refl, ap}
-use Rattle.snippet_strokes.proofs.Common.{◌∙◌, arith, get_or_past, each_fails, length-text_cells, DecorStyle, Ascii, Unicode, LineNumber, elision_of}
-use Rattle.snippet_strokes.proofs.Common.{Cell, SPACE, text_cells, is_listed, Layout, OpenBar, Dotted, HasBarRoom, barred, gap_row, IsFree, IsElisionRow}
-use Rattle.snippet_strokes.proofs.Common.{bare_elision_row, free_drawn, ◌==◌, ◌&&◌, cond, nat_lt, Bool, true, false, None, map, sym, subst, inl, inr}
-use Rattle.snippet_strokes.proofs.Common.{slice_index_or, cases_Bool, cases_lt, false≢true, All-append, All-cons, All-from_get_or, All-get_or, All-head}
-use Rattle.snippet_strokes.proofs.Common.{All-nil, All-same, All-tail, LineNumbers, shown_number, AnnotatedLineInfo, LineAnnotation, ElementStyle, gives_way}
-use Rattle.snippet_strokes.proofs.Common.{unlinked_cell, IsFreeCell, Margin, shifted, Solid, Top, bars_apart, ends_of_bars, AreDrawable, LineView, gap_rows}
-use Rattle.snippet_strokes.proofs.Common.{info_rows, infos_rows, is_whole_line, open_below, ◌≢◌, not, Some, Contains, false_from_ne_true, eqb-true}
-use Rattle.snippet_strokes.proofs.Common.{get_or-map, length-map, All-filter, All-map, strokes_of, cell_at, row_at, is_primary, LineAnnotationType, Singleline}
-use Rattle.snippet_strokes.proofs.Common.{MultilineStart, MultilineEnd, MultilineLine, all_among, among_filter_map, PlacedEntry, painting_order, stroke_role}
-use Rattle.snippet_strokes.proofs.Common.{Write, glyph_at, painted, entries_all, Bar, bar_at, row_count, column_of, connector_of, corner_of, connectors_of}
-use Rattle.snippet_strokes.proofs.Common.{corners_of, labels_of, HasOwnDepth, bar_of, has_depth, stems_of, rules}
+use Rattle.snippet_strokes.proofs.Common.{◌≡◌, ℕ, ◌+◌, ◌<◌, ◌≤◌, ◌∷◌, ◌++◌, [], List, length, replicate, get_or, All, refl, ap, ◌∙◌, arith, get_or_past}
+use Rattle.snippet_strokes.proofs.Common.{each_fails, length-text_cells, DecorStyle, Ascii, Unicode, LineNumber, elision_of, Cell, SPACE, text_cells}
+use Rattle.snippet_strokes.proofs.Common.{is_listed, Layout, OpenBar, Dotted, HasBarRoom, barred, gap_row, IsFree, IsElisionRow, bare_elision_row, free_drawn}
+use Rattle.snippet_strokes.proofs.Common.{◌==◌, ◌&&◌, cond, nat_lt, Bool, true, false, None, map, sym, subst, inl, inr, slice_index_or, cases_Bool, cases_lt}
+use Rattle.snippet_strokes.proofs.Common.{false≢true, All-append, All-cons, All-from_get_or, All-get_or, All-head, All-nil, All-same, All-tail, LineNumbers}
+use Rattle.snippet_strokes.proofs.Common.{shown_number, AnnotatedLineInfo, LineAnnotation, ElementStyle, gives_way, unlinked_cell, IsFreeCell, Margin}
+use Rattle.snippet_strokes.proofs.Common.{shifted, Solid, Top, bars_apart, ends_of_bars, AreDrawable, LineView, gap_rows, info_rows, infos_rows}
+use Rattle.snippet_strokes.proofs.Common.{is_whole_line, open_below, ◌≢◌, not, Some, Contains, false_from_ne_true, eqb-true, All-filter, All-map, cell_at}
+use Rattle.snippet_strokes.proofs.Common.{is_primary, LineAnnotationType, Singleline, MultilineStart, MultilineEnd, MultilineLine, all_among}
+use Rattle.snippet_strokes.proofs.Common.{among_filter_map, PlacedEntry, painting_order, Write, painted, entries_all, Bar, bar_at, row_count, HasOwnDepth}
+use Rattle.snippet_strokes.proofs.Common.{bar_of, has_depth, rules}
 use Rattle.snippet_strokes.proofs.BarRows.{barred-below}
 use Rattle.snippet_strokes.proofs.BarLemmas.{BarsDrawn-with_parts, bar_space, AreSeen-drawn, whole_seen}
 use Rattle.snippet_strokes.proofs.RowLemmas.{free_led, length-led}
-use Rattle.snippet_strokes.proofs.CellLemmas.{with_parts, begun_rows, corner_by, drawn_strokes, marks_of}
-use Rattle.snippet_strokes.proofs.WriteLaws.{AreLineRows, AreOwnRows, CanBeShown, IsHighlighted, IsSourceRow, ShowsLine, StrokesPainted, All-flat_map}
-use Rattle.snippet_strokes.proofs.WriteLaws.{painted-untouched}
-use Rattle.snippet_strokes.proofs.LineFromValue.{info_rows_show, rows_cut}
+use Rattle.snippet_strokes.proofs.CellLemmas.{with_parts, begun_rows, drawn_strokes}
+use Rattle.snippet_strokes.proofs.WriteLaws.{AreLineRows, AreOwnRows, CanBeShown, IsHighlighted, IsSourceRow, ShowsLine, StrokesPainted, painted-untouched}
+use Rattle.snippet_strokes.proofs.LineFromValue.{info_rows_show}
 use Rattle.snippet_strokes.proofs.LabelPlaces.{none_seen}
 use Rattle.snippet_strokes.proofs.OpenLemmas.{room_apart, room_below, room_ends}
 use Rattle.snippet_strokes.proofs.SplitRows.{painted_seen}
@@ -27,9 +25,8 @@ use Rattle.snippet_strokes.proofs.ShiftLemmas.{shifted_bars, shifted_places}
 use Rattle.snippet_strokes.proofs.BarFacts.{BarBegins}
 use Rattle.snippet_strokes.proofs.Reach.{Reaches}
 use Rattle.snippet_strokes.proofs.AmongLaws.{all_from_among}
-use Rattle.snippet_strokes.proofs.BarWrites.{All-column_of, All-connector_of, All-stretch_of}
-use Rattle.snippet_strokes.proofs.EntryBarLaws.{is_at, labels_right, marks_right, part_leaves, stems_right}
-use Rattle.snippet_strokes.proofs.EndBarLaws.{bar_begins, left_same, passed_by, past_apart, some_entries}
+use Rattle.snippet_strokes.proofs.EachStroke.{each_corner, each_label, each_line, each_mark, each_stem_cell, each_stroke, is_at}
+use Rattle.snippet_strokes.proofs.EndBarLaws.{bar_begins, own_cell, passed_by, some_entries, strokes_left}
 
 -- The row that stands for lines that are left out.
 -- the cell from which the sign stands
@@ -103,56 +100,22 @@ module _ (layout : Layout) (depth : ℕ) (room : layout.gutter + 2 + depth < lay
   abbrev cell : ℕ
   cell = layout.gutter + 2 + depth
 
-  -- a write leaves that cell of the source row
-  abbrev Leaves : Write → Type 0
-  Leaves w = Reaches 0 cell w → ⊥
-
-  -- lines to bars stand below that row
-  lines_below : (placed : List PlacedEntry) → All Leaves (connectors_of layout 1 placed)
-  lines_below placed =
-      All-flat_map Leaves (connector_of layout 1) placed (λ k d within. line (get_or placed k d))
-    where
-      line : (e : PlacedEntry) → All Leaves (connector_of layout 1 e)
-      line e =
-          All-connector_of Leaves layout 1 e (λ deep. All-stretch_of Leaves (1 + e.position) (layout.gutter + 3 + deep) (layout.code + e.entry.start.display)
-          (strokes_of layout.decor (is_primary e.entry.kind)).connector (stroke_role e) (λ there. omega (arith, there.row)))
-
   -- an entry isn't the end of a span of this depth
   abbrev IsNoEnd : LineAnnotation → Type 0
   IsNoEnd e = e.annotation_type ≡ MultilineEnd depth → ⊥
 
-  -- so no stroke of a line reaches it, if no entry is such an end: the bar of a start stands below the source row
+  -- so no stroke of a line reaches that cell of the source row, if no entry is such an end: all others stand below that row
   untouched : (count : ℕ) (placed order : List PlacedEntry) (begun : List (List Cell)) → All (λ (e : PlacedEntry). IsNoEnd e.entry) placed
       → cell_at (painted (drawn_strokes layout 0 count placed order) begun) 0 cell ≡ cell_at begun 0 cell
-  unfolding is_at
   untouched count placed order begun others =
-      let one : List Write = connectors_of layout 1 placed in
-      let two : List Write = corners_of layout 0 count placed in
-      let three : List Write = stems_of layout 1 placed in
-      let four : List Write = labels_of layout 1 placed in
-      let five : List Write = marks_of layout 1 order in
-      let corners : All Leaves two = All-flat_map Leaves (corner_of layout 0 count) placed (λ k d within.
-      by_part (get_or placed k d) (get_or placed k d).entry.annotation_type (others k d within)) in
-      let barred : All Leaves (one ++ two) = All-append Leaves one two (lines_below placed) corners in
-      let hung : All Leaves (one ++ two ++ three) = All-append Leaves (one ++ two) three barred (stems_right layout bar room count placed order begun 0) in
-      let named : All Leaves (one ++ two ++ three ++ four) = All-append Leaves (one ++ two ++ three) four hung
-      (labels_right layout bar room count placed order begun 0) in
-      painted-untouched (drawn_strokes layout 0 count placed order) begun 0 cell
-      (All-append Leaves (one ++ two ++ three ++ four) five named (marks_right layout bar room count placed order begun 0))
-    where
-      by_part : (e : PlacedEntry) (part : LineAnnotationType) → (part ≡ MultilineEnd depth → ⊥) → All Leaves (corner_by layout 0 count e part)
-      by_part e Singleline other = All-nil Leaves
-      by_part e (MultilineStart d) other =
-          let corner : ℕ = 0 + 1 + e.position in
-          let line : ℕ = (strokes_of layout.decor (is_primary e.entry.kind)).bar in
-          let own : Write = glyph_at corner (layout.gutter + 2 + d) (strokes_of layout.decor (is_primary e.entry.kind)).bar_top (stroke_role e) in
-          let below : List Write = column_of (corner + 1) count (layout.gutter + 2 + d) line (stroke_role e) in
-          All-cons Leaves own below (λ there. omega (arith, there.row))
-          (All-column_of Leaves (corner + 1) count (layout.gutter + 2 + d) line (stroke_role e) (λ n from to there. omega (arith, there.row, from)))
-      by_part e (MultilineEnd d) other =
-          part_leaves layout bar room count placed order begun 0 e (MultilineEnd d)
-          (false_from_ne_true (d == depth) (λ same. other (ap MultilineEnd (eqb-true d depth same))))
-      by_part e (MultilineLine d) other = All-nil Leaves
+      let Leaves : Write → Type 0 = λ w. Reaches 0 cell w → ⊥ in
+      painted-untouched (drawn_strokes layout 0 count placed order) begun 0 cell (each_stroke Leaves layout 0 count placed order
+      (each_line Leaves layout 1 placed (λ k d within _ _ there. omega (arith, there.row)))
+      (each_corner Leaves layout 0 count placed (λ k d within deep _ _ _ _ ends _ _ there.
+      let same : deep ≡ depth = omega (arith, there.from, there.to) in others k d within (ends there.row ∙ ap MultilineEnd same)))
+      (each_stem_cell Leaves layout 1 placed (λ k d within _ _ _ _ there. omega (arith, there.row)))
+      (each_label Leaves layout 1 placed (λ k d within _ _ _ there. omega (arith, there.row)))
+      (each_mark Leaves layout 1 order (λ k d within _ _ _ _ _ _ there. omega (arith, there.row))))
 
   -- beside a line that isn't marked as a whole the cell stays, if no entry is such an end
   painted_source : (width : ℕ) (closes : Bool) (dropped : ℕ) (es : List LineAnnotation) (source : List Cell) (rows : List (List Cell)) → All IsNoEnd es
@@ -160,11 +123,9 @@ module _ (layout : Layout) (depth : ℕ) (room : layout.gutter + 2 + depth < lay
   painted_source width closes dropped es source rows none drawn =
       let placed : List PlacedEntry = drawn.placed in
       let begun : List (List Cell) = begun_rows layout closes (row_count placed) source in
-      let at : List (List Cell) → Cell = λ all. cell_at all 0 cell in
       let none_placed : All (λ (e : PlacedEntry). IsNoEnd e.entry) placed = entries_all IsNoEnd (map (shifted dropped) es) placed drawn.are.same
       (All-map IsNoEnd (shifted dropped) es none) in
-      let cut = rows_cut layout width closes (map (shifted dropped) es) source rows drawn in
-      ap at cut.new_is ∙ left_same layout.code cell cut.source_now drawn.top room cut.source_cut.left ∙ ap at drawn.painted_are
+      strokes_left layout width closes (map (shifted dropped) es) source rows drawn 0 cell room
       ∙ untouched (row_count placed + 1) placed (painting_order placed) begun none_placed
 
   module _ (width : ℕ) (closes : Bool) (text : List ℕ) (dropped : ℕ) (es : List LineAnnotation) (source : List Cell)
@@ -192,14 +153,9 @@ module _ (layout : Layout) (depth : ℕ) (room : layout.gutter + 2 + depth < lay
     pub line_source : (open_bars : List Bar) (rows : List (List Cell)) → AreLineRows layout width closes text dropped open_bars es source rows
         → All (λ b. b.depth ≢ depth) open_bars → 0 < length rows → cell_at rows 0 cell ≡ get_or source cell SPACE
     line_source open_bars rows drawn open_others some =
-        let past : List Bar = bars_apart open_bars (ends_of_bars es) in
-        let rule : List Cell → List Cell = with_parts layout Solid past in
-        let as_many : length rows ≡ length drawn.own = ap length drawn.rows_are ∙ length-map drawn.own rule in
-        let row : row_at rows 0 ≡ rule (row_at drawn.own 0) = ap (λ rs. row_at rs 0) drawn.rows_are
-        ∙ get_or-map rule drawn.own 0 [] [] (omega (arith, some, as_many)) in
-        let apart : All (λ b. b.depth ≢ depth) past = All-filter (λ (b : Bar). not (has_depth (ends_of_bars es) b.depth)) (λ b.
-        b.depth ≢ depth) open_bars open_others in
-        ap (λ cells. get_or cells cell SPACE) row ∙ passed_by layout bar room Solid past (row_at drawn.own 0) apart ∙ own_source drawn.own drawn.are
+        let apart : All (λ b. b.depth ≢ depth) (bars_apart open_bars (ends_of_bars es)) =
+        All-filter (λ (b : Bar). not (has_depth (ends_of_bars es) b.depth)) (λ b. b.depth ≢ depth) open_bars open_others in
+        own_cell layout bar room drawn apart 0 some ∙ own_source drawn.own drawn.are
 
   -- nor beside lines that are left out
   pub gap_space : (open_bars : List Bar) → All (λ b. b.depth ≢ depth) open_bars → 0 < depth → get_or (gap_row layout open_bars) cell SPACE ≡ SPACE
@@ -215,15 +171,8 @@ module _ (layout : Layout) (bar : Bar) (room : layout.gutter + 2 + bar.depth < l
       → All (λ e. e.annotation_type ≡ MultilineEnd bar.depth → ⊥) es → get_or source (layout.gutter + 2 + bar.depth) SPACE ≡ SPACE → BarBegins layout bar rows
   begins width closes text dropped open_bars source rows drawn none blank =
       bar_begins layout bar room es among alone width closes text dropped open_bars source rows drawn none (λ other.
-      let past : List Bar = bars_apart open_bars (ends_of_bars es) in
-      let rule : List Cell → List Cell = with_parts layout Solid past in
-      let as_many : length rows ≡ length drawn.own = ap length drawn.rows_are ∙ length-map drawn.own rule in
-      let strokes = drawn.are.strokes other (some_entries layout bar room es among alone width closes text dropped open_bars source rows drawn) in
-      let row : row_at rows 0 ≡ rule (row_at drawn.own 0) = ap (λ rs. row_at rs 0) drawn.rows_are
-      ∙ get_or-map rule drawn.own 0 [] [] (omega (arith, strokes.count)) in
-      ap (λ cells. get_or cells (layout.gutter + 2 + bar.depth) SPACE) row
-      ∙ passed_by layout bar room Solid past (row_at drawn.own 0) (past_apart layout bar room es among alone open_bars)
-      ∙ painted_source layout bar.depth room width closes dropped es source drawn.own none strokes ∙ blank)
+      painted_source layout bar.depth room width closes dropped es source drawn.own none
+      (drawn.are.strokes other (some_entries layout bar room es among alone width closes text dropped open_bars source rows drawn)) ∙ blank)
 
 -- What is seen of the rows of lines, which are a value: what stands in their source rows, and in the rows of their strokes.
 -- highlighting puts no other character into a row

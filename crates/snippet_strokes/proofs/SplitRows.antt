@@ -1,22 +1,21 @@
 -- Strokes are painted into the source row of a line apart from the rows below it: what stands in these is the same over any source row.
 use Rattle.std.proofs.lemmas.Grind.{common_steps}
-use Rattle.snippet_strokes.proofs.Common.{All, ◌≡◌, drop, ℕ, ◌+◌, ◌-◌, ◌<◌, ◌≤◌, ◌^◌, List, [], ◌∷◌, ◌++◌, Bool, length}
-use Rattle.snippet_strokes.proofs.Common.{map, replicate, refl, sym, ap, ◌∙◌, subst, arith, LineAnnotation, Cell, separator_row, Layout, PlacedEntry}
-use Rattle.snippet_strokes.proofs.Common.{shifted, entries_all, row_at, painting_order, bare_row, painted, AreDrawable, IsReady, HasBarCell, row_count}
-use Rattle.snippet_strokes.proofs.Common.{AreEnough, HasPlaceAmong, HasRows, is_uncut, connectors_of, corners_of, labels_of, HasPlace, ArePlaced, stems_of, suc}
-use Rattle.snippet_strokes.proofs.Common.{◌==◌, cond, false, take, fold, get_or, range_with_len, append_assoc, length-drop, length-take-le, length_push}
-use Rattle.snippet_strokes.proofs.Common.{take-append-drop, nat_tests, flat_map-cons, All-append, All-cons, All-head, All-nil, All-tail, fold-append}
-use Rattle.snippet_strokes.proofs.Common.{cells_written, is_primary, LineAnnotationType, Singleline, MultilineStart, MultilineEnd, MultilineLine, SPACE}
-use Rattle.snippet_strokes.proofs.Common.{text_cells, written, strokes_of, stroke_role, connector_of, corner_of, label_of, first_glyph, top_of, tops_of, Write}
-use Rattle.snippet_strokes.proofs.Common.{glyph_at, rules}
+use Rattle.snippet_strokes.proofs.Common.{All, ◌≡◌, drop, ℕ, ◌+◌, ◌-◌, ◌<◌, ◌≤◌, ◌^◌, List, [], ◌∷◌, ◌++◌, Bool, length, map, replicate, refl, sym, ap, ◌∙◌}
+use Rattle.snippet_strokes.proofs.Common.{subst, arith, LineAnnotation, Cell, separator_row, Layout, PlacedEntry, shifted, entries_all, row_at}
+use Rattle.snippet_strokes.proofs.Common.{painting_order, bare_row, painted, AreDrawable, IsReady, HasBarCell, row_count, AreEnough, HasPlaceAmong, HasRows}
+use Rattle.snippet_strokes.proofs.Common.{is_uncut, connectors_of, corners_of, labels_of, HasPlace, ArePlaced, stems_of, suc, ◌==◌, cond, false, take, fold}
+use Rattle.snippet_strokes.proofs.Common.{get_or, range_with_len, append_assoc, length-drop, length-take-le, length_push, take-append-drop, nat_tests}
+use Rattle.snippet_strokes.proofs.Common.{flat_map-cons, All-append, All-cons, All-head, All-nil, All-tail, fold-append, cells_written, is_primary}
+use Rattle.snippet_strokes.proofs.Common.{LineAnnotationType, Singleline, MultilineStart, MultilineEnd, MultilineLine, SPACE, text_cells, written, strokes_of}
+use Rattle.snippet_strokes.proofs.Common.{stroke_role, corner_of, top_of, tops_of, Write, glyph_at, rules}
 use Rattle.snippet_strokes.proofs.SeenRows.{wide_entries, AreSeen, CutsRows, HasNoBars}
 use Rattle.snippet_strokes.proofs.LineFromValue.{rows_cut}
 use Rattle.snippet_strokes.proofs.StrokeCells.{Painted-marks}
-use Rattle.snippet_strokes.proofs.PieceWrites.{All-label_of, labels_some}
-use Rattle.snippet_strokes.proofs.WriteLaws.{StrokesPainted, labels_count, All-flat_map}
-use Rattle.snippet_strokes.proofs.CellLemmas.{drawn_strokes, marks_of, begun_rows, drawn_mark, bar_writes, corner_by, top_by, written_by}
-use Rattle.snippet_strokes.proofs.BarWrites.{DrawsBarCells-corners, DrawsFrom-connectors, DrawsFrom-stems, All-column_of, All-connector_of, All-stretch_of}
-use Rattle.snippet_strokes.proofs.BarWrites.{All-stem_of, All-stems_of}
+use Rattle.snippet_strokes.proofs.EachStroke.{All-column_of, All-flat_map, each_label, each_line, each_mark, each_stem_cell}
+use Rattle.snippet_strokes.proofs.PieceWrites.{labels_some}
+use Rattle.snippet_strokes.proofs.WriteLaws.{StrokesPainted, labels_count}
+use Rattle.snippet_strokes.proofs.CellLemmas.{drawn_strokes, marks_of, begun_rows, bar_writes, corner_by, top_by, written_by}
+use Rattle.snippet_strokes.proofs.BarWrites.{DrawsBarCells-corners, DrawsFrom-connectors, DrawsFrom-stems}
 use Rattle.snippet_strokes.proofs.BegunLemmas.{rows_begun, rows_ready, sole}
 use Rattle.snippet_strokes.proofs.PositionLemmas.{HasRows-row_count, row_count_some}
 use Rattle.snippet_strokes.proofs.ReadyLemmas.{all_ready, ready_bar_cells}
@@ -57,12 +56,6 @@ top_kept (w ∷ ws) row below = grind (arith, All-head, All-tail, not_first, top
 rest_kept : (ws : List Write) (rows : List (List Cell)) → All (λ w. w.row ≡ 0) ws → fold rest_written rows ws ≡ rows
 rest_kept [] rows top = refl
 rest_kept (w ∷ ws) rows top = grind (arith, All-head, All-tail, rest_kept ws rows (All-tail (λ v. v.row ≡ 0) w ws top))
-
--- what holds of the first glyph of a mark, and of its line, holds of the mark
-All-drawn_mark : (P : Write → Type 0) (layout : Layout) (row : ℕ) (e : PlacedEntry)
-    → P (glyph_at row (layout.code + e.entry.start.display) (first_glyph layout.decor e) (stroke_role e))
-    → ((w : Write) → w.row ≡ row → P w) → All P (drawn_mark layout row e)
-All-drawn_mark P layout row e first line = search rules
 
 -- ---- the strokes of a line
 
@@ -110,22 +103,16 @@ module _ (layout : Layout) where
 
   -- all else stands below it
   connectors_below : (es : List PlacedEntry) → All IsBelow (connectors_of layout 1 es)
-  connectors_below es =
-      All-flat_map IsBelow (connector_of layout 1) es (λ k d within.
-      let e : PlacedEntry = get_or es k d in
-      let low : 0 < 1 + e.position = omega arith in
-      All-connector_of IsBelow layout 1 e (λ depth. All-stretch_of IsBelow (1 + e.position) (layout.gutter + 3 + depth) (layout.code + e.entry.start.display)
-      (strokes_of layout.decor (is_primary e.entry.kind)).connector (stroke_role e) low))
+  connectors_below es = each_line IsBelow layout 1 es (λ _ _ _ _ _. omega arith)
 
   stems_below : (es : List PlacedEntry) → All IsBelow (stems_of layout 1 es)
-  stems_below es = All-stems_of IsBelow layout 1 es (λ k d within. All-stem_of IsBelow layout 1 (get_or es k d) (λ b low. omega arith))
+  stems_below es = each_stem_cell IsBelow layout 1 es (λ _ _ _ _ _ _ _. omega arith)
 
   labels_below : (es : List PlacedEntry) → All IsBelow (labels_of layout 1 es)
-  labels_below es = All-flat_map IsBelow (label_of layout 1) es (λ k d within. All-label_of IsBelow layout 1 (get_or es k d) (λ n _ _. omega arith))
+  labels_below es = each_label IsBelow layout 1 es (λ _ _ _ _ _ _. omega arith)
 
   marks_below : (es : List PlacedEntry) → All IsBelow (marks_of layout 1 es)
-  marks_below es = All-flat_map IsBelow (drawn_mark layout 1) es (λ k d within. All-drawn_mark IsBelow layout 1 (get_or es k d) (omega arith) (λ w is. omega
-      (arith, is)))
+  marks_below es = each_mark IsBelow layout 1 es (λ _ _ _ _ _ _ _ _ _. omega arith)
 
   strokes_top : (count : ℕ) (placed order : List PlacedEntry) (row : List Cell)
       → fold top_written row (drawn_strokes layout 0 count placed order) ≡ fold top_written row (tops_of layout 0 placed)

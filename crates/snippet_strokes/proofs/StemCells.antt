@@ -1,53 +1,33 @@
 -- Stems lead to labels: below a mark whose label hangs, a stem stands in each row down to the label, unless a label stands there.
 use Rattle.std.proofs.lemmas.Grind.{common_steps}
-use Rattle.snippet_strokes.proofs.Common.{◌≡◌, ℕ, zero, suc, ◌+◌, ◌-◌, ◌<◌, ◌≤◌, ◌==◌, ◌&&◌, ◌||◌, nat_lt, cond, Bool}
-use Rattle.snippet_strokes.proofs.Common.{true, false, List, [], ◌∷◌, ◌++◌, length, get_or, map, refl, sym, ap, subst, arith, inl, inr, All, list_any}
-use Rattle.snippet_strokes.proofs.Common.{range_with_len, cases_Bool, nat_tests, All-cons, All-head, All-nil, All-tail, get_or-map-range_with_len}
-use Rattle.snippet_strokes.proofs.Common.{length-map-range_with_len, cell_at, is_primary, Cell, unlinked_cell, strokes_of, underline_role, DecorStyle, Layout}
-use Rattle.snippet_strokes.proofs.Common.{PlacedEntry, stroke_role, has_label, has_stem, takes_space, Write, glyph_at, painted, stretch_of, IsStemCell}
-use Rattle.snippet_strokes.proofs.Common.{stem_glyphs, label_of, stem_of, first_glyph, mark_end, foot_glyph, connectors_of, corners_of, labels_of}
-use Rattle.snippet_strokes.proofs.Common.{is_stem_covered, stems_of, take, drop, replicate, ◌∙◌, length-append, length-map, length-replicate}
-use Rattle.snippet_strokes.proofs.Common.{take-append-drop, All-append, All-map, get_or-range_with_len, length-range_with_len, bar_cell, code_cell, inner_cell}
-use Rattle.snippet_strokes.proofs.Common.{separator_row, ElementStyle, LineAnnotation, LineAnnotationType, MultilineEnd, MultilineLine, MultilineStart}
-use Rattle.snippet_strokes.proofs.Common.{Singleline, label_place, placed_of, overlapped, row_count, HasRows, painting_order, bare_row, column_of, connector_of}
-use Rattle.snippet_strokes.proofs.Common.{corner_of, stroke_rows, Option, None, Some, option_map_or, map-append, take-map, drop-map, Margin, window, LineNumber}
-use Rattle.snippet_strokes.proofs.Common.{Quotation, placeholder_of, SPACE, written, row_text, window_cells, begun_cells, ended_cells, row_text-text_cells}
-use Rattle.snippet_strokes.proofs.Common.{rules}
-use Rattle.snippet_strokes.proofs.StrokeGlyphs.{of_foot, stems_among}
-use Rattle.snippet_strokes.proofs.CellLemmas.{written_by, drawn_mark, drawn_strokes, marks_of, stem_write, cut_row, bar_writes, begun_rows, corner_by}
-use Rattle.snippet_strokes.proofs.CellLemmas.{above_zero}
-use Rattle.snippet_strokes.proofs.PieceWrites.{All-label_of, has_piece, labels_some}
+use Rattle.snippet_strokes.proofs.Common.{◌≡◌, ℕ, zero, suc, ◌+◌, ◌-◌, ◌<◌, ◌≤◌, ◌==◌, ◌&&◌, ◌||◌, nat_lt, cond, Bool, true, false, List, [], ◌∷◌, ◌++◌}
+use Rattle.snippet_strokes.proofs.Common.{length, get_or, map, refl, sym, ap, subst, arith, All, range_with_len, nat_tests, All-head, All-tail}
+use Rattle.snippet_strokes.proofs.Common.{get_or-map-range_with_len, length-map-range_with_len, cell_at, is_primary, Cell, unlinked_cell, underline_role}
+use Rattle.snippet_strokes.proofs.Common.{DecorStyle, Layout, PlacedEntry, stroke_role, has_label, has_stem, takes_space, Write, painted, IsStemCell}
+use Rattle.snippet_strokes.proofs.Common.{stem_glyphs, stem_of, connectors_of, corners_of, labels_of, stems_of, take, drop, replicate, ◌∙◌, length-append}
+use Rattle.snippet_strokes.proofs.Common.{length-map, length-replicate, take-append-drop, separator_row, LineAnnotation, placed_of, overlapped, row_count}
+use Rattle.snippet_strokes.proofs.Common.{HasRows, painting_order, bare_row, stroke_rows, Option, None, Some, option_map_or, map-append, take-map, drop-map}
+use Rattle.snippet_strokes.proofs.Common.{Margin, window, LineNumber, Quotation, placeholder_of, SPACE, written, row_text, window_cells, begun_cells}
+use Rattle.snippet_strokes.proofs.Common.{ended_cells, row_text-text_cells, rules, flat_map}
+use Rattle.snippet_strokes.proofs.StrokeGlyphs.{IsAmong}
+use Rattle.snippet_strokes.proofs.EveryStem.{stems_painted}
+use Rattle.snippet_strokes.proofs.EachStroke.{All-flat_map, each_cell_of_stem, each_corner, each_label, each_line, each_mark, each_stem_cell, each_stroke}
+use Rattle.snippet_strokes.proofs.EachStroke.{glyphs_leave}
+use Rattle.snippet_strokes.proofs.CellLemmas.{written_by, drawn_strokes, marks_of, stem_write, cut_row, begun_rows, above_zero}
+use Rattle.snippet_strokes.proofs.PieceWrites.{has_piece, labels_some}
 use Rattle.snippet_strokes.proofs.PlacedOf.{placed_of_are}
-use Rattle.snippet_strokes.proofs.WriteLaws.{painted-append, All-flat_map, cell-written, painted-cell, painted-count}
+use Rattle.snippet_strokes.proofs.WriteLaws.{painted-append, cell-written, painted-cell, painted-count}
 use Rattle.snippet_strokes.proofs.Reach.{Reaches, cell_of_write}
-use Rattle.snippet_strokes.proofs.BarWrites.{All-stretch_of, All-stem_of, All-stems_of, stems_next, stems_skip, All-connector_of}
 use Rattle.snippet_strokes.proofs.StrokeCells.{BesideLabels}
 use Rattle.snippet_strokes.proofs.CutWords.{cuts_of}
 use Rattle.snippet_strokes.proofs.PositionLemmas.{HasRows-row_count, row_count_some}
 use Rattle.snippet_strokes.proofs.CutLemmas.{stroke_rows-cut}
 use Rattle.snippet_labels.specs.Positions.{pieces_of}
 
--- ---- glyphs
-
--- the character is a glyph of stems
-abbrev Among : DecorStyle → ℕ → Type 0
-Among decor ch = list_any (λ g. ch == g) (stem_glyphs decor) ≡ true
-
--- in the role of strokes it is a stem
-stem_cell : (decor : DecorStyle) (primary : Bool) (ch : ℕ) → Among decor ch → IsStemCell decor (unlinked_cell (underline_role primary) ch)
+-- a glyph of stems is a stem in the role of an entry's strokes
+stem_cell : (decor : DecorStyle) (primary : Bool) (ch : ℕ) → IsAmong (stem_glyphs decor) ch → IsStemCell decor (unlinked_cell (underline_role primary) ch)
 stem_cell decor true ch among = (among, refl)
 stem_cell decor false ch among = (among, refl)
-
--- ---- which entry hides another
-
--- the stem of the next entry covers that of an entry
-record Hides (e next : PlacedEntry) : Type 0 where
-  pub stem : has_stem next ≡ true
-  pub column : next.entry.start.display ≡ e.entry.start.display
-  pub deep : e.position ≤ next.position
-
-hides : (e next : PlacedEntry) (later : List PlacedEntry) → is_stem_covered e (next ∷ later) ≡ true → Hides e next
-hides e next later hidden = search rules
 
 module _ (layout : Layout) (r c : ℕ) where
   abbrev P : Cell → Type 0
@@ -69,24 +49,8 @@ module _ (layout : Layout) (r c : ℕ) where
   -- each cell of a stem is one
   stem_leaves : (row : ℕ) (e : PlacedEntry) → All Q (stem_of layout row e)
   stem_leaves row e =
-      let primary : Bool = is_primary e.entry.kind in
-      let foot : ℕ = foot_glyph layout.decor e in
-      let line : ℕ = (strokes_of layout.decor primary).stem in
-      let S : ℕ → Type 0 = λ ch. P (unlinked_cell (stroke_role e) ch) in
-      let among : (b : Bool) → Among layout.decor (cond b foot line) = λ b.
-      either b foot line (of_foot (Among layout.decor) e.entry.annotation_type layout.decor primary (has_label e) (stems_among layout.decor primary))
-      (stems_among layout.decor primary).stem in
-      All-stem_of Q layout row e (λ b low there.
-      let glyph : ℕ = cond (b == e.position) foot line in
-      let whole : All S (glyph ∷ []) = All-cons S glyph [] (stem_cell layout.decor primary glyph (among (b == e.position))) (All-nil S) in
-      whole (c - (layout.code + e.entry.start.display)) 0 (omega (arith, there.from, there.to)))
-    where
-      either : (b : Bool) (foot line : ℕ) → Among layout.decor foot → Among layout.decor line → Among layout.decor (cond b foot line)
-      either true foot line is_foot is_line = is_foot
-      either false foot line is_foot is_line = is_line
-
-  stems_leave : (row : ℕ) (es : List PlacedEntry) → All Q (stems_of layout row es)
-  stems_leave row es = All-stems_of Q layout row es (λ k d within. stem_leaves row (get_or es k d))
+      each_cell_of_stem Q layout row e (λ b glyph low among. glyphs_leave P r c (row + b) (layout.code + e.entry.start.display) 1 glyph (stroke_role e)
+      (stem_cell layout.decor (is_primary e.entry.kind) glyph among))
 
   -- a stem that is drawn stands in each of its cells
   stem_stands : (row b : ℕ) (e : PlacedEntry) (rows : List (List Cell)) → has_stem e ≡ true → b ≤ e.position → r ≡ row + b
@@ -104,48 +68,20 @@ module _ (layout : Layout) (r c : ℕ) where
       ap_cell : {vs : List Write} → stem_of layout row e ≡ vs → P (cell_at (painted vs rows) r c) → P (cell_at (painted (stem_of layout row e) rows) r c)
       ap_cell same holds = subst (λ ws. P (cell_at (painted ws rows) r c)) (sym same) holds
 
-  -- and where it isn't drawn the one that covers it does
+  -- and where further ones are drawn after it
   stems_stand : (row : ℕ) (es : List PlacedEntry) (k b : ℕ) (d : PlacedEntry) (rows : List (List Cell)) → k < length es
       → has_stem (get_or es k d) ≡ true → b ≤ (get_or es k d).position → r ≡ row + b → c ≡ layout.code + (get_or es k d).entry.start.display
-      → P (cell_at (painted (stems_of layout row es) rows) r c)
+      → P (cell_at (painted (flat_map (stem_of layout row) es) rows) r c)
   stems_stand row [] k b d rows within stem low at_row at_cell = absurd (omega (arith, within))
+  stems_stand row (e ∷ later) zero b d rows within stem low at_row at_cell =
+      let own : List Write = stem_of layout row e in
+      let others : List Write = flat_map (stem_of layout row) later in
+      subst (λ rs. P (cell_at rs r c)) (sym (painted-append own others rows)) (painted-cell P others (painted own rows) r c
+      (stem_stands row b e rows stem low at_row at_cell) (All-flat_map Q (stem_of layout row) later (λ k x inside. stem_leaves row (get_or later k x))))
   stems_stand row (e ∷ later) (suc k) b d rows within stem low at_row at_cell =
-      let own : List Write = cond (is_stem_covered e later) [] (stem_of layout row e) in
-      subst (λ rs. P (cell_at rs r c)) (sym (painted-append own (stems_of layout row later) rows))
+      let own : List Write = stem_of layout row e in
+      subst (λ rs. P (cell_at rs r c)) (sym (painted-append own (flat_map (stem_of layout row) later) rows))
       (stems_stand row later k b d (painted own rows) (omega (arith, within)) stem low at_row at_cell)
-  stems_stand row (e ∷ []) zero b d rows within stem low at_row at_cell =
-      let drawn : List (List Cell) = painted (stem_of layout row e) rows in
-      subst (λ rs. P (cell_at rs r c)) (stems_next layout row e [] rows drawn refl refl) (stem_stands row b e rows stem low at_row at_cell)
-  stems_stand row (e ∷ next ∷ later) zero b d rows within stem low at_row at_cell =
-      let others : List PlacedEntry = next ∷ later in
-      elim (cases_Bool (is_stem_covered e others)) [
-        | inl hidden ↦
-            let by : Hides e next = hides e next later hidden in
-            subst (λ rs. P (cell_at rs r c)) (stems_skip layout row e others rows hidden)
-            (stems_stand row (next ∷ later) zero b d rows (omega arith) by.stem (omega (arith, low, by.deep)) at_row (omega (arith, at_cell, by.column)))
-        | inr shown ↦
-            let drawn : List (List Cell) = painted (stem_of layout row e) rows in
-            subst (λ rs. P (cell_at rs r c)) (stems_next layout row e others rows drawn shown refl)
-            (painted-cell P (stems_of layout row others) drawn r c (stem_stands row b e rows stem low at_row at_cell) (stems_leave row others))
-      ]
-
-  -- marks stand in their own row alone
-  marks_beside : (row : ℕ) (order : List PlacedEntry) → row < r → All Q (marks_of layout row order)
-  marks_beside row order below =
-      All-flat_map Q (drawn_mark layout row) order (λ k d within. mark (get_or order k d))
-    where
-      mark : (e : PlacedEntry) → All Q (drawn_mark layout row e)
-      mark e =
-          let from : ℕ = layout.code + e.entry.start.display in
-          let to : ℕ = layout.code + mark_end e in
-          let glyph : ℕ = (strokes_of layout.decor (is_primary e.entry.kind)).underline in
-          let first : Write = glyph_at row from (first_glyph layout.decor e) (stroke_role e) in
-          let rest : List Write = stretch_of row (from + 1) to glyph (stroke_role e) in
-          elim (nat_lt from to) as (λ b. All Q (cond b (first ∷ rest) [])) [
-            | true ↦ All-cons Q first rest (λ there. absurd (omega (arith, there.row, below)))
-                (All-stretch_of Q row (from + 1) to glyph (stroke_role e) (λ there. absurd (omega (arith, there.row, below))))
-            | false ↦ All-nil Q
-          ]
 
   -- so a stem stands in each cell between the row of the marks and a label that hangs, if no label stands there: nothing else is
   -- painted over it
@@ -161,13 +97,14 @@ module _ (layout : Layout) (r c : ℕ) where
       let marks : List Write = marks_of layout (row + 1) order in
       let stem : has_stem e ≡ true = hangs e.position (has_label e) (takes_space e) (omega (arith, some, low)) has in
       let hung : P (cell_at (painted (bars ++ stems) rows) r c) = subst (λ rs.
-      P (cell_at rs r c)) (sym (painted-append bars stems rows)) (stems_stand (row + 1) placed k b d (painted bars rows) within stem low at_row at_cell) in
-      let own_labels : All Q labels = All-flat_map Q (label_of layout (row + 1)) placed (λ i x inside.
-      All-label_of Q layout (row + 1) (get_or placed i x) (λ n _ _ there. absurd (beside i x inside n there))) in
+      P (cell_at rs r c)) (sym (painted-append bars stems rows ∙ sym (stems_painted layout (row + 1) placed (painted bars rows))))
+      (stems_stand (row + 1) placed k b d (painted bars rows) within stem low at_row at_cell) in
+      let own_labels : All Q labels = each_label Q layout (row + 1) placed (λ i x inside n _ _ there. absurd (beside i x inside n there)) in
       let named : P (cell_at (painted (bars ++ stems ++ labels) rows) r c) = subst (λ rs.
       P (cell_at rs r c)) (sym (painted-append (bars ++ stems) labels rows)) (painted-cell P labels (painted (bars ++ stems) rows) r c hung own_labels) in
       subst (λ rs. P (cell_at rs r c)) (sym (painted-append (bars ++ stems ++ labels) marks rows))
-      (painted-cell P marks (painted (bars ++ stems ++ labels) rows) r c named (marks_beside (row + 1) order (omega (arith, some, at_row))))
+      (painted-cell P marks (painted (bars ++ stems ++ labels) rows) r c named
+      (each_mark Q layout (row + 1) order (λ _ _ _ _ _ _ _ _ _ there. absurd (omega (arith, there.row, some, at_row)))))
     where
       hangs : (p : ℕ) (label space : Bool) → 0 < p → label ≡ true → (nat_lt 0 p && (label || space)) ≡ true
       hangs p label space some has = grind (arith, nat_tests, some, has)
@@ -185,61 +122,15 @@ pub all_hung : (layout : Layout) (row count : ℕ) (placed order : List PlacedEn
 all_hung layout row count placed order rows k d within has b some low beside = search (rules, stem_of_strokes)
 
 -- Strokes stay in the rows that there are, so a line has as many rows as its entries ask for, and its source row.
-module _ (layout : Layout) (count : ℕ) where
-  -- a write into one of so many rows
-  abbrev Inside : Write → Type 0
-  Inside w = w.row < count
-
-  column_inside : (start end cell glyph : ℕ) (role : ElementStyle) → end ≤ count → All Inside (column_of start end cell glyph role)
-  column_inside start end cell glyph role low =
-      All-map Inside (λ row. glyph_at row cell glyph role) (range_with_len start (end - start)) (λ k d within.
-      let inside : k < end - start = omega (arith, within, length-range_with_len start (end - start)) in
-      omega (arith, low, inside, get_or-range_with_len start (end - start) k d inside))
-
-  corner_inside : (e : PlacedEntry) → 1 + e.position < count → All Inside (corner_of layout 0 count e)
-  corner_inside e mark = by_part e.entry.annotation_type
-    where
-      by_part : (part : LineAnnotationType) → All Inside (corner_by layout 0 count e part)
-      by_part Singleline = All-nil Inside
-      by_part (MultilineStart depth) =
-          let corner : ℕ = 0 + 1 + e.position in
-          All-cons Inside (glyph_at corner (bar_cell layout depth) (strokes_of layout.decor (is_primary e.entry.kind)).bar_top (stroke_role e))
-          (bar_writes layout e depth (corner + 1) count) (omega (arith, mark))
-          (column_inside (corner + 1) count (bar_cell layout depth) (strokes_of layout.decor (is_primary e.entry.kind)).bar (stroke_role e) (omega arith))
-      by_part (MultilineEnd depth) =
-          let corner : ℕ = 0 + 1 + e.position in
-          let foot : Write = glyph_at corner (bar_cell layout depth) (strokes_of layout.decor (is_primary e.entry.kind)).bar_bottom (stroke_role e) in
-          All-append Inside (bar_writes layout e depth 0 corner) (foot ∷ [])
-          (column_inside 0 corner (bar_cell layout depth) (strokes_of layout.decor (is_primary e.entry.kind)).bar (stroke_role e) (omega (arith, mark)))
-          (All-cons Inside foot [] (omega (arith, mark)) (All-nil Inside))
-      by_part (MultilineLine depth) = All-nil Inside
-
-  label_inside : (e : PlacedEntry) → HasRows 1 count e → (n : ℕ) → n < length (pieces_of e) → 0 < length (get_or (pieces_of e) n [])
-      → 1 + (label_place e).0 + n < count
-  label_inside e rows n within some = omega (arith, rows.label (has_piece e n some), within)
-
-  mark_inside : (e : PlacedEntry) → 1 < count → All Inside (drawn_mark layout 1 e)
-  mark_inside e some = search rules
-
-  pub strokes_inside : (placed order : List PlacedEntry) → 1 < count → All (HasRows 1 count) placed → All Inside (drawn_strokes layout 0 count placed order)
-  strokes_inside placed order some rows =
-      let connectors : All Inside (connectors_of layout 1 placed) = All-flat_map Inside (connector_of layout 1) placed (λ k d within.
-      let e : PlacedEntry = get_or placed k d in
-      All-connector_of Inside layout 1 e (λ depth. All-stretch_of Inside (1 + e.position) (inner_cell layout + depth) (code_cell layout e.entry.start.display)
-      (strokes_of layout.decor (is_primary e.entry.kind)).connector (stroke_role e) (rows k d within).mark)) in
-      let corners : All Inside (corners_of layout 0 count placed) = All-flat_map Inside (corner_of layout 0 count) placed (λ k d within.
-      corner_inside (get_or placed k d) (rows k d within).mark) in
-      let stems : All Inside (stems_of layout 1 placed) = All-stems_of Inside layout 1 placed (λ k d within.
-      All-stem_of Inside layout 1 (get_or placed k d) (λ b low. omega (arith, (rows k d within).mark, low))) in
-      let labels : All Inside (labels_of layout 1 placed) = All-flat_map Inside (label_of layout 1) placed (λ k d within.
-      All-label_of Inside layout 1 (get_or placed k d) (label_inside (get_or placed k d) (rows k d within))) in
-      let marks : All Inside (marks_of layout 1 order) = All-flat_map Inside (drawn_mark layout 1) order (λ k d within.
-      mark_inside (get_or order k d) some) in
-      All-append Inside (connectors_of layout 1 placed ++ corners_of layout 0 count placed ++ stems_of layout 1 placed ++ labels_of layout 1 placed)
-      (marks_of layout 1 order)
-      (All-append Inside (connectors_of layout 1 placed ++ corners_of layout 0 count placed ++ stems_of layout 1 placed) (labels_of layout 1 placed)
-      (All-append Inside (connectors_of layout 1 placed ++ corners_of layout 0 count placed) (stems_of layout 1 placed)
-      (All-append Inside (connectors_of layout 1 placed) (corners_of layout 0 count placed) connectors corners) stems) labels) marks
+strokes_inside : (layout : Layout) (count : ℕ) (placed order : List PlacedEntry) → 1 < count → All (HasRows 1 count) placed
+    → All (λ w. w.row < count) (drawn_strokes layout 0 count placed order)
+strokes_inside layout count placed order some rows =
+    let Inside : Write → Type 0 = λ w. w.row < count in
+    each_stroke Inside layout 0 count placed order (each_line Inside layout 1 placed (λ k d within _ _. (rows k d within).mark))
+    (each_corner Inside layout 0 count placed (λ k d within _ _ _ _ _ _ there _. omega (arith, there, (rows k d within).mark)))
+    (each_stem_cell Inside layout 1 placed (λ k d within _ _ low _. omega (arith, (rows k d within).mark, low)))
+    (each_label Inside layout 1 placed (λ k d within n inside some.
+    omega (arith, (rows k d within).label (has_piece (get_or placed k d) n some), inside))) (each_mark Inside layout 1 order (λ _ _ _ _ _ _ _ _ _. some))
 
 -- the rows over which strokes are painted stay as many
 pub painted_rows-count : (layout : Layout) (closes : Bool) (placed order : List PlacedEntry) (source : List Cell)

@@ -1,23 +1,23 @@
 -- Laws of rows after writes: what no write reaches stays, the last write of a cell stands, and writes with a property leave
 -- rows with it.
-use Rattle.snippet_strokes.proofs.Common.{All, ◌≡◌, ◌≢◌, ℕ, ◌+◌, ◌<◌, ◌≤◌, ◌^◌, Bool, true, false, List, [], ◌∷◌, drop}
-use Rattle.snippet_strokes.proofs.Common.{filter, length, map, not, take, if◌then◌else◌, slice_index_or, shown_number, LineNumbers, IsFree, is_bar}
-use Rattle.snippet_strokes.proofs.Common.{AnnotatedLineInfo, LineAnnotation, Cell, SPACE, text_cells, unlinked_cell, separator_of, closing_row, LineNumber}
-use Rattle.snippet_strokes.proofs.Common.{norm, width_of, StandsClear, dropped_part, Margin, Layout, separator_cell, is_end_part, shifted, PlacedEntry, Solid}
-use Rattle.snippet_strokes.proofs.Common.{Top, OpenBar, bars_apart, ends_of_bars, is_whole_line, ArePlaced, overlapped, AreDrawable, row_count, painting_order}
-use Rattle.snippet_strokes.proofs.Common.{source_row, window_cells, painted, ◌++◌, get_or, refl, sym, ap, ◌∙◌, arith, inl, inr, All-nil}
-use Rattle.snippet_strokes.proofs.Common.{AnnotationKind, Primary, Context, Visible, cells_written, label_role, is_mark_role, HasRows, has_label}
-use Rattle.snippet_strokes.proofs.Common.{Write, label_of, labels_of, HasPlace, ◌-◌, ◌⊎◌, cases_lt, cases_eq, All-append, All-head, All-tail}
-use Rattle.snippet_strokes.proofs.Common.{All-weaker, flat_map, cell_at, row_at, WritesCells-cells_written, length-text_cells, slice_index_or-text_cells}
-use Rattle.snippet_strokes.proofs.Common.{IsFreeCell, nat_lt, replicate, nat_tests, take_more, append-nil, flat_map-append, fold-append, ElementStyle}
-use Rattle.snippet_strokes.proofs.Common.{strokes_of, is_primary, stroke_role, first_glyph, mark_end, stretch_of, common_steps, rules, code_cell}
-use Rattle.snippet_strokes.proofs.Common.{label_place, pieces_at, row_at-cells_written_same, written}
+use Rattle.snippet_strokes.proofs.Common.{All, ◌≡◌, ◌≢◌, ℕ, ◌+◌, ◌<◌, ◌≤◌, ◌^◌, Bool, true, false, List, [], ◌∷◌, drop, filter, length, map, not, take}
+use Rattle.snippet_strokes.proofs.Common.{if◌then◌else◌, slice_index_or, shown_number, LineNumbers, IsFree, is_bar, AnnotatedLineInfo, LineAnnotation, Cell}
+use Rattle.snippet_strokes.proofs.Common.{SPACE, text_cells, unlinked_cell, separator_of, closing_row, LineNumber, norm, width_of, StandsClear, dropped_part}
+use Rattle.snippet_strokes.proofs.Common.{Margin, Layout, separator_cell, is_end_part, shifted, PlacedEntry, Solid, Top, OpenBar, bars_apart, ends_of_bars}
+use Rattle.snippet_strokes.proofs.Common.{is_whole_line, ArePlaced, overlapped, AreDrawable, row_count, painting_order, source_row, window_cells, painted}
+use Rattle.snippet_strokes.proofs.Common.{◌++◌, get_or, refl, sym, ap, ◌∙◌, arith, inl, inr, AnnotationKind, Primary, Context, Visible, cells_written}
+use Rattle.snippet_strokes.proofs.Common.{label_role, is_mark_role, HasRows, has_label, Write, label_of, labels_of, HasPlace, ◌-◌, ◌⊎◌, cases_lt, cases_eq}
+use Rattle.snippet_strokes.proofs.Common.{All-head, All-tail, All-weaker, flat_map, cell_at, row_at, WritesCells-cells_written, length-text_cells}
+use Rattle.snippet_strokes.proofs.Common.{slice_index_or-text_cells, IsFreeCell, nat_lt, replicate, nat_tests, take_more, append-nil, flat_map-append}
+use Rattle.snippet_strokes.proofs.Common.{fold-append, ElementStyle, strokes_of, is_primary, stroke_role, first_glyph, mark_end, stretch_of, common_steps}
+use Rattle.snippet_strokes.proofs.Common.{rules, code_cell, label_place, pieces_at, row_at-cells_written_same, written}
 use Rattle.std.proofs.Common.{chars}
 use Rattle.snippet_strokes.proofs.CellLemmas.{with_parts, cut_row, role_in_source, begun_rows, drawn_strokes, written_by, drawn_mark}
 use Rattle.snippet_strokes.proofs.CutWords.{cuts_of}
 use Rattle.snippet_strokes.proofs.DrawnCells.{DrawsFrom, MarksStarts, StandsFrom}
 use Rattle.snippet_strokes.proofs.Reach.{Reaches, IsWithin, cell_of_write}
-use Rattle.snippet_strokes.proofs.PieceWrites.{AreFree, All-label_of, All-pieces_at, has_piece, label_of-none, label_parts_of, label_write, piece_within}
+use Rattle.snippet_strokes.proofs.EachStroke.{each_label}
+use Rattle.snippet_strokes.proofs.PieceWrites.{AreFree, All-pieces_at, has_piece, label_of-none, label_parts_of, label_write, piece_within}
 use Rattle.snippet_strokes.proofs.PositionLemmas.{label_column}
 use Rattle.snippet_labels.specs.Positions.{pieces_of}
 
@@ -131,12 +131,6 @@ painted-count (w ∷ ws) rows n is there =
     painted-count ws (written_by rows w) n (omega (arith, is, here, (WritesCells-cells_written rows w.row w.cell (text_cells w.role w.text)).count))
     (All-tail (λ v. v.row < n) w ws there)
 
--- what a rule gives for each of some things
-pub All-flat_map : {X : Type 0} (P : Write → Type 0) (f : X → List Write) (xs : List X) → All (λ x. All P (f x)) xs → All P (flat_map f xs)
-All-flat_map P f [] all = All-nil P
-All-flat_map P f (x ∷ xs) all =
-    All-append P (f x) (flat_map f xs) (All-head (λ y. All P (f y)) x xs all) (All-flat_map P f xs (All-tail (λ y. All P (f y)) x xs all))
-
 -- where no element has writes there are none
 pub flat_map-none : {X : Type 0} (f : X → List Write) (xs : List X) → All (λ x. f x ≡ []) xs → flat_map f xs ≡ []
 flat_map-none f [] none = refl
@@ -159,33 +153,25 @@ DrawsFrom-painted row from ws rows within =
     }
 
 -- The writes of labels.
--- labels stand in rows that are there, and not left of their entries
-pub labels_within : (layout : Layout) (row count from : ℕ) (es : List PlacedEntry) → All (λ e. HasPlace e.entry) es → All (HasRows row count) es
-    → All (λ e. StandsFrom layout.code from e.entry) es → All (λ e. AreFree (pieces_of e)) es → All (IsWithin row count from) (labels_of layout row es)
-labels_within layout row count from es places rows stand free =
-    All-flat_map (IsWithin row count from) (label_of layout row) es (λ k d within.
-    let e : PlacedEntry = get_or es k d in
-    All-label_of (IsWithin row count from) layout row e (λ n inside some. record {
+-- they stand in rows that are there, so there are as many after them
+pub labels_count : (layout : Layout) (row : ℕ) (es : List PlacedEntry) (old : List (List Cell)) → All (HasRows row (length old)) es
+    → length (painted (labels_of layout row es) old) ≡ length old
+labels_count layout row es old rows =
+    painted-count (labels_of layout row es) old (length old) refl (each_label (λ w. w.row < length old) layout row es (λ k d within n inside some.
+    omega (arith, (rows k d within).label (has_piece (get_or es k d) n some), inside)))
+
+-- and they are drawn there, and not left of their entries
+pub DrawsFrom-labels : (layout : Layout) (row from : ℕ) (es : List PlacedEntry) (old : List (List Cell)) → All (λ e. HasPlace e.entry) es
+    → All (HasRows row (length old)) es → All (λ e. StandsFrom layout.code from e.entry) es → All (λ e. AreFree (pieces_of e)) es
+    → DrawsFrom row from old (painted (labels_of layout row es) old)
+DrawsFrom-labels layout row from es old places rows stand free =
+    DrawsFrom-painted row from (labels_of layout row es) old (each_label (IsWithin row (length old) from) layout row es (λ k d within n inside some.
+    let e : PlacedEntry = get_or es k d in record {
       below = omega arith;
       there = omega (arith, (rows k d within).label (has_piece e n some), inside);
       right = omega (arith, stand k d within, (label_column e (places k d within)).0);
       free = free k d within n [] inside;
     }))
-
--- so there are as many rows after them
-pub labels_count : (layout : Layout) (row : ℕ) (es : List PlacedEntry) (old : List (List Cell)) → All (HasRows row (length old)) es
-    → length (painted (labels_of layout row es) old) ≡ length old
-labels_count layout row es old rows =
-    painted-count (labels_of layout row es) old (length old) refl (All-flat_map (λ w. w.row < length old) (label_of layout row) es (λ k d within.
-    let e : PlacedEntry = get_or es k d in
-    All-label_of (λ w. w.row < length old) layout row e (λ n inside some. omega (arith, (rows k d within).label (has_piece e n some), inside))))
-
--- and labels are drawn there
-pub DrawsFrom-labels : (layout : Layout) (row from : ℕ) (es : List PlacedEntry) (old : List (List Cell)) → All (λ e. HasPlace e.entry) es
-    → All (HasRows row (length old)) es → All (λ e. StandsFrom layout.code from e.entry) es → All (λ e. AreFree (pieces_of e)) es
-    → DrawsFrom row from old (painted (labels_of layout row es) old)
-DrawsFrom-labels layout row from es old places rows stand free =
-    DrawsFrom-painted row from (labels_of layout row es) old (labels_within layout row (length old) from es places rows stand free)
 
 -- a label is in no role of marks
 label_unmarked : (kind : AnnotationKind) → is_mark_role (unlinked_cell (label_role kind) 32).role ≡ false
@@ -199,8 +185,8 @@ pub labels_unmarked : (layout : Layout) (row : ℕ) (es : List PlacedEntry) (row
 labels_unmarked layout row es rows r c _ before =
     let M : Cell → Type 0 = λ cell. is_mark_role cell.role ≡ false in
     let Q : Write → Type 0 = λ w. Reaches r c w → M (cell_of_write w c) in
-    painted-cell M (labels_of layout row es) rows r c before (All-flat_map Q (label_of layout row) es (λ k d within.
-    All-label_of Q layout row (get_or es k d) (λ n _ _ there. label_unmarked (get_or es k d).entry.kind)))
+    painted-cell M (labels_of layout row es) rows r c before (each_label Q layout row es (λ k d within n _ _ there.
+    label_unmarked (get_or es k d).entry.kind))
 
 -- where no entry has a label nothing is written
 pub labels_none : (layout : Layout) (row : ℕ) (es : List PlacedEntry) → All (λ e. has_label e ≡ false) es → labels_of layout row es ≡ []
