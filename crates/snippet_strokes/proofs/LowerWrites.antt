@@ -1,10 +1,9 @@
 -- Writes into rows that stand below others are writes into these rows alone.
-use Rattle.snippet_strokes.proofs.Common.{◌≡◌, ℕ, zero, suc, ◌+◌, ◌==◌, cond, true, false, Bool, List, [], ◌∷◌, ◌++◌, length, map}
-use Rattle.snippet_strokes.proofs.Common.{refl, sym, ap, ◌∙◌, arith, flat_map, range_with_len, map-append, flat_map-cons, row_at, is_primary, Cell}
-use Rattle.snippet_strokes.proofs.Common.{written, strokes_of, ElementStyle, LineAnnotationType, Singleline, MultilineStart, MultilineEnd, MultilineLine}
-use Rattle.snippet_strokes.proofs.Common.{Layout, PlacedEntry, label_of, label_place, label_role, pieces_at, stroke_role, has_stem, corner_of, stem_of}
-use Rattle.snippet_strokes.proofs.Common.{column_of, foot_glyph, connectors_of, corners_of}
-use Rattle.snippet_strokes.proofs.Common.{labels_of, stems_of, Write, glyph_at, painted, stretch_of, rules}
+use Rattle.snippet_strokes.proofs.Common.{◌≡◌, ℕ, zero, suc, ◌+◌, cond, true, false, List, [], ◌∷◌, ◌++◌, length, map, refl, ap, ◌∙◌, arith, flat_map}
+use Rattle.snippet_strokes.proofs.Common.{range_with_len, map-append, flat_map-cons, row_at, is_primary, Cell, written, strokes_of, ElementStyle}
+use Rattle.snippet_strokes.proofs.Common.{LineAnnotationType, Singleline, MultilineStart, MultilineEnd, MultilineLine, Layout, PlacedEntry, label_of}
+use Rattle.snippet_strokes.proofs.Common.{label_place, label_role, pieces_at, stroke_role, has_stem, corner_of, stem_of, column_of, connectors_of, corners_of}
+use Rattle.snippet_strokes.proofs.Common.{labels_of, stems_of, Write, painted, stretch_of, rules}
 use Rattle.snippet_strokes.proofs.CellLemmas.{bar_writes, corner_by, drawn_strokes, marks_of, stem_write, written_by}
 use Rattle.snippet_strokes.proofs.PieceWrites.{pieces_at-lowered}
 use Rattle.snippet_labels.specs.Positions.{pieces_of}
@@ -77,57 +76,28 @@ module _ (layout : Layout) (n : ℕ) where
           ap (λ s. bar_writes layout e depth s high) is_low ∙ ap (λ t. bar_writes layout e depth (n + start) t) is_high
           ∙ column-lowered n start end (layout.gutter + 2 + depth) (strokes_of layout.decor (is_primary e.entry.kind)).bar (stroke_role e)
 
-      corner : (e : PlacedEntry) → n + row + 1 + e.position ≡ n + (row + 1 + e.position)
-      corner e = omega arith
-
-      top : (e : PlacedEntry) (depth : ℕ)
-          → corner_by layout (n + row) (n + count) e (MultilineStart depth) ≡ map (lowered n) (corner_by layout row count e (MultilineStart depth))
-      top e depth =
-          let glyph : ℕ = (strokes_of layout.decor (is_primary e.entry.kind)).bar_top in
-          ap (λ r. glyph_at r (layout.gutter + 2 + depth) glyph (stroke_role e) ∷ bar_writes layout e depth (r + 1) (n + count)) (corner e)
-          ∙ ap (λ ws. lowered n (glyph_at (row + 1 + e.position) (layout.gutter + 2 + depth) glyph (stroke_role e)) ∷ ws)
-          (bar e depth (row + 1 + e.position + 1) count (n + (row + 1 + e.position) + 1) (n + count) (omega arith) refl)
-
-      bottom : (e : PlacedEntry) (depth : ℕ)
-          → corner_by layout (n + row) (n + count) e (MultilineEnd depth) ≡ map (lowered n) (corner_by layout row count e (MultilineEnd depth))
-      bottom e depth =
-          let glyph : ℕ = (strokes_of layout.decor (is_primary e.entry.kind)).bar_bottom in
-          let own : Write = glyph_at (row + 1 + e.position) (layout.gutter + 2 + depth) glyph (stroke_role e) in
-          ap (λ r. bar_writes layout e depth (n + row) r ++ glyph_at r (layout.gutter + 2 + depth) glyph (stroke_role e) ∷ []) (corner e)
-          ∙ ap (λ ws. ws ++ lowered n own ∷ []) (bar e depth row (row + 1 + e.position) (n + row) (n + (row + 1 + e.position)) refl refl)
-          ∙ sym (map-append (lowered n) (bar_writes layout e depth row (row + 1 + e.position)) (own ∷ []))
-
       by_part : (e : PlacedEntry) (part : LineAnnotationType)
           → corner_by layout (n + row) (n + count) e part ≡ map (lowered n) (corner_by layout row count e part)
       by_part e Singleline = refl
-      by_part e (MultilineStart depth) = top e depth
-      by_part e (MultilineEnd depth) = bottom e depth
+      by_part e (MultilineStart depth) =
+          let corner : ℕ = row + 1 + e.position in
+          grind (arith, bar e depth (corner + 1) count (n + row + 1 + e.position + 1) (n + count) (omega arith) refl)
+      by_part e (MultilineEnd depth) =
+          let corner : ℕ = row + 1 + e.position in
+          grind (arith, map-append, bar e depth row corner (n + row) (n + row + 1 + e.position) refl (omega arith))
       by_part e (MultilineLine depth) = refl
 
   stem-lowered : (row : ℕ) (e : PlacedEntry) → stem_of layout (n + row) e ≡ map (lowered n) (stem_of layout row e)
   stem-lowered row e =
-      ap (λ ws. cond (has_stem e) ws []) cells ∙ either (has_stem e) (map (stem_write layout row e) (range_with_len 0 (e.position + 1)))
+      elim (has_stem e) as (λ b. cond b (map (stem_write layout (n + row) e) (range_with_len 0 (e.position + 1))) []
+      ≡ map (lowered n) (cond b (map (stem_write layout row e) (range_with_len 0 (e.position + 1))) [])) [
+        | true ↦ all (range_with_len 0 (e.position + 1))
+        | false ↦ refl
+      ]
     where
-      glyph : ℕ → ℕ
-      glyph below = cond (below == e.position) (foot_glyph layout.decor e) (strokes_of layout.decor (is_primary e.entry.kind)).stem
-
-      one : (below : ℕ) → stem_write layout (n + row) e below ≡ lowered n (stem_write layout row e below)
-      one below =
-          ap (λ r. glyph_at r (layout.code + e.entry.start.display) (glyph below) (stroke_role e))
-          (let same : n + row + below ≡ n + (row + below) = omega arith in same)
-
       all : (belows : List ℕ) → map (stem_write layout (n + row) e) belows ≡ map (lowered n) (map (stem_write layout row e) belows)
       all [] = refl
-      all (below ∷ belows) =
-          ap (λ w. w ∷ map (stem_write layout (n + row) e) belows) (one below) ∙ ap (λ ws. lowered n (stem_write layout row e below) ∷ ws) (all belows)
-
-      cells : map (stem_write layout (n + row) e) (range_with_len 0 (e.position + 1))
-          ≡ map (lowered n) (map (stem_write layout row e) (range_with_len 0 (e.position + 1)))
-      cells = all (range_with_len 0 (e.position + 1))
-
-      either : (some : Bool) (ws : List Write) → cond some (map (lowered n) ws) [] ≡ map (lowered n) (cond some ws [])
-      either true ws = refl
-      either false ws = refl
+      all (below ∷ belows) = grind (arith, all belows)
 
   stems-lowered : (row : ℕ) (es : List PlacedEntry) → stems_of layout (n + row) es ≡ map (lowered n) (stems_of layout row es)
   stems-lowered row [] = refl
@@ -147,20 +117,4 @@ module _ (layout : Layout) (n : ℕ) where
   pub strokes-lowered : (count : ℕ) (placed order : List PlacedEntry)
       → drawn_strokes layout n (n + count) placed order ≡ map (lowered n) (drawn_strokes layout 0 count placed order)
   strokes-lowered count placed order =
-      let none : n + 0 ≡ n = omega arith in
-      let one : List Write = connectors_of layout 1 placed in
-      let two : List Write = corners_of layout 0 count placed in
-      let three : List Write = stems_of layout 1 placed in
-      let four : List Write = labels_of layout 1 placed in
-      let five : List Write = marks_of layout 1 order in
-      let corners : corners_of layout n (n + count) placed ≡ map (lowered n) two = ap (λ r. corners_of layout r (n + count) placed) (sym none)
-      ∙ corners-lowered 0 count placed in
-      join (connectors-lowered 1 placed) corners (stems-lowered 1 placed) (labels-lowered 1 placed) (marks-lowered 1 order)
-      ∙ sym (map-append (lowered n) (one ++ two ++ three ++ four) five
-      ∙ ap (λ ws. ws ++ map (lowered n) five)
-      (map-append (lowered n) (one ++ two ++ three) four
-      ∙ ap (λ ws. ws ++ map (lowered n) four)
-      (map-append (lowered n) (one ++ two) three ∙ ap (λ ws. ws ++ map (lowered n) three) (map-append (lowered n) one two))))
-    where
-      join : {a b c d e a' b' c' d' e' : List Write} → a ≡ a' → b ≡ b' → c ≡ c' → d ≡ d' → e ≡ e' → a ++ b ++ c ++ d ++ e ≡ a' ++ b' ++ c' ++ d' ++ e'
-      join a b c d e = cc
+      grind (arith, map-append, connectors-lowered, corners-lowered 0 count placed, stems-lowered, labels-lowered, marks-lowered)
