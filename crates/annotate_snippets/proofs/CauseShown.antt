@@ -2,7 +2,8 @@
 use Rattle.std.proofs.lemmas.Grind.{common_steps}
 use Rattle.annotate_snippets.proofs.Common.{◌≡◌, ℕ, ◌+◌, ◌≤◌, ◌==◌, ◌&&◌, Bool, true, false, cond, Option, None, Some, List, []}
 use Rattle.annotate_snippets.proofs.Common.{◌∷◌, ◌++◌, drop, map, refl, sym, ap, subst, ◌∙◌, arith, Contains, list_any, IsSomeAnd}
-use Rattle.annotate_snippets.proofs.Common.{cow_str_bytes, IsUtf8, All-append, All-cons, All-head, All-map, All-nil, All-tail, Annotation, Snippet, Cause, row_at, Cell}
+use Rattle.annotate_snippets.proofs.Common.{cow_str_bytes, IsUtf8, All-append, All-cons, All-head, All-map, All-nil, All-tail, Annotation, Snippet, Cause}
+use Rattle.annotate_snippets.proofs.Common.{row_at, Cell}
 use Rattle.annotate_snippets.proofs.Common.{IsSpan, KeptLine, annotated_lines, is_long, shown_lines, is_marking, first_line, last_line, IsLocation}
 use Rattle.annotate_snippets.proofs.Common.{primary_place, IsFree, Location, primary_place-location, HasBarRoom, LineView, CanBeShown, infos_free, origin_row}
 use Rattle.annotate_snippets.proofs.Common.{primary_start, snippet_head, OriginLayout, OriginLocation, origin_row-text, snippet_head-free, closing_row-free}

@@ -53,7 +53,8 @@ module _ (layout : Layout) (numbers : LineNumbers) (cut : Bool) (s : Snippet Pat
   rows_same : (rows : List SuggestionRow) → map (suggested_cells (S cut) s []) rows ≡ map (suggested_cells (S false) s []) rows
   rows_same [] = refl
   rows_same (row ∷ rows) =
-      ap (λ cells. cells ∷ map (suggested_cells (S cut) s []) rows) (row_same [] row) ∙ ap (λ below. suggested_cells (S false) s [] row ∷ below) (rows_same rows)
+      ap (λ cells. cells ∷ map (suggested_cells (S cut) s []) rows) (row_same [] row)
+      ∙ ap (λ below. suggested_cells (S false) s [] row ∷ below) (rows_same rows)
 
   over_same : (under : List Cell) (rows : List SuggestionRow)
       → cells_over (suggested_cells (S cut) s) under rows ≡ cells_over (suggested_cells (S false) s) under rows

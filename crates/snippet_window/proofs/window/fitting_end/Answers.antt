@@ -23,7 +23,8 @@ returns-in-None c =
       c.plain_start-plain.ensures,
       c.walked_end-at,
       c.range_from.ensures.value,
-      taken_front c.args.columns c.args.text.now c.plain_start-plain.result c.plain_start-plain.ensures.inside c.plain_start-plain.ensures.within c.plain_start-plain.ensures.plain,
+      taken_front c.args.columns c.args.text.now c.plain_start-plain.result c.plain_start-plain.ensures.inside
+          c.plain_start-plain.ensures.within c.plain_start-plain.ensures.plain,
       c.plain_start-plain.ensures.within,
       c.plain_start-plain.ensures.plain,
       c.walked_end-at.ensures.bytes,

@@ -20,7 +20,8 @@ returns c =
       c.plain_start-plain.ensures,
       c.walked_reaching-at,
       c.range_from.ensures.value,
-      reached_front c.args.columns c.args.text.now c.plain_start-plain.result c.plain_start-plain.ensures.inside c.plain_start-plain.ensures.within c.plain_start-plain.ensures.plain,
+      reached_front c.args.columns c.args.text.now c.plain_start-plain.result c.plain_start-plain.ensures.inside
+          c.plain_start-plain.ensures.within c.plain_start-plain.ensures.plain,
       c.plain_start-plain.ensures.within,
       c.plain_start-plain.ensures.plain,
       c.walked_reaching-at.ensures.bytes,
