@@ -82,6 +82,7 @@ pub use Rattle.std.proofs.Math.Nat.{mod-lt}
 pub use Rattle.std.proofs.lemmas.Bool.{false≢true, eqb-true, cases_lt, cond-false, and_parts, le-leb, leb-true, lt-leb, or_cases, or_left, or_right}
 pub use Rattle.std.proofs.lemmas.Bool.{cond-true, lt-ltb, le-ltb}
 pub use Rattle.std.proofs.lemmas.Bool.Decides.{nat_tests}
+pub use Rattle.std.proofs.lemmas.Grind.{common_steps}
 pub use Rattle.std.proofs.lemmas.Iterator.{YieldsList-from_chars}
 pub use Rattle.std.proofs.lemmas.Iterator.Adapters.{YieldsList-from_vec}
 pub use Rattle.std.proofs.lemmas.Iterator.Consumers.{YieldsList-end, YieldsList-turn}

@@ -1,14 +1,14 @@
 -- How wide the rows of titles and messages are.
-use Rattle.snippet_shown.proofs.Common.{◌≡◌, ℕ, zero, suc, ◌+◌, ◌-◌, ◌<◌, ◌≤◌, ◌==◌, ◌||◌, ◌&&◌, nat_le, Bool, true, false, List, [], ◌∷◌, ◌++◌, All, length}
-use Rattle.snippet_shown.proofs.Common.{map, replicate, refl, sym, ap, ◌∙◌, subst, arith, chars, cond, if◌then◌else◌, list_any, onto_first, slice_split}
-use Rattle.snippet_shown.proofs.Common.{nat_tests, All-append, All-cons, All-head, All-map, All-nil, All-replicate, All-tail, All-weaker, length-slice_split}
-use Rattle.snippet_shown.proofs.Common.{slice_split-cons_no, slice_split-cons_yes, sum_by-append, sum_by-cons, row_text-text_cells, separator_cell, row_text}
-use Rattle.snippet_shown.proofs.Common.{each_fails, Heading, SPACE, note_sign_of, DecorStyle, Ascii, Unicode, width_of-norm, unicode_width, has_control_picture}
-use Rattle.snippet_shown.proofs.Common.{is_bidirectional_control, is_listed, norm, shown, char_width, width_of, lines_at-after, row_text-append}
-use Rattle.snippet_shown.proofs.Common.{row_text-spaces, heading_label_text, heading_lines, indent_cells, label_width, note_bar_of, sign_cells, heading_texts}
-use Rattle.snippet_shown.proofs.Common.{texts_below, MessageContext, Message, Title, IsUnlisted, indent-all, label-all, Letter, first_place, is_code, letter}
-use Rattle.snippet_shown.proofs.Common.{letter_width, letters, letters_of, place_after, AreRowsWithin, AreWithin, columns_of, lines_in, Place, Untrusted}
-use Rattle.snippet_shown.proofs.Common.{Outside, Escape, Bracket, Command, CommandEscape}
+use Rattle.snippet_shown.proofs.Common.{common_steps, ◌≡◌, ℕ, zero, suc, ◌+◌, ◌-◌, ◌<◌, ◌≤◌, ◌==◌, ◌||◌, ◌&&◌, nat_le, Bool, true, false, List, [], ◌∷◌, ◌++◌}
+use Rattle.snippet_shown.proofs.Common.{All, length, map, replicate, refl, sym, ap, ◌∙◌, subst, arith, chars, cond, if◌then◌else◌, list_any, onto_first}
+use Rattle.snippet_shown.proofs.Common.{slice_split, nat_tests, All-append, All-cons, All-head, All-map, All-nil, All-replicate, All-tail, All-weaker}
+use Rattle.snippet_shown.proofs.Common.{length-slice_split, slice_split-cons_no, slice_split-cons_yes, sum_by-append, sum_by-cons, row_text-text_cells}
+use Rattle.snippet_shown.proofs.Common.{separator_cell, row_text, each_fails, Heading, SPACE, note_sign_of, DecorStyle, Ascii, Unicode, width_of-norm}
+use Rattle.snippet_shown.proofs.Common.{unicode_width, is_listed, norm, shown, char_width, width_of, lines_at-after, row_text-append, row_text-spaces}
+use Rattle.snippet_shown.proofs.Common.{heading_label_text, heading_lines, indent_cells, label_width, note_bar_of, sign_cells, heading_texts, texts_below}
+use Rattle.snippet_shown.proofs.Common.{MessageContext, Message, Title, IsUnlisted, indent-all, label-all, Letter, first_place, is_code, letter, letter_width}
+use Rattle.snippet_shown.proofs.Common.{letters, letters_of, place_after, AreRowsWithin, AreWithin, columns_of, lines_in, Place, Untrusted, Outside, Escape}
+use Rattle.snippet_shown.proofs.Common.{Bracket, Command, CommandEscape}
 
 -- ---- what a row begins with
 
@@ -63,14 +63,7 @@ alone : (c : ℕ) → IsOther c → All IsOther (c ∷ [])
 alone c plain = All-cons IsOther c [] plain (All-nil IsOther)
 
 shown-other : (c : ℕ) → IsOther c → All IsOther (shown c)
-shown-other c plain =
-    let spaces : All IsOther (32 ∷ 32 ∷ 32 ∷ 32 ∷ []) = All-cons IsOther 32 (32 ∷ 32 ∷ 32 ∷ []) refl
-    (All-cons IsOther 32 (32 ∷ 32 ∷ []) refl (All-cons IsOther 32 (32 ∷ []) refl (alone 32 refl))) in
-    let picture : IsOther (0x2400 + c) = grind (arith, nat_tests) in
-    choice (c == 0x9) _ _ spaces
-    (choice (has_control_picture c) _ _ (alone (0x2400 + c) picture)
-    (choice (c == 0x7F) _ _ (alone 0x2421 refl)
-    (choice (c == 0x200D) _ _ (All-nil IsOther) (choice (is_bidirectional_control c) _ _ (alone 0xFFFD refl) (alone c plain)))))
+shown-other c plain = grind (arith, common_steps, All-cons, alone, nat_tests, choice, All-nil)
 
 lines_of-norm_onto : (c : ℕ) (cs rest : List ℕ) (parts : List (List ℕ)) → (c == 10) ≡ false → lines_of cs ≡ parts → lines_of rest ≡ map norm parts
     → lines_of (shown c ++ rest) ≡ map norm (lines_of (c ∷ cs))
@@ -173,13 +166,7 @@ rows-within room trusted cs within =
 -- the columns of a text that isn't trusted are those of its characters
 untrusted-columns : (cs : List ℕ) → columns_of (letters Untrusted cs) ≡ width_of cs
 untrusted-columns [] = refl
-untrusted-columns (c ∷ cs) =
-    omega (
-      arith,
-      sum_by-cons letter_width (letter Untrusted c) (letters Untrusted cs),
-      sum_by-cons char_width c cs,
-      untrusted-columns cs,
-    )
+untrusted-columns (c ∷ cs) = grind (arith, common_steps, sum_by-cons, untrusted-columns cs)
 
 norm-within : (room : ℕ) (rows : List (List ℕ)) → AreRowsWithin false room rows → AreRowsWithin false room (map norm rows)
 norm-within room rows within =

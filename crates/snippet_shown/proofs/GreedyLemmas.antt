@@ -1,11 +1,11 @@
 -- Where the rows of a text that is wrapped end.
-use Rattle.snippet_shown.proofs.Common.{◌≡◌, ℕ, ◌+◌, ◌-◌, ◌<◌, ◌≤◌, nat_le, true, false, List, [], ◌∷◌, ◌++◌, Option, None, Some, filter, inl, inr, refl, sym}
-use Rattle.snippet_shown.proofs.Common.{ap, ◌∙◌, subst, arith, drop, get_or, is_some, unwrap_or, false≢true, nat_tests, All-cons, All-nil, sum_by-cons}
-use Rattle.snippet_shown.proofs.Common.{char_width, char_width-bound, Letter, is_blank, is_feed, letter_width, at_blank, columns_ahead, ended, feed, in_word}
-use Rattle.snippet_shown.proofs.Common.{inside_after, kept, next_width, row_start, rows, shown_at, IsRowEnd, columns_from, columns_of, is_gap, is_inside, Stage}
-use Rattle.snippet_shown.proofs.Common.{Indentation, Gap, Word, Step}
-use Rattle.snippet_shown.proofs.LawLemmas.{before-blank, before-code, before-word, code-width, columns_left, either-step, gap_of_blank, keep-own}
-use Rattle.snippet_shown.proofs.LawLemmas.{left-same, next-own, next-same, next-word-columns, next_columns, next_within, own-width, row_at}
+use Rattle.snippet_shown.proofs.Common.{common_steps, ◌≡◌, ℕ, ◌+◌, ◌-◌, ◌<◌, ◌≤◌, nat_le, true, false, List, [], ◌∷◌, ◌++◌, Option, None, Some, filter, inl}
+use Rattle.snippet_shown.proofs.Common.{inr, refl, sym, ap, ◌∙◌, subst, arith, drop, get_or, is_some, unwrap_or, false≢true, nat_tests, All-cons, All-nil}
+use Rattle.snippet_shown.proofs.Common.{sum_by-cons, char_width, char_width-bound, Letter, is_blank, is_feed, letter_width, at_blank, columns_ahead, ended}
+use Rattle.snippet_shown.proofs.Common.{feed, in_word, inside_after, kept, next_width, row_start, rows, shown_at, IsRowEnd, columns_from, columns_of, is_gap}
+use Rattle.snippet_shown.proofs.Common.{is_inside, Stage, Indentation, Gap, Word, Step}
+use Rattle.snippet_shown.proofs.LawLemmas.{before-blank, before-code, before-word, code-width, columns_left, either-step, gap_of_blank, keep-own, left-same}
+use Rattle.snippet_shown.proofs.LawLemmas.{next-own, next-same, next-word-columns, next_columns, next_within, own-width, row_at}
 use Rattle.snippet_shown.proofs.PlaceLemmas.{step-cases}
 
 -- ---- where a row ends among others
@@ -59,8 +59,7 @@ module _ (room : ℕ) where
   keep-ends : (n : ℕ) (l : Letter) (ls xs : List Letter) → is_feed l ≡ false → AllEnd (n + letter_width l) ls xs → AllEnd n (l ∷ ls) (l ∷ xs)
   keep-ends n l ls xs is rest [] after same = grind (arith, first-of)
   keep-ends n l ls xs is rest (x ∷ before) after same =
-      let parts = first-of l xs x (before ++ feed ∷ after) same in
-      more-own n (n + letter_width l) l x ls before parts.0 (from-own n l before is) (rest before after parts.1)
+      grind (arith, common_steps, first-of l xs x (before ++ feed ∷ after) same, more-own, from-own n l before is, is, rest)
 
   line-ends : (n : ℕ) (l : Letter) (ls xs : List Letter) → is_feed l ≡ true → AllEnd 0 ls xs → AllEnd n (l ∷ ls) (l ∷ xs)
   line-ends n l ls xs is rest [] after same = record {
@@ -72,8 +71,7 @@ module _ (room : ℕ) where
     ends = inl (l, refl, is);
   }
   line-ends n l ls xs is rest (x ∷ before) after same =
-      let parts = first-of l xs x (before ++ feed ∷ after) same in
-      more-own n 0 l x ls before parts.0 (from-feed n l before is) (rest before after parts.1)
+      grind (arith, common_steps, first-of l xs x (before ++ feed ∷ after) same, more-own, from-feed n l before is, is, rest)
 
   drop-ends : (n : ℕ) (l : Letter) (ls xs : List Letter) → is_gap l ≡ true → AllEnd n ls xs → AllEnd n (l ∷ ls) xs
   drop-ends n l ls xs gap rest before after same = more-gap n l ls before gap (rest before after same)
@@ -101,9 +99,7 @@ module _ (room : ℕ) where
     same = refl;
     ends = inr (All-nil (λ c. is_blank c ≡ true), omega (arith, wide));
   }
-  seam-ends n ls xs wide rest (x ∷ before) after same =
-      let parts = first-of feed xs x (before ++ feed ∷ after) same in
-      more-row n x ls before parts.0 (rest before after parts.1)
+  seam-ends n ls xs wide rest (x ∷ before) after same = grind (arith, common_steps, first-of, more-row)
 
   no-end : (before after : List Letter) → [] ≡ before ++ feed ∷ after → ⊥
   no-end [] after same = cc
@@ -178,10 +174,7 @@ module _ (room : ℕ) (enough : 4 ≤ room) where
       (own-ends 0 l ls Word (room - char_width l.char) is rest (omega (arith, w, char_width-bound l.char, enough)))))
 
   has-ends : (ls : List Letter) → HasEnds ls
-  has-ends [] = record {
-    row = λ stage left n whole before after same. absurd (no-end room before after same);
-    last = λ n none before after same. absurd (no-end room before after same);
-  }
+  has-ends [] = grind (arith, common_steps, no-end)
   has-ends (l ∷ ls) =
       let rest = has-ends ls in
       record {

@@ -1,6 +1,6 @@
 -- Which lines a snippet keeps with the lines around those that it kept, and that what stands on its lines stays.
-use Rattle.snippet_shown.proofs.Common.{◌≡◌, ◌∙◌, ℕ, ◌+◌, ◌-◌, ◌<◌, ◌≤◌, Bool, true, false, ◌&&◌, ◌||◌, eqb, leb, cond, min, List, [], ◌∷◌, ◌++◌, map, length}
-use Rattle.snippet_shown.proofs.Common.{inl, inr, arith, zero, suc, refl, sym, ap, ap₂, subst, append-nil, and_parts, cases_lt, eqb-true, false≢true, le-leb}
+use Rattle.snippet_shown.proofs.Common.{common_steps, ◌≡◌, ◌∙◌, ℕ, ◌+◌, ◌-◌, ◌<◌, ◌≤◌, Bool, true, false, ◌&&◌, ◌||◌, eqb, leb, cond, min, List, [], ◌∷◌, ◌++◌}
+use Rattle.snippet_shown.proofs.Common.{map, length, inl, inr, arith, zero, suc, refl, sym, ap, ap₂, subst, and_parts, cases_lt, eqb-true, false≢true, le-leb}
 use Rattle.snippet_shown.proofs.Common.{leb-true, or_cases, or_left, or_right, All-head, All-tail, filter-append, list_any-append, ⊤, cow_str_bytes, list_any}
 use Rattle.snippet_shown.proofs.Common.{range_with_len, Range, Source, source_lines, SourceSeen, Annotation, Snippet, among-kept, kept-within, made_parts}
 use Rattle.snippet_shown.proofs.Common.{has_bar, keeps, kept_lines, touches, first_line, last_line, numbered_source, context_spans, is_line_near, lines_around}
@@ -208,9 +208,7 @@ filter-visible_mark test none (span ∷ spans) = grind (arith, filter-visible_ma
 
 still-marked : (test : Annotation → Bool) → ((span : Range ℕ) → test (visible_mark span) ≡ false) → (marks : List Annotation) (spans : List (Range ℕ))
     → filter test (marks ++ map visible_mark spans) ≡ filter test marks
-still-marked test none marks spans =
-    filter-append test marks (map visible_mark spans) ∙ ap (λ more. filter test marks ++ more) (filter-visible_mark test none spans)
-    ∙ append-nil (filter test marks)
+still-marked test none marks spans = grind (arith, common_steps, filter-append, filter-visible_mark)
 
 -- annotations that mark nothing have no entries
 made-same : (s : Source) (marks : List Annotation) (spans : List (Range ℕ)) → made_parts s (marks ++ map visible_mark spans) ≡ made_parts s marks

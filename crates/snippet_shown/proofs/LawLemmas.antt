@@ -1,9 +1,10 @@
 -- What follows of a text that is wrapped.
-use Rattle.snippet_shown.proofs.Common.{◌≡◌, ℕ, ◌+◌, ◌-◌, ◌≤◌, ◌||◌, ◌&&◌, Bool, true, false, List, [], ◌∷◌, ◌++◌, Option, None, Some, All, filter, ◌⊎◌, inl}
-use Rattle.snippet_shown.proofs.Common.{inr, refl, sym, ap, ◌∙◌, arith, if◌then◌else◌, unwrap_or, Contains, false≢true, All-cons, All-contains_itself, All-head}
-use Rattle.snippet_shown.proofs.Common.{All-nil, All-tail, All-weaker, filter-append, char_width, char_width-bound, Letter, is_before_word, is_blank, is_feed}
-use Rattle.snippet_shown.proofs.Common.{letter_width, at_blank, columns_ahead, ended, ends_ahead, feed, in_word, next_width, row_start, rows, lines_fit}
-use Rattle.snippet_shown.proofs.Common.{shown_at, shown_by, step, IsAmong, is_gap, is_inside, Row, Stage, Indentation, Gap, Word, Step}
+use Rattle.snippet_shown.proofs.Common.{common_steps, ◌≡◌, ℕ, ◌+◌, ◌-◌, ◌≤◌, ◌||◌, ◌&&◌, Bool, true, false, List, [], ◌∷◌, ◌++◌, Option, None, Some, All}
+use Rattle.snippet_shown.proofs.Common.{filter, ◌⊎◌, inl, inr, refl, sym, ap, ◌∙◌, arith, if◌then◌else◌, unwrap_or, Contains, false≢true, All-cons}
+use Rattle.snippet_shown.proofs.Common.{All-contains_itself, All-head, All-nil, All-tail, All-weaker, filter-append, char_width, char_width-bound, Letter}
+use Rattle.snippet_shown.proofs.Common.{is_before_word, is_blank, is_feed, letter_width, at_blank, columns_ahead, ended, ends_ahead, feed, in_word, next_width}
+use Rattle.snippet_shown.proofs.Common.{row_start, rows, lines_fit, shown_at, shown_by, step, IsAmong, is_gap, is_inside, Row, Stage, Indentation, Gap, Word}
+use Rattle.snippet_shown.proofs.Common.{Step}
 use Rattle.snippet_shown.proofs.PlaceLemmas.{step-cases}
 use Rattle.snippet_shown.proofs.StepLemmas.{fit-rest, lines_fit-feed, lines_fit-next}
 
@@ -237,10 +238,4 @@ module _ (room : ℕ) (enough : 4 ≤ room) where
   pub rows-same : (ls : List Letter) → IsSame ls
   rows-same [] stage left whole all = refl
   rows-same (l ∷ ls) stage left whole all =
-      step-cases (StaysSame l ls) room (row_at stage left) l ls
-      (λ f. own-same l ls Indentation (room - next_columns ls) room (rows-same ls) tt (omega (arith, next_within ls, enough))
-      (sym (lines_fit-feed room (columns_left stage left (l ∷ ls)) l ls f) ∙ all))
-      (λ other code. same-code l ls stage left other code (rows-same ls) whole all)
-      (λ other plain blank. same-blank l ls stage left other plain (rows-same ls) whole
-      (ap (λ (n : ℕ). lines_fit room n (l ∷ ls)) (sym (left-same stage left l ls other (before-blank l plain blank))) ∙ all))
-      (λ other plain word. same-word l ls stage left other plain word (rows-same ls) whole all)
+      grind (arith, common_steps, own-same, rows-same ls, next_within, lines_fit-feed, same-code, same-blank, left-same, before-blank, same-word)

@@ -1,8 +1,8 @@
 -- What showing line feeds makes of a text.
-use Rattle.snippet_shown.proofs.Common.{◌≡◌, ℕ, ◌==◌, chars, encode_utf8_all, Bool, true, false, if◌then◌else◌, List, [], ◌∷◌, ◌++◌, arith, map, refl, sym, ap}
-use Rattle.snippet_shown.proofs.Common.{◌∙◌, list_any, IsUtf8, chars_from_encodes, encodes-append, map-id, false≢true, picture_of, with_line_feeds_shown}
+use Rattle.snippet_shown.proofs.Common.{common_steps, ◌≡◌, ℕ, ◌==◌, chars, encode_utf8_all, Bool, true, false, if◌then◌else◌, List, [], ◌∷◌, ◌++◌, arith, map}
+use Rattle.snippet_shown.proofs.Common.{refl, sym, ap, ◌∙◌, list_any, IsUtf8, chars_from_encodes, encodes-append, map-id, false≢true, picture_of}
+use Rattle.snippet_shown.proofs.Common.{with_line_feeds_shown}
 use Rattle.std.proofs.Common.{encode_utf8}
-use Rattle.std.proofs.lemmas.List.{append-nil}
 
 -- one more character
 pub shown-push : (cs : List ℕ) (c : ℕ) → with_line_feeds_shown (cs ++ c ∷ []) ≡ with_line_feeds_shown cs ++ picture_of c ∷ []
@@ -23,11 +23,7 @@ shown-feedless (c ∷ cs) none = same_after c cs (c == 10) refl none (shown-feed
 -- one more character is written
 pub shown-written : (old new cs : List ℕ) (c p : ℕ) → new ≡ old ++ encode_utf8 p → old ≡ encode_utf8_all (with_line_feeds_shown cs) → p ≡ picture_of c
     → new ≡ encode_utf8_all (with_line_feeds_shown (cs ++ c ∷ []))
-shown-written old new cs c p written before is =
-    written ∙ ap (λ t. t ++ encode_utf8 p) before ∙ ap (λ t. encode_utf8_all (with_line_feeds_shown cs) ++ t) (sym (append-nil (encode_utf8 p)))
-    ∙ sym (encodes-append (with_line_feeds_shown cs) (p ∷ []))
-    ∙ ap (λ q. encode_utf8_all (with_line_feeds_shown cs ++ q ∷ [])) is
-    ∙ ap encode_utf8_all (sym (shown-push cs c))
+shown-written old new cs c p written before is = grind (arith, common_steps, encodes-append, shown-push)
 
 -- bytes that spell what is shown for some characters have these characters
 pub shown-spelled : (bytes cs ds : List ℕ) → IsUtf8 bytes → bytes ≡ encode_utf8_all (with_line_feeds_shown cs) → map (λ x. x) cs ≡ ds

@@ -1,9 +1,9 @@
 -- The lines of a text that is wrapped: how wide they are, and which are empty.
-use Rattle.snippet_shown.proofs.Common.{◌≡◌, ℕ, ◌+◌, ◌-◌, ◌<◌, ◌≤◌, Bool, true, false, List, [], ◌∷◌, ◌++◌, Option, None, Some, length, filter, refl, sym, ap}
-use Rattle.snippet_shown.proofs.Common.{◌∙◌, arith, is_some, if◌then◌else◌, unwrap_or, onto_first, false≢true, All-cons, All-head, All-nil, All-tail}
-use Rattle.snippet_shown.proofs.Common.{length-slice_split, slice_split-cons_no, slice_split-cons_yes, sum_by-cons, char_width, char_width-bound, Letter}
-use Rattle.snippet_shown.proofs.Common.{is_before_word, is_feed, letter_width, at_blank, ended, in_word, next_width, row_start, rows, shown_at, lines_fit}
-use Rattle.snippet_shown.proofs.Common.{AreWithin, columns_of, empty_lines, is_empty, lines_in, Stage, Indentation, Gap, Word, Step}
+use Rattle.snippet_shown.proofs.Common.{common_steps, ◌≡◌, ℕ, ◌+◌, ◌-◌, ◌<◌, ◌≤◌, Bool, true, false, List, [], ◌∷◌, ◌++◌, Option, None, Some, length, filter}
+use Rattle.snippet_shown.proofs.Common.{refl, sym, ap, ◌∙◌, arith, is_some, if◌then◌else◌, unwrap_or, onto_first, false≢true, All-cons, All-head, All-nil}
+use Rattle.snippet_shown.proofs.Common.{All-tail, length-slice_split, slice_split-cons_no, slice_split-cons_yes, sum_by-cons, char_width, char_width-bound}
+use Rattle.snippet_shown.proofs.Common.{Letter, is_before_word, is_feed, letter_width, at_blank, ended, in_word, next_width, row_start, rows, shown_at}
+use Rattle.snippet_shown.proofs.Common.{lines_fit, AreWithin, columns_of, empty_lines, is_empty, lines_in, Stage, Indentation, Gap, Word, Step}
 use Rattle.snippet_shown.proofs.LawLemmas.{before-blank, either-step, next-feed, next-same, next_columns, next_within, row_at}
 use Rattle.snippet_shown.proofs.PlaceLemmas.{step-cases}
 use Rattle.snippet_shown.proofs.StepLemmas.{fit-rest, lines_fit-feed, lines_fit-next}
@@ -176,11 +176,7 @@ module _ (room : ℕ) (enough : 4 ≤ room) where
   next_some l ls is before some = ap (λ (o : Option ℕ). is_some o) (sym (next-same l ls is before)) ∙ some
 
   rows-empty : (ls : List Letter) → IsAsEmpty ls
-  rows-empty [] = record {
-    begun = λ stage left. refl;
-    fresh = λ left whole. refl;
-    owed = λ stage left owes some. absurd (false≢true some);
-  }
+  rows-empty [] = grind (arith, common_steps)
   rows-empty (l ∷ ls) =
       let rest = rows-empty ls in
       record {
@@ -204,7 +200,4 @@ module _ (room : ℕ) (enough : 4 ≤ room) where
 
   -- so as many lines are empty as of the text
   pub rows-lines : (ls : List Letter) → empty_lines (rows room (row_start room ls) ls) ≡ empty_lines ls
-  rows-lines ls =
-      let shown = counted (rows room (row_start room ls) ls) in
-      let own = counted ls in
-      sym shown.all ∙ start-fresh ls (rows-empty ls) ∙ own.all
+  rows-lines ls = grind (arith, common_steps, counted (rows room (row_start room ls) ls), counted ls, start-fresh ls (rows-empty ls), rows-empty ls)

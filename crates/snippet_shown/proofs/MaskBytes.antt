@@ -1,6 +1,7 @@
 -- Masking keeps the places of bytes: each character has as many, and those of ASCII stay.
-use Rattle.snippet_shown.proofs.Common.{◌≡◌, ℕ, ◌+◌, ◌/◌, ◌%◌, ◌<◌, ◌≤◌, nat_lt, chars, encode_utf8_all, true, false, List, [], ◌∷◌, ◌++◌, arith, refl, subst}
-use Rattle.snippet_shown.proofs.Common.{sym, ◌∙◌, if◌then◌else◌, IsUtf8, mod-lt, nat_tests, encodes-chars, is_masked, IsAligned, byte_class, mask_of, masked}
+use Rattle.snippet_shown.proofs.Common.{common_steps, ◌≡◌, ℕ, ◌+◌, ◌/◌, ◌%◌, ◌<◌, ◌≤◌, nat_lt, chars, encode_utf8_all, true, false, List, [], ◌∷◌, ◌++◌, arith}
+use Rattle.snippet_shown.proofs.Common.{refl, sym, ◌∙◌, if◌then◌else◌, IsUtf8, mod-lt, nat_tests, encodes-chars, is_masked, IsAligned, byte_class, mask_of}
+use Rattle.snippet_shown.proofs.Common.{masked}
 use Rattle.std.specs.Char.{encode_utf8}
 
 -- ---- one character
@@ -63,6 +64,4 @@ aligned-chars (c ∷ cs) =
 
 -- bytes that spell a text, masked, are aligned with it
 pub aligned-spelled : (text bytes : List ℕ) → IsUtf8 text → bytes ≡ encode_utf8_all (masked (chars text)) → IsAligned text bytes
-aligned-spelled text bytes utf8 spelled =
-    subst (IsAligned text) (sym spelled) (subst (λ (bs : List ℕ). IsAligned bs (encode_utf8_all (masked (chars text)))) (encodes-chars text utf8)
-    (aligned-chars (chars text)))
+aligned-spelled text bytes utf8 spelled = grind (arith, common_steps, spelled, encodes-chars text utf8, utf8, aligned-chars (chars text))

@@ -1,8 +1,7 @@
 -- What masking makes of a text, character by character.
-use Rattle.snippet_shown.proofs.Common.{◌≡◌, ℕ, chars, encode_utf8_all, false, if◌then◌else◌, List, [], ◌∷◌, ◌++◌, map, refl, sym, ap, ◌∙◌, arith, list_any}
-use Rattle.snippet_shown.proofs.Common.{IsUtf8, chars_from_encodes, encodes-append, map-id, is_masked, mask_of, masked}
+use Rattle.snippet_shown.proofs.Common.{common_steps, ◌≡◌, ℕ, chars, encode_utf8_all, false, if◌then◌else◌, List, [], ◌∷◌, ◌++◌, map, refl, sym, ap, ◌∙◌, arith}
+use Rattle.snippet_shown.proofs.Common.{list_any, IsUtf8, chars_from_encodes, encodes-append, map-id, is_masked, mask_of, masked}
 use Rattle.std.proofs.Common.{encode_utf8}
-use Rattle.std.proofs.lemmas.List.{append-nil}
 
 -- one more character
 pub masked-push : (cs : List ℕ) (c : ℕ) → masked (cs ++ c ∷ []) ≡ masked cs ++ mask_of c ∷ []
@@ -17,11 +16,7 @@ masked-none (c ∷ cs) none = grind (arith, masked-none cs (grind arith))
 -- one more character is written
 pub masked-written : (old new cs : List ℕ) (c p : ℕ) → new ≡ old ++ encode_utf8 p → old ≡ encode_utf8_all (masked cs) → p ≡ mask_of c
     → new ≡ encode_utf8_all (masked (cs ++ c ∷ []))
-masked-written old new cs c p written before is =
-    written ∙ ap (λ t. t ++ encode_utf8 p) before ∙ ap (λ t. encode_utf8_all (masked cs) ++ t) (sym (append-nil (encode_utf8 p)))
-    ∙ sym (encodes-append (masked cs) (p ∷ []))
-    ∙ ap (λ q. encode_utf8_all (masked cs ++ q ∷ [])) is
-    ∙ ap encode_utf8_all (sym (masked-push cs c))
+masked-written old new cs c p written before is = grind (arith, common_steps, encodes-append, masked-push)
 
 -- bytes that spell what is shown for some characters have these characters
 pub masked-spelled : (bytes cs ds : List ℕ) → IsUtf8 bytes → bytes ≡ encode_utf8_all (masked cs) → map (λ x. x) cs ≡ ds → chars bytes ≡ masked ds

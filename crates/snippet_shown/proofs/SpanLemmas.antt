@@ -1,7 +1,7 @@
 -- The spans around lines: they are spans of the source, and reach from one line to another.
-use Rattle.snippet_shown.proofs.Common.{◌≡◌, ◌≢◌, ◌∙◌, ℕ, zero, suc, ◌+◌, ◌-◌, ◌<◌, ◌≤◌, min, List, [], ◌∷◌, ◌++◌, length, take, drop, get_or, inl, inr, arith}
-use Rattle.snippet_shown.proofs.Common.{All, map, true, refl, sym, ap, ap₂, subst, append-nil, append_assoc, cases_lt, cond-true, cond-false, drop-map}
-use Rattle.snippet_shown.proofs.Common.{drop_all, get_or-drop, get_or-map, get_or-take, length-map, All-cons, All-head, All-nil, All-tail}
+use Rattle.snippet_shown.proofs.Common.{common_steps, ◌≡◌, ◌≢◌, ◌∙◌, ℕ, zero, suc, ◌+◌, ◌-◌, ◌<◌, ◌≤◌, min, List, [], ◌∷◌, ◌++◌, length, take, drop, get_or}
+use Rattle.snippet_shown.proofs.Common.{inl, inr, arith, All, map, true, refl, sym, ap, ap₂, subst, append-nil, append_assoc, cases_lt, cond-true, cond-false}
+use Rattle.snippet_shown.proofs.Common.{drop-map, drop_all, get_or-drop, get_or-map, get_or-take, All-cons, All-head, All-nil, All-tail}
 use Rattle.snippet_shown.proofs.Common.{IsCharBoundary-before_ascii, IsCharBoundary-end, IsCharBoundary, IsUtf8, IsCharBoundary-start_of, line_bytes-slice}
 use Rattle.snippet_shown.proofs.Common.{AreLinesOf-source_lines, joined-source_lines, last_byte-push, start_of-end, start_of-le, start_of-next}
 use Rattle.snippet_shown.proofs.Common.{HoldsByte-source, line_of-is, line_of-start, start_of-inside, Line, Source, last_byte, line_bytes, source_lines}
@@ -157,11 +157,7 @@ pub kept-number : (s : Source) (marks : List Annotation) (infos : List Annotated
     → map seen_kept infos ≡ annotated_lines true s marks → i < length infos → info ≡ get_or infos i info
     → (i < length (kept_lines true s.text marks)) × (info.line_index ≡ s.first + get_or (kept_lines true s.text marks) i 0)
 kept-number s marks infos i info are within is =
-    let ks : List ℕ = kept_lines true s.text marks in
-    let some : i < length ks = omega (arith, ap length are, length-map infos seen_kept, length-map ks (kept_line s marks)) in
-    let same : seen_kept info ≡ kept_line s marks (get_or ks i 0) = ap seen_kept is ∙ sym (get_or-map seen_kept infos i info (seen_kept info) within)
-    ∙ ap (λ (ls : List KeptLine). get_or ls i (seen_kept info)) are ∙ get_or-map (kept_line s marks) ks i 0 (seen_kept info) some in
-    (some, ap (λ (l : KeptLine). l.number) same)
+    grind (arith, common_steps, s.text, are, is, get_or-map seen_kept infos i info (seen_kept info) within, within, get_or-map)
 
 map-map : {X Y Z : Type 0} (f : X → Y) (g : Y → Z) (xs : List X) → map g (map f xs) ≡ map (λ x. g (f x)) xs
 map-map f g [] = refl

@@ -1,10 +1,9 @@
 -- What is ahead in a line, and what is shown, found character by character.
-use Rattle.snippet_shown.proofs.Common.{◌≡◌, ℕ, ◌+◌, ◌-◌, ◌<◌, ◌≤◌, ◌==◌, ◌&&◌, nat_le, Bool, true, false, List, [], ◌∷◌, ◌++◌, Option, None, Some, length, map}
-use Rattle.snippet_shown.proofs.Common.{refl, sym, ap, ◌∙◌, arith, chars, encode_utf8_all, unwrap_or, option_map, IsUtf8, eqb-true, false≢true, nat_tests}
-use Rattle.snippet_shown.proofs.Common.{nil_from_length, chars-nil, chars_from_encodes, encodes-append, char_width, Letter, is_before_word, is_feed, letter}
-use Rattle.snippet_shown.proofs.Common.{letter_width, letters, place_after, columns_ahead, ends_ahead, inside_after, next_width, rows, shown_at, step}
-use Rattle.snippet_shown.proofs.Common.{lines_fit, Place, Row, Step}
-use Rattle.std.proofs.lemmas.List.{append-nil, append_assoc}
+use Rattle.snippet_shown.proofs.Common.{common_steps, ◌≡◌, ℕ, ◌+◌, ◌-◌, ◌<◌, ◌≤◌, ◌==◌, ◌&&◌, nat_le, Bool, true, false, List, [], ◌∷◌, ◌++◌, Option, None}
+use Rattle.snippet_shown.proofs.Common.{Some, length, map, refl, sym, ap, ◌∙◌, arith, chars, encode_utf8_all, unwrap_or, option_map, IsUtf8, eqb-true}
+use Rattle.snippet_shown.proofs.Common.{false≢true, nat_tests, nil_from_length, chars-nil, chars_from_encodes, encodes-append, char_width, Letter}
+use Rattle.snippet_shown.proofs.Common.{is_before_word, is_feed, letter, letter_width, letters, place_after, columns_ahead, ends_ahead, inside_after}
+use Rattle.snippet_shown.proofs.Common.{next_width, rows, shown_at, step, lines_fit, Place, Row, Step}
 
 -- a character that is no line feed
 like_either : (c : ℕ) (feed : Bool) → (c == 10) ≡ feed → (c ≡ 10 → ⊥) → (c == 10) ≡ false
@@ -94,30 +93,12 @@ pub Writes-next : (room : ℕ) (row : Row) (place after : Place) (s : Step) (wri
     → new ≡ written ++ encode_utf8_all (spelled (shown_at s (letter place c))) → Writes room row place written rest all
     → Writes room s.row after new later all
 Writes-next room row place after s written new rest later text all c cons same is p more so_far =
-    let l = letter place c in
-    let ls = letters (place_after place c) (chars later) in
-    let s0 = step room row l ls in
-    let e : s ≡ s0 = is ∙ ap (λ (t : List ℕ). step room row l (letters (place_after place c) (chars t))) same in
-    let first = encode_utf8_all (spelled (shown_at s l)) in
-    let others = encode_utf8_all (spelled (rows room s.row (letters after (chars later)))) in
-    let both : encode_utf8_all (spelled (rows room row (letters place (chars rest)))) ≡ first ++ others =
-    ap (λ (cs : List ℕ). encode_utf8_all (spelled (rows room row (letters place cs)))) cons
-    ∙ ap encode_utf8_all (spelled-append (shown_at s0 l) (rows room s0.row ls))
-    ∙ encodes-append (spelled (shown_at s0 l)) (spelled (rows room s0.row ls)) ∙ ap (Goes room (place_after place c) l (chars later)) (sym e)
-    ∙ ap (λ (q : Place). Goes room q l (chars later) s) (sym p) in
-    record {
-      is = ap (λ (t : List ℕ). t ++ others) more ∙ append_assoc written first others ∙ ap (λ (t : List ℕ). written ++ t) (sym both) ∙ so_far.is;
-    }
+    grind (arith, common_steps, s.row, spelled-append, encodes-append, so_far.is)
 
 -- and no more
 pub Writes-all : (room : ℕ) (row : Row) (place : Place) (written rest all : List ℕ) → length rest ≡ 0 → IsUtf8 written
     → Writes room row place written rest all → chars written ≡ all
-Writes-all room row place written rest all none utf8 so_far =
-    let nothing : chars rest ≡ [] = ap chars (nil_from_length rest none) ∙ chars-nil in
-    let end : written ≡ encode_utf8_all all =
-    sym (append-nil written)
-    ∙ sym (ap (λ (cs : List ℕ). written ++ encode_utf8_all (spelled (rows room row (letters place cs)))) nothing) ∙ so_far.is in
-    sym (chars_from_encodes all written utf8 (sym end))
+Writes-all room row place written rest all none utf8 so_far = grind (arith, common_steps, nil_from_length, chars-nil, so_far.is, chars_from_encodes)
 
 -- ---- one character more, found in a text
 

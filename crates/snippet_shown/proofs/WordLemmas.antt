@@ -1,11 +1,11 @@
 -- The words of a text that is wrapped.
-use Rattle.snippet_shown.proofs.Common.{◌≡◌, ℕ, ◌+◌, ◌-◌, ◌<◌, ◌≤◌, nat_le, not, Bool, true, false, List, [], ◌∷◌, ◌++◌, Option, None, Some, filter, length}
-use Rattle.snippet_shown.proofs.Common.{refl, sym, ap, ap₂, ◌∙◌, subst, arith, is_some, if◌then◌else◌, unwrap_or, onto_first, false≢true, nat_tests, All-cons}
-use Rattle.snippet_shown.proofs.Common.{All-head, All-nil, All-tail, char_width, Letter, is_blank, is_feed, letter_width, at_blank, columns_ahead, ended}
-use Rattle.snippet_shown.proofs.Common.{in_word, inside_after, kept, next_width, row_start, rows, shown_at, AreWithin, columns_of, is_empty, parts_from}
-use Rattle.snippet_shown.proofs.Common.{words_of, Indentation, Gap, Word, Step}
-use Rattle.snippet_shown.proofs.LawLemmas.{before-blank, before-code, before-word, columns-none, columns-same, either-step, next-feed, next-own}
-use Rattle.snippet_shown.proofs.LawLemmas.{next-same, next_columns, next_within, own-width, row_at}
+use Rattle.snippet_shown.proofs.Common.{common_steps, ◌≡◌, ℕ, ◌+◌, ◌-◌, ◌<◌, ◌≤◌, nat_le, not, Bool, true, false, List, [], ◌∷◌, ◌++◌, Option, None, Some}
+use Rattle.snippet_shown.proofs.Common.{filter, length, refl, sym, ap, ap₂, ◌∙◌, subst, arith, is_some, if◌then◌else◌, unwrap_or, onto_first, false≢true}
+use Rattle.snippet_shown.proofs.Common.{nat_tests, All-cons, All-head, All-nil, All-tail, char_width, Letter, is_blank, is_feed, letter_width, at_blank}
+use Rattle.snippet_shown.proofs.Common.{columns_ahead, ended, in_word, inside_after, kept, next_width, row_start, rows, shown_at, AreWithin, columns_of}
+use Rattle.snippet_shown.proofs.Common.{is_empty, parts_from, words_of, Indentation, Gap, Word, Step}
+use Rattle.snippet_shown.proofs.LawLemmas.{before-blank, before-code, before-word, columns-none, columns-same, either-step, next-feed, next-own, next-same}
+use Rattle.snippet_shown.proofs.LawLemmas.{next_columns, next_within, own-width, row_at}
 use Rattle.snippet_shown.proofs.LineLemmas.{AreLinesWithin, lines_all, onto_within, within_onto}
 use Rattle.snippet_shown.proofs.PlaceLemmas.{step-cases}
 
@@ -198,16 +198,7 @@ module _ (room : ℕ) (enough : 4 ≤ room) where
   wide-word : (left : ℕ) (l : Letter) (ls : List Letter) → is_feed l ≡ false → l.code ≡ false → is_blank l ≡ false → HasWords ls
       → AreLinesWithin room left (onto_first l (parts_from true ls))
       → Has true (onto_first l (parts_from true ls)) l ls (in_word room Word left (char_width l.char))
-  wide-word left l ls is plain word rest within =
-      let w = own-width l plain in
-      let parts = within_onto room left l (parts_from true ls) (some_parts ls true) within in
-      let fit : nat_le (char_width l.char) left ≡ true = grind (arith, nat_tests, w, parts.0) in
-      let after = left - char_width l.char in
-      let same : left - letter_width l ≡ after = omega (arith, w) in
-      either-step (Has true (onto_first l (parts_from true ls)) l ls) (nat_le (char_width l.char) left) (kept (row_at Word after))
-      (record { breaks = true; keeps = true; row = row_at Word (room - char_width l.char) })
-      (λ fits. own-words true after l ls is plain word rest (subst (λ (n : ℕ). AreLinesWithin room n (parts_from true ls)) same parts.1))
-      (λ wide. absurd (false≢true (sym wide ∙ fit)))
+  wide-word left l ls is plain word rest within = grind (arith, common_steps, own-width, within_onto, some_parts, l.char, nat_tests, own-words)
 
   indented-blank : (left : ℕ) (l : Letter) (ls : List Letter) → is_feed l ≡ false → l.code ≡ false → is_blank l ≡ true → HasWords ls
       → AreLinesWithin room (left + next_columns ls) (onto_first l (parts_from false ls))
@@ -339,20 +330,8 @@ module _ (room : ℕ) (enough : 4 ≤ room) where
       (λ is plain word. absurd (false≢true (ap (λ (o : Option ℕ). is_some o) (sym none ∙ next-own l ls is (before-word l plain word)))))
 
   has-words : (ls : List Letter) → HasWords ls
-  has-words [] = record {
-    word = λ left within. (refl, refl);
-    indented = λ left within. (refl, refl);
-    gap = λ left whole some within. absurd (false≢true some);
-    last = λ none within. (refl, refl);
-  }
-  has-words (l ∷ ls) =
-      let rest = has-words ls in
-      record {
-        word = λ left within. word-step left l ls rest within;
-        indented = λ left within. indented-step left l ls rest within;
-        gap = λ left whole some within. gap-step left l ls rest whole some within;
-        last = λ none within. last-step l ls rest none within;
-      }
+  has-words [] = grind (arith, common_steps)
+  has-words (l ∷ ls) = grind (arith, common_steps, has-words ls, word-step, indented-step, gap-step, last-step)
 
   -- so the words are the same, where each has room
   pub rows-words : (ls : List Letter) → AreWithin room (words_of ls) → words_of (rows room (row_start room ls) ls) ≡ words_of ls

@@ -1,8 +1,8 @@
 -- What is shown in place of a text, and what follows of it.
-use Rattle.snippet_shown.proofs.Common.{◌≡◌, ◌∙◌, ℕ, ◌+◌, ◌-◌, ◌<◌, ◌≤◌, nat_lt, Bool, true, false, List, [], ◌∷◌, ◌++◌, ◌⊎◌, All, inl, inr, refl, sym, ap}
-use Rattle.snippet_shown.proofs.Common.{subst, arith, chars, if◌then◌else◌, Contains, nat_tests, All-cons, All-contains_itself, All-head, All-map, All-nil}
-use Rattle.snippet_shown.proofs.Common.{All-tail, All-weaker, Letter, first_place, letters, letters_of, place_after, row_start, rows, shown_letters, wrapped}
-use Rattle.snippet_shown.proofs.Common.{lines_fit, IsAmong, IsRewrapped, Place, Row, Indentation, Step, shown_at, shown_by, step, length, length-map, suc}
+use Rattle.snippet_shown.proofs.Common.{common_steps, ◌≡◌, ◌∙◌, ℕ, ◌+◌, ◌-◌, ◌<◌, ◌≤◌, nat_lt, Bool, true, false, List, [], ◌∷◌, ◌++◌, ◌⊎◌, All, inl, inr, refl}
+use Rattle.snippet_shown.proofs.Common.{sym, ap, subst, arith, chars, if◌then◌else◌, Contains, nat_tests, All-cons, All-contains_itself, All-head, All-map}
+use Rattle.snippet_shown.proofs.Common.{All-nil, All-tail, All-weaker, Letter, first_place, letters, letters_of, place_after, row_start, rows, shown_letters}
+use Rattle.snippet_shown.proofs.Common.{wrapped, lines_fit, IsAmong, IsRewrapped, Place, Row, Indentation, Step, shown_at, shown_by, step, length, suc}
 use Rattle.std.proofs.lemmas.List.{length-append}
 use Rattle.snippet_shown.proofs.GreedyLemmas.{rows-end}
 use Rattle.snippet_shown.proofs.LawLemmas.{among_own, next_columns, next_within, rows-all, rows-fit, rows-kept, rows-same}
@@ -111,15 +111,4 @@ letters_long place (c ∷ cs) = ap suc (letters_long (place_after place c) cs)
 
 -- a text that is wrapped has at most twice as many characters
 pub wrapped-length : (room : ℕ) (trusted : Bool) (cs : List ℕ) → length (wrapped room trusted cs) ≤ length cs + length cs
-wrapped-length room trusted cs =
-    omega (
-      arith,
-      length-map (shown_letters room (letters_of trusted cs)) (λ (l : Letter). l.char),
-      either (letters_of trusted cs) (nat_lt room 4),
-      letters_long (first_place trusted) cs,
-    )
-  where
-    either : (ls : List Letter) (small : Bool)
-        → (let shown : List Letter = if small then ls else rows room (row_start room ls) ls in length shown ≤ length ls + length ls)
-    either ls true = omega arith
-    either ls false = rows_short room (row_start room ls) ls
+wrapped-length room trusted cs = grind (arith, common_steps, letters_long, rows_short)

@@ -1,6 +1,5 @@
-use Rattle.snippet_shown.proofs.Common.{◌≡◌, ◌∙◌, ℕ, ◌++◌, Bool, false, List, [], ◌∷◌, Option, None, length, map, refl, sym, ap}
-use Rattle.snippet_shown.proofs.Common.{append_assoc, append-nil, arith, into_iter_items, Global, CowStr, Range, Annotation, AnnotationKind, Visible}
-use Rattle.snippet_shown.proofs.Common.{visible_mark}
+use Rattle.snippet_shown.proofs.Common.{common_steps, ◌≡◌, ◌∙◌, ℕ, ◌++◌, Bool, false, List, [], ◌∷◌, Option, None, length, map, refl, sym, ap, append_assoc}
+use Rattle.snippet_shown.proofs.Common.{append-nil, arith, into_iter_items, Global, CowStr, Range, Annotation, AnnotationKind, Visible, visible_mark}
 use Rattle.snippet_shown.proofs.context.snippets.add_visible.Goals as goal
 
 nothing_left : (xs : List (Range ℕ)) → length xs ≡ 0 → xs ≡ []
@@ -12,18 +11,10 @@ abbrev of_parts : Range ℕ → Option (CowStr Global) → AnnotationKind → Bo
 of_parts span label kind highlight = record { span = span; label = label; kind = kind; highlight_source = highlight }
 
 visible_mark-is : (a : Annotation) (span : Range ℕ) → a.span ≡ span → a.label ≡ None → a.kind ≡ Visible → a.highlight_source ≡ false → a ≡ visible_mark span
-visible_mark-is a span is no_label kind plain =
-    ap (λ (s : Range ℕ). of_parts s a.label a.kind a.highlight_source) is
-    ∙ ap (λ (l : Option (CowStr Global)). of_parts span l a.kind a.highlight_source) no_label
-    ∙ ap (λ (k : AnnotationKind). of_parts span None k a.highlight_source) kind ∙ ap (of_parts span None Visible) plain
+visible_mark-is a span is no_label kind plain = grind (arith, common_steps, a.label, a.kind, a.highlight_source)
 
 pub loop-span-init : goal.loop-span-init
-loop-span-init c =
-    let all : into_iter_items c.into_iter-span-iterator.result ≡ c.args.spans.items = c.into_iter-span-iterator.ensures.into_iter_gives.0 in
-    record {
-      added = ap (λ (spans : List (Range ℕ)). c.args.markers.now.items ++ map visible_mark spans) all;
-      left = omega (arith, c.into_iter-span-iterator.ensures.into_iter_gives.1, ap length all);
-    }
+loop-span-init c = grind (arith, common_steps, c.into_iter-span-iterator.ensures.into_iter_gives.0, c.into_iter-span-iterator.ensures.into_iter_gives.1)
 
 pub loop-span-preserved : goal.loop-span-preserved
 loop-span-preserved c =

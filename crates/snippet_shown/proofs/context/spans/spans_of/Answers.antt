@@ -1,6 +1,6 @@
-use Rattle.snippet_shown.proofs.Common.{◌≡◌, ◌∙◌, ℕ, ◌+◌, ◌-◌, ◌++◌, min, true, List, [], ◌∷◌, map, length, drop, get_or, ap}
-use Rattle.snippet_shown.proofs.Common.{ap₂, arith, refl, sym, append_assoc, drop_more, length-drop, length-map, take_all, cow_str_bytes, list_any, Range}
-use Rattle.snippet_shown.proofs.Common.{source_lines, kept-within, kept_line, seen_kept, keeps, kept_lines, numbered_source}
+use Rattle.snippet_shown.proofs.Common.{common_steps, ◌≡◌, ◌∙◌, ℕ, ◌+◌, ◌-◌, ◌++◌, min, true, List, [], ◌∷◌, map, length, drop, get_or, ap, ap₂, arith, sym}
+use Rattle.snippet_shown.proofs.Common.{append_assoc, drop_more, length-drop, take_all, cow_str_bytes, list_any, Range, source_lines, kept-within, keeps}
+use Rattle.snippet_shown.proofs.Common.{kept_lines, numbered_source}
 use Rattle.snippet_shown.specs.Context as spec
 use Rattle.snippet_shown.proofs.SpanLemmas.{after-all, kept-number, reach-kept, starts-length}
 use Rattle.snippet_shown.proofs.context.spans.spans_of.Goals as goal
@@ -47,13 +47,4 @@ loop-i-preserved c =
     ∙ c.loop-i.invariant
 
 pub returns : goal.returns
-returns c =
-    let s = c.args.snippet.now in
-    let source : List ℕ = cow_str_bytes s.source.text in
-    let ks : List ℕ = kept_lines true source s.markers.items in
-    let count : length c.args.kept.now ≡ length ks = sym (length-map c.args.kept.now seen_kept) ∙ ap length c.requires.kept
-    ∙ length-map ks (kept_line (numbered_source s) s.markers.items) in
-    record {
-      value = after-all (spec.spans_around c.args.before c.args.after source c.loop-i.last) ks c.loop-i.i c.loop-i.spans.items
-          (spec.spans_around c.args.before c.args.after source 0 ks) (omega arith) refl c.loop-i.invariant;
-    }
+returns c = grind (arith, common_steps, c.requires.kept, after-all, c.loop-i.last, c.loop-i.i, c.loop-i.invariant)

@@ -1,4 +1,4 @@
-use Rattle.snippet_shown.proofs.Common.{◌∙◌, ℕ, Some, ap, sym, IsUtf8-past_char, chars_past_char}
+use Rattle.snippet_shown.proofs.Common.{common_steps, arith, ◌∙◌, ℕ, Some, ap, sym, IsUtf8-past_char, chars_past_char}
 use Rattle.snippet_shown.proofs.StepLemmas.{next-end, next-found, next-more, next-none}
 use Rattle.snippet_shown.proofs.wrap.row.next_width.Goals as goal
 
@@ -29,6 +29,4 @@ loop-c-preserved c =
     }
 
 pub returns : goal.returns
-returns c =
-    let step = rw c.in-None.is at c.next.ensures.steps in
-    record { value = next-end c.loop-c.place c.loop-c.c-iterator.rest.now _ step.0.0 c.loop-c.invariant.same }
+returns c = grind (arith, common_steps, c.in-None.is, c.next.ensures.steps, next-end, c.loop-c.place, c.loop-c.invariant.same)

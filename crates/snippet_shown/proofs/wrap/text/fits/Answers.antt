@@ -1,4 +1,4 @@
-use Rattle.snippet_shown.proofs.Common.{IsUtf8-past_char, chars_past_char}
+use Rattle.snippet_shown.proofs.Common.{common_steps, arith, IsUtf8-past_char, chars_past_char}
 use Rattle.snippet_shown.proofs.StepLemmas.{fit-end, fit-more, fit-none}
 use Rattle.snippet_shown.proofs.wrap.text.fits.Goals as goal
 
@@ -22,6 +22,4 @@ loop-c-preserved c =
     }
 
 pub returns : goal.returns
-returns c =
-    let step = rw c.in-None.is at c.next.ensures.steps in
-    record { value = fit-end c.args.room c.loop-c.left c.loop-c.place c.loop-c.c-iterator.rest.now _ step.0.0 c.loop-c.invariant.same }
+returns c = grind (arith, common_steps, c.in-None.is, c.next.ensures.steps, fit-end, c.loop-c.left, c.loop-c.place, c.loop-c.invariant.same)

@@ -1,4 +1,4 @@
-use Rattle.snippet_shown.proofs.Common.{ℕ, List, arith, ap, chars, length, string_bytes, subst, sym, IsUtf8, IsUtf8-past_char, IsUtf8-string_bytes}
+use Rattle.snippet_shown.proofs.Common.{common_steps, ℕ, List, arith, chars, string_bytes, subst, sym, IsUtf8, IsUtf8-past_char, IsUtf8-string_bytes}
 use Rattle.snippet_shown.proofs.Common.{chars_past_char, wrapped}
 use Rattle.snippet_shown.proofs.StepLemmas.{Writes, Writes-all, Writes-next}
 use Rattle.snippet_shown.proofs.WrapLemmas.{Writes-none}
@@ -16,9 +16,7 @@ letters-init c =
     }
 
 pub letters-smaller : goal.letters-smaller
-letters-smaller c =
-    let cons = chars_past_char _ _ c.in-Some.c c.letters.invariant.utf8 c.in-Some.ensures.steps.0 in
-    omega (arith, ap length cons)
+letters-smaller c = grind (arith, common_steps, chars_past_char, c.letters.invariant.utf8, c.in-Some.ensures.steps.0)
 
 pub letters-preserved : goal.letters-preserved
 letters-preserved c =
