@@ -1,23 +1,11 @@
 -- The last border of characters of a text at a byte or before it.
-use Rattle.snippet_lines.proofs.Common.{◌≡◌, ℕ, zero, suc, ◌<◌, ◌≤◌, ◌==◌, ◌&&◌, ◌||◌, ltb, true, if◌then◌else◌, List}
-use Rattle.snippet_lines.proofs.Common.{length, sym, ap, ◌∙◌, arith, inl, inr, slice_index_or, IsCharBoundary, cases_Bool, cases_lt, nat_tests}
-use Rattle.snippet_lines.proofs.Common.{begins_char, border_before, is_border}
+use Rattle.snippet_lines.proofs.Common.{◌≡◌, ℕ, zero, suc, ◌<◌, ◌≤◌, ◌==◌, ◌&&◌, ◌||◌, ltb, true, if◌then◌else◌, List, length, sym, ap, ◌∙◌, arith, inl, inr}
+use Rattle.snippet_lines.proofs.Common.{slice_index_or, IsCharBoundary, cases_Bool, cases_lt, nat_tests, begins_char, border_before, is_border}
 
 -- where the byte at a place is this one, a border is told by it
 told : (text : List ℕ) (k b : ℕ) → k ≤ length text → (k < length text → 128 ≤ b → 192 ≤ b)
     → (k == length text || ltb k (length text) && begins_char b) ≡ true
-told text k b within begins =
-    elim (cases_lt k (length text)) [
-      | inl below ↦ elim (cases_lt b 128) [
-        | inl ascii ↦ grind (arith, nat_tests, below, ascii)
-        | inr more ↦
-            let lead : 192 ≤ b = begins below more in
-            grind (arith, nat_tests, below, lead)
-      ]
-      | inr past ↦
-          let here : k ≡ length text = omega (arith, within, past) in
-          grind (arith, nat_tests, here)
-    ]
+told text k b within begins = grind (arith, nat_tests)
 
 -- and what is told so is one
 begins-told : (text : List ℕ) (k b : ℕ) → (k == length text || ltb k (length text) && begins_char b) ≡ true

@@ -1,11 +1,10 @@
 -- The line around a byte, by the line feeds next to it.
-use Rattle.snippet_lines.proofs.Common.{◌≡◌, ◌≢◌, ℕ, zero, suc, ◌+◌, ◌-◌, ◌<◌, ◌≤◌, ◌⊎◌, ◌↔◌, inl, inr, cond, List}
-use Rattle.snippet_lines.proofs.Common.{[], ◌∷◌, ◌++◌, All, count_by, length, min, take, drop, get_or, refl, sym, ap, subst, ◌∙◌, ⊎_elim}
-use Rattle.snippet_lines.proofs.Common.{arith, append_assoc, append-nil, length-append, take_at, drop_at, take-append-drop, drop-drop, length-take-le}
-use Rattle.snippet_lines.proofs.Common.{length-drop, get_or-take, get_or-drop, get_or_default, drop_all, drop_more, IsUtf8, IsCharBoundary}
-use Rattle.snippet_lines.proofs.Common.{IsCharBoundary-from_drop, flat_map-append, All-nil, All-cons, All-same, All-take, All-push, sum_by-append, cases_lt}
-use Rattle.snippet_lines.proofs.Common.{eqb-true, EndLine, Eof, Lf, Crlf, Line, end_bytes, line_bytes, joined, last_byte, lines_of, source_lines, is_lf}
-use Rattle.snippet_lines.proofs.Common.{start_of, IsLine, AreLines, AreLinesOf, IsLineWithEnd, HoldsByte, line_of}
+use Rattle.snippet_lines.proofs.Common.{common_steps, ◌≡◌, ◌≢◌, ℕ, zero, suc, ◌+◌, ◌-◌, ◌<◌, ◌≤◌, ◌⊎◌, ◌↔◌, inl, inr, cond, List, [], ◌∷◌, ◌++◌, All, count_by}
+use Rattle.snippet_lines.proofs.Common.{length, min, take, drop, get_or, sym, ap, subst, ◌∙◌, ⊎_elim, arith, append_assoc, append-nil, length-append, take_at}
+use Rattle.snippet_lines.proofs.Common.{take-append-drop, drop-drop, length-take-le, length-drop, get_or-take, get_or-drop, get_or_default, drop_all, drop_more}
+use Rattle.snippet_lines.proofs.Common.{IsUtf8, IsCharBoundary, IsCharBoundary-from_drop, flat_map-append, All-nil, All-cons, All-same, All-take, All-push}
+use Rattle.snippet_lines.proofs.Common.{sum_by-append, cases_lt, eqb-true, EndLine, Eof, Lf, Crlf, Line, end_bytes, line_bytes, joined, last_byte, lines_of}
+use Rattle.snippet_lines.proofs.Common.{source_lines, is_lf, start_of, IsLine, AreLines, AreLinesOf, IsLineWithEnd, HoldsByte, line_of}
 use Rattle.snippet_lines.proofs.LinesLemmas.{split_last, joined-lines_of, lines_of-append, length-lines_of, source_lines-some, start_of-end, start_of-le}
 use Rattle.snippet_lines.proofs.LinesLemmas.{start_of-next, joined-source_lines, AreLinesOf-source_lines, IsUtf8-line}
 use Rattle.snippet_lines.proofs.CursorLemmas.{count_by-none}
@@ -63,9 +62,7 @@ module _ (source : List ℕ) (at start end : ℕ) (around : IsLineAround source 
 
   opens_after_lf : 0 < length before_it → last_byte before_it ≡ 10
   unfolding before_it
-  opens_after_lf some =
-      let n : length (take start source) ≡ start = length-before_it in
-      ap (λ m. get_or (take start source) (m - 1) 0) n ∙ get_or-take start source (start - 1) 0 (omega arith) ∙ around.opens (omega arith)
+  opens_after_lf some = grind (arith, common_steps, length-before_it)
 
   read : (k : ℕ) → k < end - start → get_or the_line k 0 ≡ get_or source (start + k) 0
   unfolding the_line
@@ -83,27 +80,16 @@ module _ (source : List ℕ) (at start end : ℕ) (around : IsLineAround source 
 
   closes_with_lf : (last_byte the_line ≡ 10) ⊎ (after_it ≡ [])
   unfolding after_it
-  closes_with_lf =
-      let n : length the_line ≡ end - start = length-the_line in
-      let last : last_byte the_line ≡ get_or source (end - 1) 0 =
-      ap (λ m. get_or the_line (m - 1) 0) n ∙ read (end - start - 1) (omega (arith, around.before, around.after))
-      ∙ (let e : start + (end - start - 1) ≡ end - 1 = omega (arith, around.before, around.after) in ap (λ m. get_or source m 0) e) in
-      ⊎_elim (λ lf. inl (last ∙ lf)) (λ all. inr (drop_all end source (omega (arith, all)))) around.closes
+  closes_with_lf = grind (arith, length-the_line, read, drop_all)
 
   some_line : 0 < length the_line
   some_line = omega (arith, length-the_line, around.before, around.after)
 
   tail_lines : lines_of (the_line ++ after_it) ≡ lines_of the_line ++ lines_of after_it
-  tail_lines =
-      ⊎_elim (λ lf. lines_of-append the_line after_it (λ _. lf))
-      (λ none. ap (λ bs. lines_of (the_line ++ bs)) none ∙ ap lines_of (append-nil the_line) ∙ sym (append-nil (lines_of the_line))
-      ∙ ap (λ bs. lines_of the_line ++ lines_of bs) (sym none))
-      closes_with_lf
+  tail_lines = grind (arith, common_steps, lines_of-append, closes_with_lf)
 
   all_lines : source_lines source ≡ lines_of before_it ++ (lines_of the_line ++ lines_of after_it)
-  all_lines =
-      source_lines-some source (omega (arith, around.after, around.within)) ∙ ap lines_of three_parts
-      ∙ lines_of-append before_it (the_line ++ after_it) opens_after_lf ∙ ap (λ ls. lines_of before_it ++ ls) tail_lines
+  all_lines = grind (arith, source_lines-some, three_parts, lines_of-append, opens_after_lf, tail_lines)
 
   -- which line it is
   index_of_it : ℕ
@@ -111,10 +97,7 @@ module _ (source : List ℕ) (at start end : ℕ) (around : IsLineAround source 
 
   start_is : start_of (source_lines source) index_of_it ≡ start
   unfolding start_of index_of_it
-  start_is =
-      ap (λ ls. length (joined (take (length (lines_of before_it)) ls))) all_lines
-      ∙ ap (λ ls. length (joined ls)) (take_at (lines_of before_it) (lines_of the_line ++ lines_of after_it) (length (lines_of before_it)) refl)
-      ∙ ap length (joined-lines_of before_it) ∙ length-before_it
+  start_is = grind (arith, common_steps, all_lines, joined-lines_of, length-before_it)
 
   end_is : start_of (source_lines source) (index_of_it + 1) ≡ end
   unfolding start_of index_of_it
@@ -140,23 +123,11 @@ module _ (source : List ℕ) (at start end : ℕ) (around : IsLineAround source 
 
   index_within : index_of_it < length (source_lines source)
   unfolding index_of_it
-  index_within =
-      let one : length (lines_of the_line) ≡ 1 = length-one the_line some_line line_is_one in
-      omega (
-        arith,
-        ap length all_lines,
-        length-append (lines_of before_it) (lines_of the_line ++ lines_of after_it),
-        length-append (lines_of the_line)
-            (lines_of after_it),
-      )
+  index_within = grind (arith, common_steps, length-one, some_line, line_is_one, all_lines)
 
   -- it holds each byte in it, and each after its start if it ends where the source does
   holds : (b : ℕ) → start ≤ b → (b < end) ⊎ (end ≡ length source) → HoldsByte (source_lines source) b index_of_it
-  holds b from to = record {
-    within = index_within;
-    from = omega (arith, start_is);
-    to = λ more. ⊎_elim (λ inside. omega (arith, end_is)) (λ last. absurd (omega (arith, end_is, start_of-inside source index_of_it more))) to;
-  }
+  holds b from to = grind (arith, index_within, start_is, end_is, start_of-inside)
 
   line_of-around : (b : ℕ) → start ≤ b → (b < end) ⊎ (end ≡ length source) → line_of (source_lines source) b ≡ index_of_it
   line_of-around b from to = line_of-is (source_lines source) b index_of_it (holds b from to)
@@ -174,22 +145,7 @@ pub same_line : (source : List ℕ) (byte start end : ℕ) → start ≡ start_o
     → end ≡ start_of (source_lines source) (line_of (source_lines source) byte + 1) → (b : ℕ)
     → (line_of (source_lines source) b ≡ line_of (source_lines source) byte) ↔ ((start ≤ b) × ((b < end) ⊎ (end ≡ length source)))
 same_line source byte start end start_is end_is b =
-    let ls : List Line = source_lines source in
-    let k : ℕ = line_of ls byte in
-    let within : k < length ls = line_of-within source byte in (
-      λ same.
-          let there : HoldsByte ls b k = subst (HoldsByte ls b) same (HoldsByte-source source b) in (
-            omega (arith, there.from),
-            ⊎_elim (λ more. inl (omega (arith, there.to more))) (λ last.
-                inr (end_is ∙ start_of-end ls (k + 1) last ∙ ap length (joined-source_lines source))) (cases_lt (k + 1) (length ls)),
-          ),
-      λ (from, to).
-          line_of-is ls b k (record {
-            within = within;
-            from = omega arith;
-            to = λ more. ⊎_elim (λ inside. omega arith) (λ last. absurd (omega (arith, start_of-inside source k more))) to;
-          }),
-    )
+    grind (arith, line_of-within, HoldsByte-source, start_of-end, joined-source_lines, line_of-is, start_of-inside)
 
 -- an empty source has its one line from 0 to 0
 pub start_of-empty : (source : List ℕ) (k : ℕ) → length source ≡ 0 → start_of (source_lines source) k ≡ 0
@@ -229,21 +185,13 @@ bounds-around source byte at start end at_is before opens none_before within aft
 -- the lines from line k on are the source from there on
 drop_lines : (ls : List Line) (k : ℕ) → drop (start_of ls k) (joined ls) ≡ joined (drop k ls)
 unfolding start_of
-drop_lines ls k =
-    ap (drop (length (joined (take k ls)))) (ap joined (sym (take-append-drop k ls)) ∙ flat_map-append line_bytes (take k ls) (drop k ls))
-    ∙ drop_at (joined (take k ls)) (joined (drop k ls)) (length (joined (take k ls))) refl
+drop_lines ls k = grind (arith, common_steps, flat_map-append line_bytes (take k ls) (drop k ls))
 
 -- a line's bytes stand from its start to the next line's
 pub line_bytes-slice : (source : List ℕ) (k : ℕ) → k < length (source_lines source)
     → take (start_of (source_lines source) (k + 1) - start_of (source_lines source) k) (drop (start_of (source_lines source) k) source)
     ≡ line_bytes (get_or (source_lines source) k ([], Eof))
-line_bytes-slice source k within =
-    let ls : List Line = source_lines source in
-    let l : Line = get_or ls k ([], Eof) in
-    let n : length (line_bytes l) ≡ start_of ls (k + 1) - start_of ls k = omega (arith, start_of-next ls k ([], Eof) within) in
-    ap (λ s. take (start_of ls (k + 1) - start_of ls k) (drop (start_of ls k) s)) (sym (joined-source_lines source))
-    ∙ ap (take (start_of ls (k + 1) - start_of ls k)) (drop_lines ls k ∙ ap joined (drop_more ls k ([], Eof) within))
-    ∙ take_at (line_bytes l) (joined (drop (k + 1) ls)) (start_of ls (k + 1) - start_of ls k) n
+line_bytes-slice source k within = grind (arith, common_steps, start_of-next, within, joined-source_lines source, drop_lines, drop_more)
 
 IsUtf8-from_line : (ls : List Line) (k : ℕ) → AreLines ls → IsUtf8 (joined ls) → IsUtf8 (joined (drop k ls))
 IsUtf8-from_line ls zero lines utf8 = utf8
@@ -275,23 +223,12 @@ IsLine-each (l ∷ ls) lines = All-cons IsLine l ls lines.0 (IsLine-each ls line
 
 -- each line of a source is a line
 pub IsLine-at : (source : List ℕ) (k : ℕ) → k < length (source_lines source) → IsLine (get_or (source_lines source) k ([], Eof))
-IsLine-at source k within =
-    let ls : List Line = source_lines source in
-    let empty : IsLine ([], Eof) = record { no_lf = All-nil (λ b. b ≢ 10); no_cr = λ e. cc } in
-    ⊎_elim (λ one. All-same IsLine ls (([], Eof) ∷ []) one (All-cons IsLine ([], Eof) [] empty (All-nil IsLine)) k ([], Eof) within)
-    (λ (some, lines). IsLine-each ls lines k ([], Eof) within) (AreLinesOf-source_lines source).lines
+IsLine-at source k within = grind (arith, common_steps, All-nil, All-same, All-cons, All-nil IsLine, within, IsLine-each, AreLinesOf-source_lines source)
 
 IsOneLine-bytes : (text : List ℕ) (ending : EndLine) → All (λ b. b ≢ 10) text → IsLineWithEnd (text ++ end_bytes ending)
 IsOneLine-bytes text Eof none = subst IsLineWithEnd (sym (append-nil text)) (All-take (λ b. b ≢ 10) (length text - 1) text none)
-IsOneLine-bytes text Lf none =
-    let n : length text ≡ length (text ++ 10 ∷ []) - 1 = omega (arith, length-append text (10 ∷ [])) in
-    subst (All (λ b. b ≢ 10)) (sym (take_at text (10 ∷ []) (length (text ++ 10 ∷ []) - 1) n)) none
-IsOneLine-bytes text Crlf none =
-    let n : length (text ++ 13 ∷ []) ≡ length (text ++ 13 ∷ 10 ∷ []) - 1 = omega (arith, length-append text (13 ∷ 10 ∷ []), length-append text (13 ∷ [])) in
-    let split : text ++ 13 ∷ 10 ∷ [] ≡ (text ++ 13 ∷ []) ++ 10 ∷ [] = sym (append_assoc text (13 ∷ []) (10 ∷ [])) in
-    let front : take (length (text ++ 13 ∷ 10 ∷ []) - 1) (text ++ 13 ∷ 10 ∷ []) ≡ text ++ 13 ∷ [] = ap (take (length (text ++ 13 ∷ 10 ∷ []) - 1)) split
-    ∙ take_at (text ++ 13 ∷ []) (10 ∷ []) (length (text ++ 13 ∷ 10 ∷ []) - 1) n in
-    subst (All (λ b. b ≢ 10)) (sym front) (All-push (λ b. b ≢ 10) text 13 none (λ e. absurd (omega arith)))
+IsOneLine-bytes text Lf none = grind (arith, common_steps)
+IsOneLine-bytes text Crlf none = grind (arith, common_steps, All-push)
 
 -- a line's bytes are one line
 pub IsOneLine-line : (l : Line) → IsLine l → IsLineWithEnd (line_bytes l)

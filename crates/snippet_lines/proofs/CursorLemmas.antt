@@ -1,8 +1,8 @@
 -- What a search for an LF and a look at a line's end say of the lines of a text.
-use Rattle.snippet_lines.proofs.Common.{◌≡◌, ◌≢◌, ℕ, suc, ◌+◌, ◌-◌, ◌<◌, ◌≤◌, ◌⊎◌, Bool, true, false, cond, List, []}
-use Rattle.snippet_lines.proofs.Common.{◌∷◌, ◌++◌, All, count_by, length, take, get_or, refl, sym, ap, subst, ◌∙◌, ⊎_elim, arith, append-nil}
-use Rattle.snippet_lines.proofs.Common.{length-append, take_at, length-take-le, get_or-take, get_or_default, All-nil, All-push, All-take, sum_by-cons}
-use Rattle.snippet_lines.proofs.Common.{cond-false, false_from_ne_true, EndLine, Eof, end_bytes, line_bytes, last_byte, lines_of, IsLine, IsLineWithEnd}
+use Rattle.snippet_lines.proofs.Common.{common_steps, ◌≡◌, ◌≢◌, ℕ, suc, ◌+◌, ◌-◌, ◌<◌, ◌⊎◌, Bool, true, false, List, [], ◌∷◌, ◌++◌, All, count_by, length}
+use Rattle.snippet_lines.proofs.Common.{take, get_or, refl, sym, ap, subst, ◌∙◌, arith, length-append, take_at, length-take-le, get_or-take, get_or_default}
+use Rattle.snippet_lines.proofs.Common.{All-nil, All-push, All-take, sum_by-cons, cond-false, false_from_ne_true, EndLine, Eof, line_bytes, last_byte, lines_of}
+use Rattle.snippet_lines.proofs.Common.{IsLine, IsLineWithEnd}
 use Rattle.snippet_lines.proofs.LinesLemmas.{split_last, lines_of-line}
 
 -- a text cut after its first LF
@@ -46,20 +46,13 @@ no_lf-front text front b is none =
 -- the first line of a text, its end told from its text, and the lines of what follows are the lines of the text
 pub lines_of-first : (whole line rest text : List ℕ) (ending : EndLine) → whole ≡ line ++ rest → 0 < length line → (last_byte line ≡ 10) ⊎ (rest ≡ [])
     → line ≡ line_bytes (text, ending) → IsLine (text, ending) → (ending ≡ Eof → last_byte line ≢ 10) → lines_of whole ≡ (text, ending) ∷ lines_of rest
-lines_of-first whole line rest text ending is some ends line_is fits no_end =
-    let last : ending ≡ Eof → (0 < length text) × (rest ≡ []) = λ eof. (
-      omega (arith, ap length (line_is ∙ ap (λ e. text ++ end_bytes e) eof ∙ append-nil text)),
-      ⊎_elim (λ lf. absurd (no_end eof lf)) (λ none. none) ends,
-    ) in
-    ap lines_of (is ∙ ap (λ bs. bs ++ rest) line_is) ∙ lines_of-line text ending rest fits.no_lf fits.no_cr last
+lines_of-first whole line rest text ending is some ends line_is fits no_end = grind (arith, common_steps, lines_of-line, fits.no_lf, fits.no_cr)
 
 -- ---- counting from find to find
 
 -- an element that fails isn't counted
 counted : (p : ℕ → Bool) (x : ℕ) (xs : List ℕ) → p x ≡ false → count_by p (x ∷ xs) ≡ count_by p xs
-counted p x xs fails =
-    let none : cond {A = ℕ} (p x) 1 0 ≡ 0 = cond-false (p x) 1 0 fails in
-    omega (arith, sum_by-cons (λ y. cond (p y) 1 0) x xs)
+counted p x xs fails = grind (arith, cond-false, sum_by-cons)
 
 -- a list where none passes
 pub count_by-none : (p : ℕ → Bool) (xs : List ℕ) → ((k : ℕ) → k < length xs → p (get_or xs k 0) ≡ true → ⊥) → count_by p xs ≡ 0

@@ -1,12 +1,11 @@
 -- The line that holds a byte, by the line feeds up to it.
-use Rattle.snippet_lines.proofs.Common.{◌≡◌, ◌≢◌, ℕ, ◌+◌, ◌-◌, ◌<◌, ◌≤◌, true, false, cond, ltb, List, [], ◌∷◌, ◌++◌}
-use Rattle.snippet_lines.proofs.Common.{All, length, take, refl, sym, ap, subst, ◌∙◌, arith, count_by, get_or, min, inl, inr, append_assoc, append-nil}
-use Rattle.snippet_lines.proofs.Common.{length-append, length-take, length-take-le, take-append-le, take-take, take_all, take-append-add, sum_by-append}
-use Rattle.snippet_lines.proofs.Common.{sum_by-cons, All-take, cases_lt, cond_both, ltb-true, ltb-false, eqb-true, EndLine, Eof, Lf, Crlf, Line, line_bytes}
-use Rattle.snippet_lines.proofs.Common.{joined, last_byte, lines_of, source_lines, is_lf, IsLineWithEnd, AreLines, newline_count, start_of, line_of}
-use Rattle.snippet_lines.proofs.LinesLemmas.{split_last, last_byte-push, lines_of-append, length-lines_of, length-source_lines}
-use Rattle.snippet_lines.proofs.LinesLemmas.{ending_newlines}
-use Rattle.snippet_lines.proofs.LinesLemmas.{start_of-zero, length-lines_of-pos, AreLines-lines_of, joined-lines_of, source_lines-some}
+use Rattle.snippet_lines.proofs.Common.{common_steps, ◌≡◌, ◌≢◌, ℕ, ◌+◌, ◌-◌, ◌<◌, ◌≤◌, cond, ltb, List, [], ◌∷◌, ◌++◌, All, length, take, refl}
+use Rattle.snippet_lines.proofs.Common.{sym, ap, subst, ◌∙◌, arith, count_by, get_or, min, inl, inr, append_assoc, append-nil, length-append, length-take}
+use Rattle.snippet_lines.proofs.Common.{length-take-le, take-append-le, take-take, take_all, take-append-add, sum_by-append, sum_by-cons, All-take, cases_lt}
+use Rattle.snippet_lines.proofs.Common.{cond_both, ltb-true, ltb-false, eqb-true, EndLine, Eof, Lf, Crlf, Line, line_bytes, joined, last_byte, lines_of}
+use Rattle.snippet_lines.proofs.Common.{source_lines, is_lf, IsLineWithEnd, AreLines, newline_count, line_of}
+use Rattle.snippet_lines.proofs.LinesLemmas.{split_last, last_byte-push, lines_of-append, length-lines_of, length-source_lines, ending_newlines, start_of-zero}
+use Rattle.snippet_lines.proofs.LinesLemmas.{length-lines_of-pos, AreLines-lines_of, joined-lines_of, source_lines-some}
 use Rattle.snippet_lines.proofs.CursorLemmas.{count_by-none}
 use Rattle.snippet_lines.proofs.PlaceLemmas.{line_of-start, line_of-within, line_with_end-some}
 use Rattle.snippet_lines.proofs.BoundsLemmas.{IsOneLine-line}
@@ -96,29 +95,16 @@ line_of-count (c ∷ cs) b =
 -- so the newlines of a front are as many as lines stand before the one that holds its last byte
 pub line_of-last : (source : List ℕ) (end : ℕ) → line_of (source_lines source) (end - 1) ≡ newline_count (take end source)
 line_of-last source end =
-    elim (cases_lt 0 end) [
-      | inl some ↦
-          let same : end - 1 + 1 ≡ end = omega arith in
-          sym (line_of-count source (end - 1)) ∙ ap (λ n. newline_count (take n source)) same
-      | inr none ↦
-          let first : end - 1 ≡ 0 = omega arith in
-          let nothing : end ≡ 0 = omega arith in
-          let start : start_of (source_lines source) 0 ≡ 0 = start_of-zero (source_lines source) in
-          let here : line_of (source_lines source) 0 ≡ 0 = sym (ap (line_of (source_lines source)) start)
-          ∙ line_of-start source 0 (omega (arith, line_of-within source 0)) in
-          let whole : length (source_lines []) ≡ newline_count [] + 1 = length-source_lines [] in
-          ap (line_of (source_lines source)) first ∙ here
-          ∙ omega (arith, whole, ap (λ n. newline_count (take n source)) nothing)
-    ]
+    grind (
+      arith,
+      common_steps,
+      line_of-count source (end - 1),
+      start_of-zero (source_lines source),
+      line_of-start,
+      line_of-within source 0,
+      length-source_lines [],
+    )
 
 -- a byte after the source is on the line of its last byte
 pub line_of-clamped : (source : List ℕ) (b at : ℕ) → at ≡ min b (length source - 1) → line_of (source_lines source) at ≡ line_of (source_lines source) b
-line_of-clamped source b at is =
-    let front : take (at + 1) source ≡ take (b + 1) source = elim (cases_lt b (length source)) [
-      | inl inside ↦
-          let same : at ≡ b = omega (arith, is) in
-          ap (λ n. take (n + 1) source) same
-      | inr after ↦
-          take_all (at + 1) source (omega (arith, is)) ∙ sym (take_all (b + 1) source (omega arith))
-    ] in
-    sym (line_of-count source at) ∙ ap newline_count front ∙ line_of-count source b
+line_of-clamped source b at is = grind (arith, common_steps, is, line_of-count source at, line_of-count source b)

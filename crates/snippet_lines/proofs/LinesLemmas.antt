@@ -1,25 +1,20 @@
 -- Laws of the cut of a text into lines.
-use Rattle.snippet_lines.proofs.Common.{◌≡◌, ◌≢◌, ℕ, zero, suc, ◌+◌, ◌-◌, ◌<◌, ◌≤◌, inl, inr, true, false, cond, eqb, List, []}
-use Rattle.snippet_lines.proofs.Common.{◌∷◌, ◌++◌, All, length, take, drop, get_or, refl, sym, ap, subst, ◌∙◌, ⊎_elim, arith, add-one}
-use Rattle.snippet_lines.proofs.Common.{append_assoc, count_by, le_refl, add-zero, append-nil, length-append, take_at, drop_at, drop_more, get_or_past}
-use Rattle.snippet_lines.proofs.Common.{get_or_at, take-append-drop, take_more, take_all, drop-drop, IsUtf8, IsUtf8-nil, IsUtf8-take, IsUtf8-drop}
-use Rattle.snippet_lines.proofs.Common.{IsCharBoundary-before_ascii, IsCharBoundary-after_ascii, sum_by-cons, count_by-le-length, flat_map-append, All-same}
-use Rattle.snippet_lines.proofs.Common.{All-head, All-tail, All-nil, All-cons, cases_lt, cond_both, cond-true, cond-false, eq-eqb, ne_eqb, eqb-true, eqb-false}
-use Rattle.snippet_lines.proofs.Common.{EndLine, Eof, Lf, Crlf, Line, end_bytes, line_bytes, joined, last_byte, line_with_byte, with_first_byte, IsLine}
-use Rattle.snippet_lines.proofs.Common.{AreLines, IsCutOf, AreLinesOf, lines_of, source_lines, is_lf, newline_count, text_at, StandsAt, start_of}
+use Rattle.snippet_lines.proofs.Common.{common_steps, ◌≡◌, ◌≢◌, ℕ, zero, suc, ◌+◌, ◌-◌, ◌<◌, ◌≤◌, inl, inr, true, false, cond, eqb, List, [], ◌∷◌, ◌++◌, All}
+use Rattle.snippet_lines.proofs.Common.{length, take, drop, get_or, refl, sym, ap, subst, ◌∙◌, ⊎_elim, arith, add-one, append_assoc, count_by, le_refl}
+use Rattle.snippet_lines.proofs.Common.{add-zero, length-append, take_at, drop_at, drop_more, get_or_past, get_or_at, take_more, take_all, drop-drop, IsUtf8}
+use Rattle.snippet_lines.proofs.Common.{IsUtf8-nil, IsUtf8-take, IsUtf8-drop, IsCharBoundary-before_ascii, IsCharBoundary-after_ascii, sum_by-cons}
+use Rattle.snippet_lines.proofs.Common.{count_by-le-length, flat_map-append, All-same, All-head, All-tail, All-nil, All-cons, cases_lt, cond_both, cond-true}
+use Rattle.snippet_lines.proofs.Common.{cond-false, ne_eqb, eqb-true, EndLine, Eof, Lf, Crlf, Line, end_bytes, line_bytes, joined, last_byte, line_with_byte}
+use Rattle.snippet_lines.proofs.Common.{with_first_byte, IsLine, AreLines, IsCutOf, AreLinesOf, lines_of, source_lines, is_lf, newline_count, text_at, StandsAt}
+use Rattle.snippet_lines.proofs.Common.{start_of}
 
 -- a byte in front of a text that isn't empty leaves its last byte
 pub last_byte-cons : (b c : ℕ) (bs : List ℕ) → last_byte (b ∷ c ∷ bs) ≡ last_byte (c ∷ bs)
-last_byte-cons b c bs =
-    let a : suc (suc (length bs)) - 1 ≡ suc (length bs) = omega arith in
-    let e : suc (length bs) - 1 ≡ length bs = omega arith in
-    rw (a, e)
+last_byte-cons b c bs = grind arith
 
 -- a text that isn't empty is all but its last byte, and that byte
 pub split_last : (text : List ℕ) → 0 < length text → text ≡ take (length text - 1) text ++ last_byte text ∷ []
-split_last text some =
-    let more : take ((length text - 1) + 1) text ≡ take (length text - 1) text ++ last_byte text ∷ [] = take_more text (length text - 1) 0 (omega arith) in
-    sym (take_all ((length text - 1) + 1) text (omega arith)) ∙ more
+split_last text some = grind (arith, common_steps, take_more)
 
 -- the last byte of bytes with one more at the end is that one
 pub last_byte-push : (front : List ℕ) (b : ℕ) → last_byte (front ++ b ∷ []) ≡ b
@@ -38,9 +33,7 @@ line_with_byte-fits b (c ∷ text) ending no_cr = refl
 -- a byte in front of a text makes its first line longer
 lines_of-longer : (b : ℕ) (bs text : List ℕ) (ending : EndLine) (ls : List Line) → b ≢ 10 → (ending ≡ Lf → last_byte (b ∷ text) ≢ 13)
     → lines_of bs ≡ (text, ending) ∷ ls → lines_of (b ∷ bs) ≡ (b ∷ text, ending) ∷ ls
-lines_of-longer b bs text ending ls no_lf no_cr is =
-    cond-false (eqb b 10) (([], Lf) ∷ lines_of bs) (with_first_byte b (lines_of bs)) (ne_eqb b 10 no_lf) ∙ ap (with_first_byte b) is
-    ∙ ap (λ l. l ∷ ls) (line_with_byte-fits b text ending no_cr)
+lines_of-longer b bs text ending ls no_lf no_cr is = grind (arith, cond-false, line_with_byte-fits)
 
 -- a line and the lines of what follows it are the lines of the two together
 pub lines_of-line : (text : List ℕ) (ending : EndLine) (rest : List ℕ) → All (λ b. b ≢ 10) text → (ending ≡ Lf → last_byte text ≢ 13)
@@ -80,17 +73,10 @@ joined-with_first_byte b (l ∷ ls) = ap (λ bs. bs ++ joined ls) (line_bytes-li
 -- the lines of a text make up the text
 pub joined-lines_of : (text : List ℕ) → joined (lines_of text) ≡ text
 joined-lines_of [] = refl
-joined-lines_of (b ∷ bs) =
-    let rest : joined (lines_of bs) ≡ bs = joined-lines_of bs in
-    cond_both (eqb b 10) (([], Lf) ∷ lines_of bs) (with_first_byte b (lines_of bs)) (λ ls. joined ls ≡ b ∷ bs)
-    (λ is. ap (λ c. c ∷ joined (lines_of bs)) (sym (eqb-true b 10 is)) ∙ ap (λ cs. b ∷ cs) rest)
-    (λ _. joined-with_first_byte b (lines_of bs) ∙ ap (λ cs. b ∷ cs) rest)
+joined-lines_of (b ∷ bs) = grind (arith, joined-lines_of bs, joined-with_first_byte)
 
 IsLine-line_with_byte : (b : ℕ) (text : List ℕ) (ending : EndLine) → b ≢ 10 → IsLine (text, ending) → IsLine (line_with_byte b text ending)
-IsLine-line_with_byte b [] Lf no_lf line =
-    cond_both (eqb b 13) ([], Crlf) (b ∷ [], Lf) IsLine
-    (λ _. record { no_lf = All-nil (λ b. b ≢ 10); no_cr = λ e. cc })
-    (λ not_cr. record { no_lf = All-cons (λ b. b ≢ 10) b [] no_lf (All-nil (λ b. b ≢ 10)); no_cr = λ _. eqb-false b 13 not_cr })
+IsLine-line_with_byte b [] Lf no_lf line = grind (arith, All-nil, All-cons)
 IsLine-line_with_byte b [] Eof no_lf line =
     record { no_lf = All-cons (λ b. b ≢ 10) b [] no_lf (All-nil (λ b. b ≢ 10)); no_cr = λ e. cc }
 IsLine-line_with_byte b [] Crlf no_lf line =
@@ -116,10 +102,7 @@ AreLines-with_first_byte b (l ∷ ls) no_lf lines =
 -- the lines of a text are lines
 pub AreLines-lines_of : (text : List ℕ) → AreLines (lines_of text)
 AreLines-lines_of [] = tt
-AreLines-lines_of (b ∷ bs) =
-    cond_both (eqb b 10) (([], Lf) ∷ lines_of bs) (with_first_byte b (lines_of bs)) AreLines
-    (λ _. (record { no_lf = All-nil (λ b. b ≢ 10); no_cr = λ _ e. cc }, λ e. cc, AreLines-lines_of bs))
-    (λ not_lf. AreLines-with_first_byte b (lines_of bs) (eqb-false b 10 not_lf) (AreLines-lines_of bs))
+AreLines-lines_of (b ∷ bs) = grind (arith, All-nil, AreLines-lines_of bs, AreLines-with_first_byte)
 
 joined-none : (ls : List Line) → ls ≡ [] → joined ls ≡ []
 joined-none ls none = ap joined none
@@ -127,9 +110,7 @@ joined-none ls none = ap joined none
 -- lines that are joined are cut into those lines again
 pub lines_of-joined : (ls : List Line) → AreLines ls → lines_of (joined ls) ≡ ls
 lines_of-joined [] lines = refl
-lines_of-joined (l ∷ ls) lines =
-    lines_of-line l.0 l.1 (joined ls) lines.0.no_lf lines.0.no_cr (λ is. ((lines.1 is).0, joined-none ls (lines.1 is).1))
-    ∙ ap (λ ms. l ∷ ms) (lines_of-joined ls lines.2)
+lines_of-joined (l ∷ ls) lines = grind (arith, lines_of-line, l.0, l.1, lines.0.no_lf, lines.0.no_cr, lines.1, joined-none, lines_of-joined ls lines.2, lines.2)
 
 -- each text has its cut
 pub IsCutOf-lines_of : (text : List ℕ) → IsCutOf text (lines_of text)
@@ -146,9 +127,7 @@ length-with_first_byte b (l ∷ ls) = omega arith
 -- a text that isn't empty has a line
 pub length-lines_of-pos : (text : List ℕ) → 0 < length text → 0 < length (lines_of text)
 length-lines_of-pos [] some = absurd (omega arith)
-length-lines_of-pos (b ∷ bs) some =
-    cond_both (eqb b 10) (([], Lf) ∷ lines_of bs) (with_first_byte b (lines_of bs)) (λ ls. 0 < length ls) (λ _. omega arith) (λ _.
-    length-with_first_byte b (lines_of bs))
+length-lines_of-pos (b ∷ bs) some = grind (arith, length-with_first_byte)
 
 -- each source has its lines
 pub AreLinesOf-source_lines : (source : List ℕ) → AreLinesOf source (source_lines source)
@@ -162,10 +141,7 @@ source_lines-lines_of (b ∷ bs) ls some is = is
 
 -- and no others
 pub source_lines-only : (source : List ℕ) (ls : List Line) → AreLinesOf source ls → ls ≡ source_lines source
-source_lines-only source ls lines =
-    ⊎_elim (λ none. none ∙ ap source_lines (sym (ap joined none) ∙ lines.whole))
-    (λ (some, are). source_lines-lines_of source ls some (lines_of-only source ls (record { whole = lines.whole; lines = are })))
-    lines.lines
+source_lines-only source ls lines = grind (arith, lines.whole, source_lines-lines_of, lines_of-only, lines.lines)
 
 -- the lines of a source make up the source
 pub joined-source_lines : (source : List ℕ) → joined (source_lines source) ≡ source
@@ -176,10 +152,7 @@ joined-source_lines source = (AreLinesOf-source_lines source).whole
 -- a text that is empty or ends with LF and what follows it have the lines of both
 pub lines_of-append : (xs ys : List ℕ) → (0 < length xs → last_byte xs ≡ 10) → lines_of (xs ++ ys) ≡ lines_of xs ++ lines_of ys
 lines_of-append [] ys ends = refl
-lines_of-append (b ∷ []) ys ends =
-    let is : eqb b 10 ≡ true = eq-eqb b 10 (ends (omega arith)) in
-    cond-true (eqb b 10) (([], Lf) ∷ lines_of ys) (with_first_byte b (lines_of ys)) is
-    ∙ sym (ap (λ ls. ls ++ lines_of ys) (cond-true (eqb b 10) (([], Lf) ∷ []) (with_first_byte b []) is))
+lines_of-append (b ∷ []) ys ends = grind (arith, cond-true)
 lines_of-append (b ∷ c ∷ xs) ys ends =
     let rest : lines_of ((c ∷ xs) ++ ys) ≡ lines_of (c ∷ xs) ++ lines_of ys = lines_of-append (c ∷ xs) ys (λ _.
     sym (last_byte-cons b c xs) ∙ ends (omega arith)) in
@@ -203,24 +176,12 @@ one_line b = cond_both (eqb b 10) (([], Lf) ∷ []) ((b ∷ [], Eof) ∷ []) (λ
 
 one_more_line : (b : ℕ) (ls : List Line) → 0 < length ls → length (cond (eqb b 10) (([], Lf) ∷ ls) (with_first_byte b ls)) ≡ cond (is_lf b) 1 0 + length ls
 one_more_line b [] some = absurd (omega arith)
-one_more_line b (l ∷ ls) some =
-    elim (eqb b 10) as (λ t. length (cond t (([], Lf) ∷ l ∷ ls) (with_first_byte b (l ∷ ls)))
-    ≡ cond t 1 0 + length (l ∷ ls)) [ true ↦ omega arith | false ↦ omega arith ]
+one_more_line b (l ∷ ls) some = grind arith
 
 -- a line for each LF, and one more where the text goes on after the last of them
 pub length-lines_of : (b : ℕ) (bs : List ℕ) → length (lines_of (b ∷ bs)) + ending_newlines (b ∷ bs) ≡ count_by is_lf (b ∷ bs) + 1
-length-lines_of b [] =
-    let count : count_by is_lf (b ∷ []) ≡ cond (is_lf b) 1 0 + count_by is_lf [] = sum_by-cons (λ c. cond (is_lf c) 1 0) b [] in
-    let one : length (lines_of (b ∷ [])) + ending_newlines (b ∷ []) ≡ 1 + cond (is_lf b) 1 0 = one_line b in
-    let none : count_by is_lf [] ≡ 0 = refl in
-    omega arith
-length-lines_of b (c ∷ bs) =
-    let rest : length (lines_of (c ∷ bs)) + ending_newlines (c ∷ bs) ≡ count_by is_lf (c ∷ bs) + 1 = length-lines_of c bs in
-    let count : count_by is_lf (b ∷ c ∷ bs) ≡ cond (is_lf b) 1 0 + count_by is_lf (c ∷ bs) = sum_by-cons (λ d. cond (is_lf d) 1 0) b (c ∷ bs) in
-    let ending : ending_newlines (b ∷ c ∷ bs) ≡ ending_newlines (c ∷ bs) = ap (λ d. cond (is_lf d) 1 0) (last_byte-cons b c bs) in
-    let more : length (lines_of (b ∷ c ∷ bs)) ≡ cond (is_lf b) 1 0 + length (lines_of (c ∷ bs)) = one_more_line b (lines_of (c ∷ bs))
-    (length-lines_of-pos (c ∷ bs) (omega arith)) in
-    omega arith
+length-lines_of b [] = grind (arith, sum_by-cons, one_line)
+length-lines_of b (c ∷ bs) = grind (arith, common_steps, length-lines_of c bs, sum_by-cons, last_byte-cons, one_more_line, length-lines_of-pos)
 
 newline_count-is : (text : List ℕ) → newline_count text ≡ count_by is_lf text - ending_newlines text
 unfolding newline_count
@@ -229,10 +190,7 @@ newline_count-is text = refl
 -- a source has one line more than `newline_count` says
 pub length-source_lines : (source : List ℕ) → length (source_lines source) ≡ newline_count source + 1
 length-source_lines [] = ap (λ n. n + 1) (sym (newline_count-is []))
-length-source_lines (b ∷ bs) =
-    let all : length (lines_of (b ∷ bs)) + ending_newlines (b ∷ bs) ≡ count_by is_lf (b ∷ bs) + 1 = length-lines_of b bs in
-    let some : 0 < length (lines_of (b ∷ bs)) = length-lines_of-pos (b ∷ bs) (omega arith) in
-    omega (arith, newline_count-is (b ∷ bs))
+length-source_lines (b ∷ bs) = grind (arith, length-lines_of, length-lines_of-pos, newline_count-is)
 
 ending_newlines-open : (text : List ℕ) → last_byte text ≢ 10 → ending_newlines text ≡ 0
 ending_newlines-open text is_not = ap (λ t. cond t 1 0) (ne_eqb (last_byte text) 10 is_not)
@@ -265,10 +223,7 @@ start_of-end ls k after = ap (λ ms. length (joined ms)) (take_all k ls after)
 -- a line ends where the next begins
 pub start_of-next : (ls : List Line) (k : ℕ) (d : Line) → k < length ls → start_of ls (k + 1) ≡ start_of ls k + length (line_bytes (get_or ls k d))
 unfolding start_of
-start_of-next ls k d within =
-    ap (λ ms. length (joined ms)) (take_more ls k d within) ∙ ap length (flat_map-append line_bytes (take k ls) (get_or ls k d ∷ []))
-    ∙ length-append (joined (take k ls)) (joined (get_or ls k d ∷ []))
-    ∙ ap (λ bs. length (joined (take k ls)) + length bs) (append-nil (line_bytes (get_or ls k d)))
+start_of-next ls k d within = grind (arith, common_steps, take_more, flat_map-append)
 
 start_of-step : (ls : List Line) (k : ℕ) → start_of ls k ≤ start_of ls (k + 1)
 start_of-step ls k =
@@ -278,42 +233,25 @@ start_of-step ls k =
 -- later lines begin later
 pub start_of-mono : (ls : List Line) (j n : ℕ) → start_of ls j ≤ start_of ls (j + n)
 start_of-mono ls j zero = rw add-zero (le_refl (start_of ls j))
-start_of-mono ls j (suc n) =
-    let more : start_of ls (j + n) ≤ start_of ls ((j + n) + 1) = start_of-step ls (j + n) in
-    let same : (j + n) + 1 ≡ j + suc n = omega arith in
-    let at : start_of ls ((j + n) + 1) ≡ start_of ls (j + suc n) = ap (start_of ls) same in
-    omega (arith, start_of-mono ls j n)
+start_of-mono ls j (suc n) = grind (arith, start_of-step, start_of-mono ls j n)
 
 -- a later line starts at the same byte or later
 pub start_of-le : (ls : List Line) (j k : ℕ) → j ≤ k → start_of ls j ≤ start_of ls k
-start_of-le ls j k le =
-    let same : j + (k - j) ≡ k = omega arith in
-    let at : start_of ls (j + (k - j)) ≡ start_of ls k = ap (start_of ls) same in
-    omega (arith, start_of-mono ls j (k - j))
+start_of-le ls j k le = grind (arith, common_steps, start_of-mono ls j (k - j))
 
 -- the lines before line k, line k, and those after it
 pub split_at_line : (ls : List Line) (k : ℕ) (d : Line) → k < length ls
     → joined ls ≡ joined (take k ls) ++ (line_bytes (get_or ls k d) ++ joined (drop (k + 1) ls))
-split_at_line ls k d within =
-    ap joined (sym (take-append-drop k ls)) ∙ flat_map-append line_bytes (take k ls) (drop k ls)
-    ∙ ap (λ ms. joined (take k ls) ++ joined ms) (drop_more ls k d within)
+split_at_line ls k d within = grind (arith, common_steps, flat_map-append line_bytes (take k ls) (drop k ls), drop_more ls k d within, within)
 
 -- the text of line k stands in the source where the line begins
 pub text_at-slice : (ls : List Line) (k : ℕ) → k < length ls → StandsAt (joined ls) (text_at ls k) (start_of ls k)
 unfolding start_of
-text_at-slice ls k within =
-    let l : Line = get_or ls k ([], Eof) in
-    let rest : List ℕ = joined (drop (k + 1) ls) in
-    let dropped : drop (length (joined (take k ls))) (joined ls) ≡ (l.0 ++ end_bytes l.1)
-    ++ rest = ap (drop (length (joined (take k ls)))) (split_at_line ls k ([], Eof) within)
-    ∙ drop_at (joined (take k ls)) (line_bytes l ++ rest) (length (joined (take k ls))) refl in
-    sym (ap (take (length l.0)) (dropped ∙ append_assoc l.0 (end_bytes l.1) rest) ∙ take_at l.0 (end_bytes l.1 ++ rest) (length l.0) refl)
+text_at-slice ls k within = grind (arith, common_steps, split_at_line ls k ([], Eof) within, within)
 
 -- a line's text ends before the next line begins
 pub text_at-within : (ls : List Line) (k : ℕ) → k < length ls → start_of ls k + length (text_at ls k) ≤ start_of ls (k + 1)
-text_at-within ls k within =
-    let l : Line = get_or ls k ([], Eof) in
-    omega (arith, start_of-next ls k ([], Eof) within, length-append l.0 (end_bytes l.1))
+text_at-within ls k within = grind (arith, common_steps, start_of-next ls k ([], Eof) within, within)
 
 -- no text is longer than the source
 pub length-text_at : (ls : List Line) (k : ℕ) → length (text_at ls k) ≤ length (joined ls)
@@ -346,10 +284,7 @@ IsUtf8-around xs ys b ascii utf8 =
 -- a line and what follows it are UTF-8 where both together are
 pub IsUtf8-line : (text : List ℕ) (ending : EndLine) (rest : List ℕ) → (ending ≡ Eof → rest ≡ []) → IsUtf8 ((text ++ end_bytes ending) ++ rest)
     → IsUtf8 text × IsUtf8 rest
-IsUtf8-line text Eof rest last utf8 =
-    let none : rest ≡ [] = last refl in
-    let same : (text ++ []) ++ rest ≡ text = ap (λ bs. (text ++ []) ++ bs) none ∙ append-nil (text ++ []) ∙ append-nil text in
-    (subst IsUtf8 same utf8, subst IsUtf8 (sym none) IsUtf8-nil)
+IsUtf8-line text Eof rest last utf8 = grind (arith, common_steps)
 IsUtf8-line text Lf rest last utf8 = IsUtf8-around text rest 10 (omega arith) (subst IsUtf8 (append_assoc text (10 ∷ []) rest) utf8)
 IsUtf8-line text Crlf rest last utf8 =
     let cut = IsUtf8-around text (10 ∷ rest) 13 (omega arith) (subst IsUtf8 (append_assoc text (13 ∷ 10 ∷ []) rest) utf8) in
@@ -382,9 +317,7 @@ source_lines-some (b ∷ bs) some = refl
 -- the text of each line of a source stands there where the line begins
 pub text_at-stands : (source : List ℕ) (k : ℕ) → k < length (source_lines source)
     → StandsAt source (text_at (source_lines source) k) (start_of (source_lines source) k)
-text_at-stands source k within =
-    subst (λ s. StandsAt s (text_at (source_lines source) k) (start_of (source_lines source) k)) (joined-source_lines source)
-    (text_at-slice (source_lines source) k within)
+text_at-stands source k within = grind (arith, joined-source_lines, text_at-slice)
 
 -- no text is longer than the source
 pub length-text_at-source : (source : List ℕ) (k : ℕ) → length (text_at (source_lines source) k) ≤ length source

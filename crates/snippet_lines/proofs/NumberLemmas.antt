@@ -1,9 +1,9 @@
 -- The texts of line numbers.
-use Rattle.snippet_lines.proofs.Common.{inl, inr, ◌≡◌, ℕ, zero, suc, ◌-◌, ◌+◌, ◌^◌, ◌<◌, ◌≤◌, ◌/◌, ◌%◌, List, []}
-use Rattle.snippet_lines.proofs.Common.{◌∷◌, ◌++◌, length, replicate, refl, ap, All, ◌∙◌, arith, false, repeat, decimal, nat_tests, cases_lt}
-use Rattle.snippet_lines.proofs.Common.{length-append, length-replicate, length_push, decimal_digit, decimal_step, decimal_by_steps, IsAscii-decimal}
-use Rattle.snippet_lines.proofs.Common.{All-append, All-cons, All-nil, All-push, All-replicate, chars-IsAscii, IsAscii-append, IsAscii-from_all, IsAscii}
-use Rattle.snippet_lines.proofs.Common.{is_listed, number_width, shown_number, LineNumbers, Shown, Anonymized, Hidden}
+use Rattle.snippet_lines.proofs.Common.{common_steps, inl, inr, ◌≡◌, ℕ, zero, suc, ◌-◌, ◌+◌, ◌^◌, ◌<◌, ◌≤◌, ◌/◌, ◌%◌, List, [], ◌∷◌, ◌++◌, length, replicate}
+use Rattle.snippet_lines.proofs.Common.{refl, ap, All, ◌∙◌, arith, false, repeat, decimal, nat_tests, cases_lt, length-replicate, length_push, decimal_digit}
+use Rattle.snippet_lines.proofs.Common.{decimal_step, decimal_by_steps, IsAscii-decimal, All-append, All-cons, All-nil, All-push, All-replicate, chars-IsAscii}
+use Rattle.snippet_lines.proofs.Common.{IsAscii-append, IsAscii-from_all, IsAscii, is_listed, number_width, shown_number, LineNumbers, Shown, Anonymized}
+use Rattle.snippet_lines.proofs.Common.{Hidden}
 use Rattle.std.proofs.Common.{chars}
 
 -- a text of one space, repeated
@@ -35,26 +35,16 @@ shown_number_unlisted Shown gutter number fits =
     let P : ℕ → Type 0 = λ c. is_listed c ≡ false in
     All-append P (replicate (gutter - length (decimal number)) 32) (decimal number) (All-replicate P (gutter - length (decimal number)) 32 refl)
     (decimal_unlisted number fits)
-shown_number_unlisted Anonymized gutter number fits =
-    let P : ℕ → Type 0 = λ c. is_listed c ≡ false in
-    All-append P (replicate (gutter - 2) 32) (76 ∷ 76 ∷ []) (All-replicate P (gutter - 2) 32 refl)
-    (All-cons P 76 (76 ∷ []) refl (All-cons P 76 [] refl (All-nil P)))
-shown_number_unlisted Hidden gutter number fits =
-    let P : ℕ → Type 0 = λ c. is_listed c ≡ false in
-    All-replicate P gutter 32 refl
+shown_number_unlisted Anonymized gutter number fits = grind (arith, common_steps, All-append, All-replicate, All-cons, All-nil)
+shown_number_unlisted Hidden gutter number fits = grind (arith, common_steps, All-replicate)
 
 spaces_ascii : (n : ℕ) → IsAscii (replicate n 32)
 spaces_ascii n = let P : ℕ → Type 0 = λ b. b < 128 in IsAscii-from_all (replicate n 32) (All-replicate P n 32 (omega arith))
 
 -- its bytes are its characters
 shown_number_ascii : (numbers : LineNumbers) (gutter number : ℕ) → number < 2 ^ 64 → IsAscii (shown_number numbers gutter number)
-shown_number_ascii Shown gutter number fits =
-    IsAscii-append (replicate (gutter - length (decimal number)) 32) (decimal number) (spaces_ascii (gutter - length (decimal number)))
-    (IsAscii-decimal number fits)
-shown_number_ascii Anonymized gutter number fits =
-    let P : ℕ → Type 0 = λ b. b < 128 in
-    IsAscii-append (replicate (gutter - 2) 32) (76 ∷ 76 ∷ []) (spaces_ascii (gutter - 2))
-    (IsAscii-from_all (76 ∷ 76 ∷ []) (All-cons P 76 (76 ∷ []) (omega arith) (All-cons P 76 [] (omega arith) (All-nil P))))
+shown_number_ascii Shown gutter number fits = grind (arith, IsAscii-append, spaces_ascii, IsAscii-decimal)
+shown_number_ascii Anonymized gutter number fits = grind (arith, IsAscii-append, spaces_ascii, IsAscii-from_all, All-cons, All-nil)
 shown_number_ascii Hidden gutter number fits = spaces_ascii gutter
 
 -- the characters of a shown number are its bytes
@@ -81,16 +71,8 @@ length-decimal_monotone m n less fits =
 -- what fits the gutter fills it
 pub length-shown_number : (numbers : LineNumbers) (gutter number : ℕ) → number_width numbers number ≤ gutter
     → length (shown_number numbers gutter number) ≡ gutter
-length-shown_number Shown gutter number fits =
-    omega (
-      arith,
-      length-append (replicate (gutter - length (decimal number)) 32) (decimal number),
-      length-replicate {A = ℕ}
-          (gutter - length (decimal number)) 32,
-    )
-length-shown_number Anonymized gutter number fits =
-    let letters : List ℕ = 76 ∷ 76 ∷ [] in
-    omega (arith, length-append {A = ℕ} (replicate (gutter - 2) 32) letters, length-replicate {A = ℕ} (gutter - 2) 32)
+length-shown_number Shown gutter number fits = grind (arith, common_steps)
+length-shown_number Anonymized gutter number fits = grind (arith, common_steps)
 length-shown_number Hidden gutter number fits = length-replicate {A = ℕ} gutter 32
 
 -- a smaller number needs no more cells

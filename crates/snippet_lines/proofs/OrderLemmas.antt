@@ -1,8 +1,7 @@
 -- A stable sort has one answer: the list put in order.
-use Rattle.snippet_lines.proofs.Common.{◌≡◌, suc, ◌+◌, Bool, true, false, cond, not, List, [], ◌∷◌, map, filter, All, get_or, refl, sym, ap}
-use Rattle.snippet_lines.proofs.Common.{subst, ◌∙◌, ⊎_elim, arith, cases_Bool, cond-true, cond-false, and_from, and_parts, both_ways}
-use Rattle.snippet_lines.proofs.Common.{false_from_ne_true, not-true, not_from_false, All-nil, All-cons, All-head, All-tail, sorted_far, IsStrictWeakOrder}
-use Rattle.snippet_lines.proofs.Common.{IsSortedBy, IsStableBy, ties, put_in, ordered_by}
+use Rattle.snippet_lines.proofs.Common.{◌≡◌, suc, ◌+◌, Bool, true, false, cond, not, List, [], ◌∷◌, map, filter, All, get_or, refl, sym, ap, subst, ◌∙◌, ⊎_elim}
+use Rattle.snippet_lines.proofs.Common.{arith, cases_Bool, cond-true, cond-false, and_from, false_from_ne_true, not_from_false, All-nil, All-cons, All-head}
+use Rattle.snippet_lines.proofs.Common.{All-tail, sorted_far, IsStrictWeakOrder, IsSortedBy, IsStableBy, ties, put_in, ordered_by}
 
 -- each later element comes before none that stands earlier
 abbrev pub Rises : {X : Type 0} → (X → X → Bool) → List X → Type 0
@@ -16,9 +15,7 @@ filter-none p (x ∷ xs) none =
     cond-false (p x) (x ∷ filter p xs) (filter p xs) (All-head (λ x. p x ≡ false) x xs none) ∙ filter-none p xs (All-tail (λ x. p x ≡ false) x xs none)
 
 ties-parts : {X : Type 0} (lt : X → X → Bool) (x y : X) → ties lt x y ≡ true → (lt x y ≡ false) × (lt y x ≡ false)
-ties-parts lt x y t =
-    let p = and_parts (not (lt x y)) (not (lt y x)) t in
-    (not-true (lt x y) p.0, not-true (lt y x) p.1)
+ties-parts lt x y t = grind arith
 
 ties-from : {X : Type 0} (lt : X → X → Bool) (x y : X) → lt x y ≡ false → lt y x ≡ false → ties lt x y ≡ true
 ties-from lt x y a b =
@@ -30,11 +27,7 @@ never-itself lt o x = ⊎_elim (λ t. o.one_way x x t) (λ f. f) (cases_Bool (lt
 -- an element that comes before the first of a list in order ties with none of it
 before-all : {X : Type 0} (lt : X → X → Bool) → IsStrictWeakOrder lt → (y x : X) (xs : List X) → Rises lt (x ∷ xs) → lt y x ≡ true
     → filter (ties lt y) (x ∷ xs) ≡ []
-before-all {X} lt o y x xs rises before =
-    let apart : (z : X) → lt z x ≡ false → ties lt y z ≡ false = λ z above.
-    false_from_ne_true (ties lt y z) (λ t. both_ways (lt y x) (o.chain y z x (ties-parts lt y z t).0 above) before) in
-    filter-none (ties lt y) (x ∷ xs) (All-cons (λ z. ties lt y z ≡ false) x xs (apart x (never-itself lt o x)) (λ k d within.
-    apart (get_or xs k d) (rises.0 k d within)))
+before-all {X} lt o y x xs rises before = grind (arith, false_from_ne_true, o.chain, ties-parts, filter-none, All-cons, never-itself, rises.0)
 
 finds-itself : {X : Type 0} (lt : X → X → Bool) → IsStrictWeakOrder lt → (y : X) (ys : List X) → filter (ties lt y) (y ∷ ys) ≡ y ∷ filter (ties lt y) ys
 finds-itself lt o y ys =
@@ -43,9 +36,7 @@ finds-itself lt o y ys =
 -- the first of two lists in order with the same ties: neither comes before the other
 first-ties : {X : Type 0} (lt : X → X → Bool) → IsStrictWeakOrder lt → (y x : X) (ys xs : List X) → Rises lt (x ∷ xs)
     → filter (ties lt y) (y ∷ ys) ≡ filter (ties lt y) (x ∷ xs) → lt y x ≡ false
-first-ties lt o y x ys xs rises same =
-    false_from_ne_true (lt y x) (λ t. let e : y ∷ filter (ties lt y) ys ≡ [] = sym (finds-itself lt o y ys) ∙ same
-    ∙ before-all lt o y x xs rises t in absurd (cc))
+first-ties lt o y x ys xs rises same = grind (arith, false_from_ne_true, finds-itself, before-all)
 
 -- two lists in order are the same if the elements that tie with each are
 same_rise : {X : Type 0} (lt : X → X → Bool) → IsStrictWeakOrder lt → (xs ys : List X) → Rises lt xs → Rises lt ys
@@ -96,22 +87,7 @@ Rises-ordered_by lt o (x ∷ xs) = Rises-put_in lt o x (ordered_by lt xs) (Rises
 filter-put_in : {X : Type 0} (lt : X → X → Bool) → IsStrictWeakOrder lt → (w x : X) (ys : List X)
     → filter (ties lt w) (put_in lt x ys) ≡ filter (ties lt w) (x ∷ ys)
 filter-put_in lt o w x [] = refl
-filter-put_in {X} lt o w x (y ∷ ys) =
-    let p : X → Bool = ties lt w in
-    let kept : List X = filter p ys in
-    ⊎_elim
-    (λ t. let step : filter p (put_in lt x (y ∷ ys)) ≡ cond (p y) (y ∷ filter p (put_in lt x ys)) (filter p (put_in lt x ys)) = ap (filter p)
-    (cond-true (lt y x) (y ∷ put_in lt x ys) (x ∷ y ∷ ys) t) in
-    let in_rest : filter p (put_in lt x ys) ≡ cond (p x) (x ∷ kept) kept = filter-put_in lt o w x ys in
-    step ∙ ⊎_elim
-    (λ ty. let not_x : p x ≡ false = false_from_ne_true (p x) (λ tx. both_ways (lt y x) (o.chain y w x (ties-parts lt w y ty).1 (ties-parts lt w x tx).0) t) in
-    cond-true (p y) (y ∷ filter p (put_in lt x ys)) (filter p (put_in lt x ys)) ty ∙ ap (λ l. y ∷ l) (in_rest ∙ cond-false (p x) (x ∷ kept) kept not_x)
-    ∙ sym (cond-true (p y) (y ∷ kept) kept ty) ∙ sym (cond-false (p x) (x ∷ cond (p y) (y ∷ kept) kept) (cond (p y) (y ∷ kept) kept) not_x))
-    (λ fy. let same : cond (p y) (y ∷ kept) kept ≡ kept = cond-false (p y) (y ∷ kept) kept fy in
-    cond-false (p y) (y ∷ filter p (put_in lt x ys)) (filter p (put_in lt x ys)) fy ∙ in_rest ∙ ap (λ l. cond (p x) (x ∷ l) l) (sym same))
-    (cases_Bool (p y)))
-    (λ f. ap (filter p) (cond-false (lt y x) (y ∷ put_in lt x ys) (x ∷ y ∷ ys) f))
-    (cases_Bool (lt y x))
+filter-put_in {X} lt o w x (y ∷ ys) = grind (arith, cond-true, filter-put_in lt o w x ys, false_from_ne_true, o.chain, ties-parts, cond-false, cases_Bool)
 
 filter-ordered_by : {X : Type 0} (lt : X → X → Bool) → IsStrictWeakOrder lt → (w : X) (xs : List X)
     → filter (ties lt w) (ordered_by lt xs) ≡ filter (ties lt w) xs
@@ -134,11 +110,7 @@ sorted-only lt o xs ys up stable =
 
 map-put_in : {X Y : Type 0} (f : X → Y) (lt : Y → Y → Bool) (x : X) (ys : List X) → map f (put_in (λ a b. lt (f a) (f b)) x ys) ≡ put_in lt (f x) (map f ys)
 map-put_in f lt x [] = refl
-map-put_in f lt x (y ∷ ys) =
-    ⊎_elim (λ t. ap (map f) (cond-true (lt (f y) (f x)) (y ∷ put_in (λ a b. lt (f a) (f b)) x ys) (x ∷ y ∷ ys) t) ∙ ap (λ l. f y ∷ l) (map-put_in f lt x ys)
-    ∙ sym (cond-true (lt (f y) (f x)) (f y ∷ put_in lt (f x) (map f ys)) (f x ∷ f y ∷ map f ys) t))
-    (λ e. ap (map f) (cond-false (lt (f y) (f x)) (y ∷ put_in (λ a b. lt (f a) (f b)) x ys) (x ∷ y ∷ ys) e)
-    ∙ sym (cond-false (lt (f y) (f x)) (f y ∷ put_in lt (f x) (map f ys)) (f x ∷ f y ∷ map f ys) e)) (cases_Bool (lt (f y) (f x)))
+map-put_in f lt x (y ∷ ys) = grind (arith, cond-true, map-put_in f lt x ys, cond-false, cases_Bool)
 
 -- putting in order by what a function gives, and taking that, is one
 pub map-ordered_by : {X Y : Type 0} (f : X → Y) (lt : Y → Y → Bool) (xs : List X) → map f (ordered_by (λ a b. lt (f a) (f b)) xs) ≡ ordered_by lt (map f xs)

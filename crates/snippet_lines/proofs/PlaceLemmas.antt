@@ -1,8 +1,7 @@
 -- Laws of the line that holds a byte, and of the place of a byte.
-use Rattle.snippet_lines.proofs.Common.{◌≡◌, ◌≢◌, ℕ, zero, suc, ◌+◌, ◌-◌, ◌<◌, ◌≤◌, true, eqb, ltb, min, List, [], ◌∷◌}
-use Rattle.snippet_lines.proofs.Common.{◌++◌, length, take, drop, get_or, refl, sym, ap, subst, ◌∙◌, ⊎_elim, arith, add-zero, slice_range}
-use Rattle.snippet_lines.proofs.Common.{IsCharBoundary, IsUtf8, take-add, get_or-take, get_or-drop, take_min, IsUtf8-take, chars-append, cases_lt, cases_order}
-use Rattle.snippet_lines.proofs.Common.{cond_both, ltb-true, ltb-false, cond-true, cond-false, eq-eqb, ne_eqb, EndLine, Eof, Lf, Crlf, Line, line_bytes}
+use Rattle.snippet_lines.proofs.Common.{common_steps, ◌≡◌, ◌≢◌, ℕ, zero, suc, ◌+◌, ◌-◌, ◌<◌, ◌≤◌, eqb, ltb, min, List, [], ◌∷◌, ◌++◌, length, take, drop}
+use Rattle.snippet_lines.proofs.Common.{get_or, refl, sym, ap, subst, ◌∙◌, ⊎_elim, arith, slice_range, IsCharBoundary, IsUtf8, take-add, take_min, IsUtf8-take}
+use Rattle.snippet_lines.proofs.Common.{chars-append, cond_both, ltb-true, ltb-false, cond-true, cond-false, ne_eqb, EndLine, Eof, Lf, Crlf, Line, line_bytes}
 use Rattle.snippet_lines.proofs.Common.{source_lines, text_at, start_of, Source, AreLines, AreLinesOf, char_width, width_of, HoldsByte, line_of, prefix_at}
 use Rattle.snippet_lines.proofs.Common.{place_of, location_of, steps_after_text, start_location, end_location, locations_of, IsSpanBorder}
 use Rattle.std.specs.Str.{chars}
@@ -33,11 +32,7 @@ HoldsByte-line_of (l ∷ m ∷ ls) b some =
 
 -- and only one line does
 pub HoldsByte-only : (ls : List Line) (b j k : ℕ) → HoldsByte ls b j → HoldsByte ls b k → j ≡ k
-HoldsByte-only ls b j k left right =
-    ⊎_elim (λ same. same)
-    (⊎_elim (λ below. absurd (omega (arith, left.to (omega (arith, right.within)), right.from, start_of-le ls (j + 1) k (omega arith))))
-    (λ above. absurd (omega (arith, right.to (omega (arith, left.within)), left.from, start_of-le ls (k + 1) j (omega arith)))))
-    (cases_order j k)
+HoldsByte-only ls b j k left right = grind (arith, left.to, right.within, right.from, start_of-le, right.to, left.within, left.from)
 
 -- the line that holds a byte is the one that `line_of` finds
 pub line_of-is : (ls : List Line) (b k : ℕ) → HoldsByte ls b k → line_of ls b ≡ k
@@ -56,11 +51,7 @@ line_of-within source b = (HoldsByte-source source b).within
 
 -- a later byte is on the same line or on a later one
 pub line_of-mono : (ls : List Line) (b c : ℕ) → 0 < length ls → b ≤ c → line_of ls b ≤ line_of ls c
-line_of-mono ls b c some le =
-    let left : HoldsByte ls b (line_of ls b) = HoldsByte-line_of ls b some in
-    let right : HoldsByte ls c (line_of ls c) = HoldsByte-line_of ls c some in
-    ⊎_elim (λ after. absurd (omega (arith, right.to (omega (arith, left.within)), left.from, start_of-le ls (line_of ls c + 1) (line_of ls b) (omega arith))))
-    (λ ok. ok) (cases_lt (line_of ls c) (line_of ls b))
+line_of-mono ls b c some le = grind (arith, HoldsByte-line_of, start_of-le)
 
 -- a line that isn't empty, and one that ends
 pub line_with_end-some : (text : List ℕ) (ending : EndLine) → (ending ≡ Eof → 0 < length text) → 0 < length (line_bytes (text, ending))
@@ -108,10 +99,7 @@ line_of-start source k within =
 -- the bytes of a line's text are those of the source from the line's start on
 text_at-byte : (source : List ℕ) (k i : ℕ) → k < length (source_lines source) → i < length (text_at (source_lines source) k)
     → get_or (text_at (source_lines source) k) i 0 ≡ get_or source (start_of (source_lines source) k + i) 0
-text_at-byte source k i within inside =
-    let ls : List Line = source_lines source in
-    let n : ℕ = length (text_at ls k) in
-    ap (λ t. get_or t i 0) (text_at-stands source k within) ∙ get_or-take n (drop (start_of ls k) source) i 0 inside ∙ get_or-drop (start_of ls k) source i 0
+text_at-byte source k i within inside = grind (arith, common_steps, text_at-stands)
 
 -- a line's text ends within the source
 pub text_at-end : (source : List ℕ) (k : ℕ) → k < length (source_lines source)
@@ -132,21 +120,7 @@ pub IsCharBoundary-prefix : (source : List ℕ) (b : ℕ) → IsSpanBorder sourc
     → IsCharBoundary (text_at (source_lines source) (line_of (source_lines source) b))
     (min (b - start_of (source_lines source) (line_of (source_lines source) b))
     (length (text_at (source_lines source) (line_of (source_lines source) b))))
-IsCharBoundary-prefix source b border =
-    let ls : List Line = source_lines source in
-    let k : ℕ = line_of ls b in
-    let text : List ℕ = text_at ls k in
-    let holds : HoldsByte ls b k = HoldsByte-source source b in
-    let from : start_of ls k ≤ b = holds.from in
-    let within : start_of ls k + length text ≤ length source = text_at-end source k holds.within in (
-      omega arith,
-      λ inside high.
-          let i : ℕ = min (b - start_of ls k) (length text) in
-          let at : start_of ls k + i ≡ b = omega arith in
-          let same : get_or text i 0 ≡ get_or source b 0 = text_at-byte source k i holds.within inside ∙ ap (λ n. get_or source n 0) at in
-          ⊎_elim (λ boundary. let lead : 192 ≤ get_or source b 0 = boundary.1 (omega arith) (omega arith) in omega arith) (λ after.
-          absurd (omega arith)) border,
-    )
+IsCharBoundary-prefix source b border = grind (arith, HoldsByte-source, text_at-end, text_at-byte)
 
 -- the character of a place is how many characters stand before it on its line
 pub place_of-character : (source : List ℕ) (b : ℕ)
@@ -192,12 +166,7 @@ end_location-line s start end = refl
 pub end_location_column : (s : Source) (start end : ℕ) → line_of (source_lines s.text) start ≡ line_of (source_lines s.text) end
     → (end_location s start end).display ≡ (place_of s.text end).column
 unfolding end_location location_of place_of
-end_location_column s start end same =
-    let one : eqb (s.first + line_of (source_lines s.text) start) (s.first + line_of (source_lines s.text) end)
-    ≡ true = eq-eqb (s.first + line_of (source_lines s.text) start) (s.first + line_of (source_lines s.text) end) (ap (λ k. s.first + k) same) in
-    let column : ℕ = width_of (chars (prefix_at (source_lines s.text) (line_of (source_lines s.text) end) end)) in
-    ap (λ n. column + n) (cond-true (eqb (s.first + line_of (source_lines s.text) start) (s.first + line_of (source_lines s.text) end)) 0
-    (steps_after_text s.text end) one) ∙ add-zero column
+end_location_column s start end same = grind (arith, s.first, s.text, cond-true)
 
 -- ---- worked
 

@@ -1,15 +1,10 @@
-use Rattle.snippet_lines.proofs.Common.{◌≡◌, ◌+◌, ◌<◌, ◌≤◌, ◌∙◌, ℕ, List, min, take, length, ap, sym, arith, inl, inr, cases_lt}
-use Rattle.snippet_lines.proofs.Common.{take_all, newline_count}
+use Rattle.snippet_lines.proofs.Common.{common_steps, ◌≡◌, ◌+◌, ◌∙◌, ℕ, List, min, take, length, ap, arith, newline_count}
 use Rattle.snippet_lines.proofs.IndexLemmas.{line_of-count}
 use Rattle.snippet_lines.proofs.line_bounds.line_index.Goals as goal
 
 -- a front that ends after the text is the text, wherever it ends
 same : (source : List ℕ) (byte at : ℕ) → at ≡ min byte (length source) → take (at + 1) source ≡ take (byte + 1) source
-same source byte at is =
-    elim (cases_lt (length source) byte) [
-      | inl after ↦ take_all (at + 1) source (omega (arith, is)) ∙ sym (take_all (byte + 1) source (omega arith))
-      | inr within ↦ let here : at ≡ byte = omega (arith, is) in ap (λ n. take (n + 1) source) here
-    ]
+same source byte at is = grind (arith, common_steps)
 
 pub returns : goal.returns
 returns c =

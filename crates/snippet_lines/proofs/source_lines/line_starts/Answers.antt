@@ -1,5 +1,4 @@
-use Rattle.snippet_lines.proofs.Common.{◌≡◌, ◌<◌, ◌++◌, ◌∷◌, All, List, ℕ, ap, sym, subst, ◌∙◌, length, arith, append-nil, All-head}
-use Rattle.snippet_lines.proofs.Common.{All-tail, All-places, is_byte, places}
+use Rattle.snippet_lines.proofs.Common.{common_steps, ◌≡◌, ◌<◌, ◌∷◌, All, List, ℕ, subst, length, arith, All-head, All-tail, All-places, is_byte, places}
 use Rattle.snippet_lines.proofs.StartLemmas.{starts_after, starts_after-some, starts_after-none, starts_from-source}
 use Rattle.snippet_lines.proofs.source_lines.line_starts.Goals as goal
 
@@ -13,23 +12,11 @@ inside end left rest p left_is all =
     (All-head (λ q. q < end) p rest each, All-tail (λ q. q < end) p rest each)
 
 pub overflow_add-next : goal.overflow_add-next
-overflow_add-next c =
-    omega (
-      arith,
-      (inside (length c.args.source.now) c.loop-line_feed.line_feed-iterator c.next.new.self c.in-Some.line_feed
-          c.in-Some.ensures.steps c.loop-line_feed.invariant.3).0,
-    )
+overflow_add-next c = grind (arith, inside, c.loop-line_feed.line_feed-iterator, c.in-Some.line_feed, c.in-Some.ensures.steps, c.loop-line_feed.invariant.3)
 
 pub loop-line_feed-init : goal.loop-line_feed-init
 loop-line_feed-init c =
-    let end = length c.args.source.now in
-    let left = c.into_iter-line_feed-iterator.ensures.into_iter_gives ∙ c.memchr_iter-line_feed-items.ensures.value
-    ∙ ap (places (is_byte 10)) c.as_bytes.ensures.value in (
-      tt,
-      tt,
-      ap (λ ss. ss ++ starts_after end c.into_iter-line_feed-iterator.result) c.in_ok-starts.ensures.items ∙ ap (λ ps. 0 ∷ starts_after end ps) left,
-      subst (All (λ p. p < end)) (sym left) (λ k d within. (All-places (is_byte 10) c.args.source.now k d within).0),
-    )
+    grind (arith, c.into_iter-line_feed-iterator.ensures.into_iter_gives, c.memchr_iter-line_feed-items.ensures.value, c.as_bytes.ensures.value, All-places)
 
 pub loop-line_feed-preserved-in-Continue-branch-2 : goal.loop-line_feed-preserved-in-Continue-branch-2
 loop-line_feed-preserved-in-Continue-branch-2 c = (
@@ -53,10 +40,4 @@ loop-line_feed-preserved c = (
 )
 
 pub returns : goal.returns
-returns c =
-    let source = c.args.source.now in
-    let starts = c.loop-line_feed.starts.items in
-    record {
-      starts = sym (append-nil starts) ∙ ap (λ ps. starts ++ starts_after (length source) ps) (sym c.in-None.ensures.steps.0)
-          ∙ c.loop-line_feed.invariant.2 ∙ sym (starts_from-source source);
-    }
+returns c = grind (arith, common_steps, c.in-None.ensures.steps.0, c.loop-line_feed.invariant.2, starts_from-source)

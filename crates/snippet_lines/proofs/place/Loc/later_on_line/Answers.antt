@@ -1,5 +1,5 @@
-use Rattle.snippet_lines.proofs.Common.{◌≡◌, ◌+◌, ◌-◌, ◌*◌, ◌≤◌, ◌++◌, ℕ, List, length, take, ap, ◌∙◌, arith, common_steps}
-use Rattle.snippet_lines.proofs.Common.{length-append, length-take, sum_by-append, width_of-chars, char_width, width_of, length-chars_le}
+use Rattle.snippet_lines.proofs.Common.{◌≡◌, ◌+◌, ◌-◌, ◌*◌, ◌≤◌, ◌++◌, ℕ, List, length, take, arith, common_steps, length-take, sum_by-append, width_of-chars}
+use Rattle.snippet_lines.proofs.Common.{width_of, length-chars_le}
 use Rattle.std.proofs.Common.{chars}
 use Rattle.snippet_lines.proofs.PlaceLemmas.{chars-later}
 use Rattle.snippet_lines.proofs.place.Loc.later_on_line.Goals as goal
@@ -9,24 +9,15 @@ walked : (c : goal.After-struct_known-3-1)
     → chars (take (c.args.byte - c.args.start) c.args.text.now) ≡ chars (take (c.args.self.byte - c.args.start) c.args.text.now)
     ++ chars c.range-between.result.now
 walked c =
-    let order : c.args.self.byte - c.args.start ≤ c.args.byte - c.args.start = omega (arith, c.requires.later) in
-    chars-later c.args.text.now c.range-between.result.now (c.args.self.byte - c.args.start)
-    (c.args.byte - c.args.start) c.min-from.result c.min-to.result c.utf8.text c.requires.here_border order c.min-from.ensures c.min-to.ensures
-    c.range-between.ensures.value
+    grind (arith, c.requires.later, chars-later, c.utf8.text, c.requires.here_border, c.min-from.ensures, c.min-to.ensures, c.range-between.ensures.value)
 
 characters : (c : goal.After-struct_known-3-1)
     → c.args.self.char + c.characters_and_columns-char.result.0 ≡ length (chars (take (c.args.byte - c.args.start) c.args.text.now))
-characters c =
-    let before : List ℕ = chars (take (c.args.self.byte - c.args.start) c.args.text.now) in
-    let both = ap length (walked c) ∙ length-append before (chars c.range-between.result.now) in
-    omega (arith, c.requires.here_char, c.characters_and_columns-char.ensures.characters, both)
+characters c = grind (arith, common_steps, walked, c.requires.here_char, c.characters_and_columns-char.ensures.characters)
 
 columns : (c : goal.After-struct_known-3-1)
     → c.args.self.display + c.characters_and_columns-char.result.1 ≡ width_of (chars (take (c.args.byte - c.args.start) c.args.text.now))
-columns c =
-    let before : List ℕ = chars (take (c.args.self.byte - c.args.start) c.args.text.now) in
-    let both = ap width_of (walked c) ∙ sum_by-append char_width before (chars c.range-between.result.now) in
-    omega (arith, c.requires.here_display, c.characters_and_columns-char.ensures.columns, both)
+columns c = grind (arith, walked, sum_by-append, c.requires.here_display, c.characters_and_columns-char.ensures.columns)
 
 -- what stands before a byte of a text has no more characters than the text has bytes, and at most four columns for each
 short : (n : ℕ) (text : List ℕ) → length (chars (take n text)) ≤ length text
@@ -36,30 +27,10 @@ narrow : (n : ℕ) (text : List ℕ) → width_of (chars (take n text)) ≤ 4 * 
 narrow n text = omega (arith, width_of-chars (take n text), length-take n text)
 
 pub overflow_add-result : goal.overflow_add-result
-overflow_add-result c =
-    let few : length c.range-between.result.now ≤ length c.args.text.now = grind (arith, common_steps) in
-    omega (
-      arith,
-      c.requires.fits,
-      c.requires.here_char,
-      c.characters_and_columns-char.ensures.characters,
-      short
-          (c.args.self.byte - c.args.start) c.args.text.now,
-      length-chars_le c.range-between.result.now,
-      few,
-    )
+overflow_add-result c = grind (arith, c.requires.fits, c.requires.here_char, c.characters_and_columns-char.ensures.characters, short, length-chars_le)
 
 pub overflow_add-result-2 : goal.overflow_add-result-2
-overflow_add-result-2 c =
-    let few : length c.range-between.result.now ≤ length c.args.text.now = grind (arith, common_steps) in
-    omega (
-      arith,
-      c.requires.fits,
-      c.requires.here_display,
-      c.characters_and_columns-char.ensures.bound,
-      narrow (c.args.self.byte - c.args.start) c.args.text.now,
-      few,
-    )
+overflow_add-result-2 c = grind (arith, c.requires.fits, c.requires.here_display, c.characters_and_columns-char.ensures.bound, narrow)
 
 pub returns-clause-char : goal.returns-clause-char
 returns-clause-char c = characters c
