@@ -1,5 +1,5 @@
 -- The lines that are shown: those that are kept, and each single line between two of them.
-use Rattle.snippet_parts.proofs.Common.{◌≡◌, ℕ, zero, suc, ◌+◌, ◌-◌, ◌<◌, ◌≤◌, Bool, false, ◌&&◌, cond, not, eqb, Option, Some, None, List, [], ◌∷◌, ◌++◌}
+use Rattle.snippet_parts.proofs.Common.{◌≡◌, ℕ, zero, suc, ◌+◌, ◌<◌, ◌≤◌, Bool, false, ◌&&◌, cond, not, eqb, Option, Some, None, List, [], ◌∷◌, ◌++◌}
 use Rattle.snippet_parts.proofs.Common.{map, length, inl, inr, refl, sym, ap, subst, ◌∙◌, arith, All, filter, list_any, range_with_len, cases_Bool, cases_eq}
 use Rattle.snippet_parts.proofs.Common.{cond-true, cond-false, and_from, or_parts, eq-eqb, ne_eqb, le-leb, lt-ltb, Annotation, KeptLine, annotated_lines}
 use Rattle.snippet_parts.proofs.Common.{kept_line, parts_on, lines_between, shown_lines, with_between, Source, source_lines, text_at, line_at, is_marking}

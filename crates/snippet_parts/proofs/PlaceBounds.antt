@@ -1,5 +1,5 @@
 -- How far right a span starts and ends at most, in columns and in characters.
-use Rattle.snippet_parts.proofs.Common.{ℕ, ◌+◌, ◌-◌, ◌*◌, ◌≤◌, List, length, arith, cond_both, length-take, length-chars_le, width_of-chars, Source, place_of}
+use Rattle.snippet_parts.proofs.Common.{ℕ, ◌+◌, ◌*◌, ◌≤◌, List, length, arith, cond_both, length-take, length-chars_le, width_of-chars, Source, place_of}
 use Rattle.snippet_parts.proofs.Common.{location_of, steps_after_text, start_location, end_location, locations_of, length-text_at-source}
 use Rattle.snippet_parts.proofs.Common.{start_location-column, place_of-column}
 

@@ -1,5 +1,5 @@
 -- What is known of the lines that are kept, and of those that are shown: their order, and which are among them.
-use Rattle.snippet_parts.proofs.Common.{common_steps, ◌≡◌, ℕ, zero, suc, ◌+◌, ◌-◌, ◌<◌, ◌≤◌, Bool, true, ◌||◌, eqb, List, [], ◌∷◌, length, get_or, ◌⊎◌, inl}
+use Rattle.snippet_parts.proofs.Common.{common_steps, ◌≡◌, ℕ, zero, suc, ◌+◌, ◌-◌, ◌<◌, ◌≤◌, Bool, true, eqb, List, [], ◌∷◌, length, get_or, ◌⊎◌, inl}
 use Rattle.snippet_parts.proofs.Common.{inr, refl, sym, ap, subst, ◌∙◌, arith, All, Contains, filter, range_with_len, cond-true, cond_both, eqb-true, or_right}
 use Rattle.snippet_parts.proofs.Common.{length-range_with_len, get_or-range_with_len, Annotation, Ascends, keeps, kept_lines, shown_lines, with_between}
 use Rattle.snippet_parts.proofs.Common.{source_lines, first_line, last_line, IsSpan, line_of-within}

@@ -1,5 +1,5 @@
 -- What follows of a text that is wrapped.
-use Rattle.snippet_shown.proofs.Common.{common_steps, ◌≡◌, ℕ, ◌+◌, ◌-◌, ◌≤◌, ◌||◌, ◌&&◌, Bool, true, false, List, [], ◌∷◌, ◌++◌, Option, None, Some, All}
+use Rattle.snippet_shown.proofs.Common.{common_steps, ◌≡◌, ℕ, ◌+◌, ◌-◌, ◌≤◌, ◌||◌, Bool, true, false, List, [], ◌∷◌, ◌++◌, Option, None, Some, All}
 use Rattle.snippet_shown.proofs.Common.{filter, ◌⊎◌, inl, inr, refl, sym, ap, ◌∙◌, arith, if◌then◌else◌, unwrap_or, Contains, false≢true, All-cons}
 use Rattle.snippet_shown.proofs.Common.{All-contains_itself, All-head, All-nil, All-tail, All-weaker, filter-append, char_width, char_width-bound, Letter}
 use Rattle.snippet_shown.proofs.Common.{is_before_word, is_blank, is_feed, letter_width, at_blank, columns_ahead, ended, ends_ahead, feed, in_word, next_width}

@@ -1,5 +1,5 @@
 -- What showing line feeds makes of a text.
-use Rattle.snippet_shown.proofs.Common.{common_steps, ◌≡◌, ℕ, ◌==◌, chars, encode_utf8_all, Bool, true, false, if◌then◌else◌, List, [], ◌∷◌, ◌++◌, arith, map}
+use Rattle.snippet_shown.proofs.Common.{common_steps, ◌≡◌, ℕ, ◌==◌, chars, encode_utf8_all, Bool, true, false, List, [], ◌∷◌, ◌++◌, arith, map}
 use Rattle.snippet_shown.proofs.Common.{refl, sym, ap, ◌∙◌, list_any, IsUtf8, chars_from_encodes, encodes-append, map-id, false≢true, picture_of}
 use Rattle.snippet_shown.proofs.Common.{with_line_feeds_shown}
 use Rattle.std.proofs.Common.{encode_utf8}

@@ -1,6 +1,6 @@
 -- Masking keeps the places of bytes: each character has as many, and those of ASCII stay.
 use Rattle.snippet_shown.proofs.Common.{common_steps, ◌≡◌, ℕ, ◌+◌, ◌/◌, ◌%◌, ◌<◌, ◌≤◌, nat_lt, chars, encode_utf8_all, true, false, List, [], ◌∷◌, ◌++◌, arith}
-use Rattle.snippet_shown.proofs.Common.{refl, sym, ◌∙◌, if◌then◌else◌, IsUtf8, mod-lt, nat_tests, encodes-chars, is_masked, IsAligned, byte_class, mask_of}
+use Rattle.snippet_shown.proofs.Common.{refl, sym, ◌∙◌, IsUtf8, mod-lt, nat_tests, encodes-chars, is_masked, IsAligned, byte_class, mask_of}
 use Rattle.snippet_shown.proofs.Common.{masked}
 use Rattle.std.specs.Char.{encode_utf8}
 

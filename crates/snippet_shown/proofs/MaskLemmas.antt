@@ -1,5 +1,5 @@
 -- What masking makes of a text, character by character.
-use Rattle.snippet_shown.proofs.Common.{common_steps, ◌≡◌, ℕ, chars, encode_utf8_all, false, if◌then◌else◌, List, [], ◌∷◌, ◌++◌, map, refl, sym, ap, ◌∙◌, arith}
+use Rattle.snippet_shown.proofs.Common.{common_steps, ◌≡◌, ℕ, chars, encode_utf8_all, false, List, [], ◌∷◌, ◌++◌, map, refl, sym, ap, ◌∙◌, arith}
 use Rattle.snippet_shown.proofs.Common.{list_any, IsUtf8, chars_from_encodes, encodes-append, map-id, is_masked, mask_of, masked}
 use Rattle.std.proofs.Common.{encode_utf8}
 

@@ -1,5 +1,5 @@
 -- What is shown in place of a text, and what follows of it.
-use Rattle.snippet_shown.proofs.Common.{common_steps, ◌≡◌, ◌∙◌, ℕ, ◌+◌, ◌-◌, ◌<◌, ◌≤◌, nat_lt, Bool, true, false, List, [], ◌∷◌, ◌++◌, ◌⊎◌, All, inl, inr, refl}
+use Rattle.snippet_shown.proofs.Common.{common_steps, ◌≡◌, ◌∙◌, ℕ, ◌+◌, ◌-◌, ◌<◌, ◌≤◌, nat_lt, Bool, true, false, List, [], ◌∷◌, ◌⊎◌, All, inl, inr, refl}
 use Rattle.snippet_shown.proofs.Common.{sym, ap, subst, arith, chars, if◌then◌else◌, Contains, nat_tests, All-cons, All-contains_itself, All-head, All-map}
 use Rattle.snippet_shown.proofs.Common.{All-nil, All-tail, All-weaker, Letter, first_place, letters, letters_of, place_after, row_start, rows, shown_letters}
 use Rattle.snippet_shown.proofs.Common.{wrapped, lines_fit, IsAmong, IsRewrapped, Place, Row, Indentation, Step, shown_at, shown_by, step, length, suc}

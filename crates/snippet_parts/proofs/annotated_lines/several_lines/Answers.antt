@@ -1,4 +1,4 @@
-use Rattle.snippet_parts.proofs.Common.{common_steps, ◌≡◌, ◌+◌, ◌||◌, ℕ, [], eqb, length, map, refl, ap, sym, ◌∙◌, arith, filter, list_any, source_lines}
+use Rattle.snippet_parts.proofs.Common.{common_steps, ◌≡◌, ◌+◌, ℕ, [], eqb, length, map, refl, ap, sym, ◌∙◌, arith, filter, list_any, source_lines}
 use Rattle.snippet_parts.proofs.Common.{LineAnnotation, kept_line, seen_kept, line_with, is_seen, annotations_of, LocatedSpan}
 use Rattle.snippet_parts.proofs.KeptEntryLemmas.{kept-rise, lines_same, whole_again}
 use Rattle.snippet_parts.proofs.KeptLemmas.{among-kept, kept-ascend}

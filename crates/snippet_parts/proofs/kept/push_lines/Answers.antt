@@ -1,4 +1,4 @@
-use Rattle.snippet_parts.proofs.Common.{common_steps, arith, []}
+use Rattle.snippet_parts.proofs.Common.{common_steps, arith}
 use Rattle.snippet_parts.proofs.KeptLemmas.{range-pushed}
 use Rattle.snippet_parts.proofs.kept.push_lines.Goals as goal
 

@@ -1,5 +1,4 @@
 use Rattle.snippet_shown.proofs.Common.{common_steps, arith}
-use Rattle.snippet_shown.specs.Context as spec
 use Rattle.snippet_shown.proofs.SpanLemmas.{line_starts-start_of, starts-length}
 use Rattle.snippet_shown.proofs.context.spans.span_around.Goals as goal
 
