@@ -1,5 +1,6 @@
 -- The rows of an annotated snippet's lines hold a line feed only where a label that isn't cut at it does, whatever is cut of them.
 use Rattle.std.proofs.lemmas.Grind.{common_steps}
+use Rattle.annotate_snippets.proofs.Common.{bar_glyphs}
 use Rattle.annotate_snippets.proofs.Common.{◌≡◌, ◌≢◌, ℕ, suc, ◌+◌, ◌-◌, ◌<◌, ◌==◌, ◌&&◌, nat_le, nat_lt, Bool, true, false, cond, Option, None, Some, List}
 use Rattle.annotate_snippets.proofs.Common.{[], ◌∷◌, ◌++◌, All, take, drop, map, length, fold, get_or, replicate, refl, sym, ap, subst, ◌∙◌, arith, inl, inr}
 use Rattle.annotate_snippets.proofs.Common.{cow_str_bytes, Contains, option_map, IsUtf8, cases_Bool, cases_lt, nat_tests, get_or_past, All-append, All-cons}

@@ -2,11 +2,11 @@
 use Rattle.annotate_snippets.proofs.Common.{◌≡◌, ℕ, ◌+◌, ◌==◌, ◌&&◌, ◌||◌, Bool, true, false, List, [], ◌∷◌, ◌++◌, All, length, map, refl, sym, ap, ◌∙◌, cond}
 use Rattle.annotate_snippets.proofs.Common.{All-cons, All-filter, All-head, All-nil, All-tail, enumerate_from, None, Option, Some, option_map}
 use Rattle.annotate_snippets.proofs.Common.{Annotation, Cell, Element, Group, Layout, LineAnnotation, Patch, Renderer, Snippet, Title, cow_str_bytes}
-use Rattle.annotate_snippets.proofs.Common.{numbered_source}
+use Rattle.annotate_snippets.proofs.Common.{is_drawn, numbered_source}
 use Rattle.annotate_snippets.proofs.LineFeedLaws.{entries_plain}
 use Rattle.annotate_snippets.proofs.OneLineTexts.{IsOneLineLabel}
 use Rattle.annotate_snippets.specs.DrawnReport.{last_row, suggestion_layout, suggestion_lines}
-use Rattle.annotate_snippets.specs.ElementContext.{closes_with, context_at, drawn_elements, file_of_group, is_drawn, is_end, next_of, position_of_group}
+use Rattle.annotate_snippets.specs.ElementContext.{closes_with, context_at, drawn_elements, file_of_group, is_end, next_of, position_of_group}
 use Rattle.annotate_snippets.specs.ElementContext.{suggestion_rows}
 use Rattle.annotate_snippets.specs.GraphicForm.{element_rows, gap_below, graphic_form, group_page, margin_in, name_of_row, named_line, rows_of_line}
 use Rattle.annotate_snippets.specs.GraphicForm.{rows_of_lines}
