@@ -150,42 +150,42 @@ unlisted-laws form r groups shown set laws asked =
         absurd (false≢true (sym (All-contains (λ d. is_listed d ≡ false) texts c none (own is)) ∙ is))
 
 -- what is said of the report whose lines and words are shown
-record IsOfBase (r : Renderer) (groups shown : List Group) : Type 0 where
-  masked : List Group
-  masks : IsMaskedFor r.mask_controls r groups masked
-  around : adds_context (form_of r) r ≡ true → ShowsLinesAround r.context_before r.context_after masked (graphic_form r shown)
-  wrapped : wraps (form_of r) r ≡ true → AreRewrapped r masked shown
+pub record IsOfBase (form : Form) (r : Renderer) (groups shown : List Group) : Type 0 where
+  pub masked : List Group
+  pub masks : IsMaskedFor r.mask_controls r groups masked
+  pub around : adds_context form r ≡ true → ShowsLinesAround r.context_before r.context_after masked (graphic_form r shown)
+  pub wrapped : wraps form r ≡ true → AreRewrapped r masked shown
 
-of-base : (r : Renderer) (groups shown : List Group) → IsAsSet (form_of r) r groups shown → FormLaws (form_of r) r shown → IsOfBase r groups shown
-of-base r groups shown set laws = by r.mask_controls refl
+pub of-base : (form : Form) (r : Renderer) (groups shown : List Group) → IsAsSet form r groups shown → FormLaws form r shown → IsOfBase form r groups shown
+of-base form r groups shown set laws = by r.mask_controls refl
   where
-    by : (masks : Bool) → r.mask_controls ≡ masks → IsOfBase r groups shown
+    by : (masks : Bool) → r.mask_controls ≡ masks → IsOfBase form r groups shown
     by true asked =
-        let made : IsRemade (form_of r) r groups shown = remade-set (form_of r) r groups shown (mask-set (form_of r) r asked) set in
+        let made : IsRemade form r groups shown = remade-set form r groups shown (mask-set form r asked) set in
         let pairs : AllZip IsGroupMasked made.fed made.masked =
         subst (λ (given : Bool). IsStep given IsGroupMasked made.fed made.masked) asked made.mask in
         record {
           masked = made.masked;
           masks = subst (λ (given : Bool). IsMaskedFor given r groups made.masked) (sym asked)
               (record { fed = made.fed; feeds = made.feeds; mask = pairs });
-          around = around-laws (form_of r) r groups shown made true asked laws;
-          wrapped = rewrapped-set (form_of r) r groups shown made true asked;
+          around = around-laws form r groups shown made true asked laws;
+          wrapped = rewrapped-set form r groups shown made true asked;
         }
     by false none =
         record {
           masked = groups;
           masks = subst (λ (given : Bool). IsMaskedFor given r groups groups) (sym none) refl;
-          around = λ asked. around-laws (form_of r) r groups shown
-              (remade-set (form_of r) r groups shown (context-set (form_of r) r asked) set) false none laws asked;
-          wrapped = λ asked. rewrapped-set (form_of r) r groups shown
-              (remade-set (form_of r) r groups shown (wrap-set (form_of r) r asked) set) false none asked;
+          around = λ asked. around-laws form r groups shown
+              (remade-set form r groups shown (context-set form r asked) set) false none laws asked;
+          wrapped = λ asked. rewrapped-set form r groups shown
+              (remade-set form r groups shown (wrap-set form r asked) set) false none asked;
         }
 
 module _ (r : Renderer) (groups shown : List Group) (set : IsAsSet (form_of r) r groups shown) where
   -- a text that has the laws of the form, for what is shown, has those of the report
   pub set-laws : (sheet : Stylesheet) (text : List ℕ) → LawsIn (form_of r) r shown sheet text → HasLaws r groups sheet text
   set-laws sheet text laws =
-      let based : IsOfBase r groups shown = of-base r groups shown set laws.form_laws in
+      let based : IsOfBase (form_of r) r groups shown = of-base (form_of r) r groups shown set laws.form_laws in
       record {
         shown = shown;
         set = set;

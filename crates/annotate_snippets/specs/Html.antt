@@ -1,12 +1,14 @@
 -- A report as HTML: the page of its graphic form, characters and tags; and what follows of it for who reads it.
-use Rattle.std.specs.Prelude.{◌≡◌, ℕ, List, [], ◌∷◌, ◌++◌, None, encode_utf8_all, Bool, map, if◌then◌else◌}
+use Rattle.std.specs.Prelude.{◌≡◌, ℕ, List, [], ◌∷◌, ◌++◌, None, encode_utf8_all, Bool, true, map, if◌then◌else◌}
 use Rattle.std.specs.List.{flat_map}
 use Rattle.snippet_grid.specs.Html.{AddsHtml, HtmlPiece, Text, html_bytes, rows_html}
 use Rattle.snippet_grid.specs.HtmlRead.{ReadChar, as_read, chars_of_rows, feed_read, html_reads, html_says, piece_tag, tags_of}
 use Rattle.snippet_model.specs.declared.snippet.Group.{Group}
-use Rattle.annotate_snippets.specs.AsSet.{IsAsSet}
+use Rattle.annotate_snippets.specs.AsSet.{IsAsSet, IsMaskedFor, adds_context, wraps}
 use Rattle.annotate_snippets.specs.GraphicForm.{graphic_form}
+use Rattle.annotate_snippets.specs.Laws.Context.{ShowsLinesAround}
 use Rattle.annotate_snippets.specs.Laws.Page.{PageLaws}
+use Rattle.annotate_snippets.specs.Laws.Wrapped.{AreRewrapped}
 use Rattle.annotate_snippets.specs.Page.{GroupPage, group_rows, page_text}
 use Rattle.annotate_snippets.specs.declared.renderer.Renderer.{Renderer}
 use Rattle.annotate_snippets.specs.declared.renderer.form.Form.TheVariants.{Graphic}
@@ -51,12 +53,17 @@ pub record IsReportHtml (r : Renderer) (groups : List Group) (text : List ℕ) :
   pub set : IsAsSet Graphic r groups shown
   pub is : text ≡ html_bytes (report_html r shown)
 
--- and it has the laws of that, as its page has those of a page
+-- and it has the laws of that, as its page has those of a page; and lines around those that are kept, and wrapped titles and messages, are as
+-- `HasLaws` tells
 pub record HasHtmlLaws (r : Renderer) (groups : List Group) (text : List ℕ) : Type 0 where
   pub shown : List Group
   pub set : IsAsSet Graphic r groups shown
   pub laws : HtmlLaws r shown text
   pub page : PageLaws r shown (graphic_form r shown)
+  pub masked : List Group
+  pub masks : IsMaskedFor r.mask_controls r groups masked
+  pub around : adds_context Graphic r ≡ true → ShowsLinesAround r.context_before r.context_after masked (graphic_form r shown)
+  pub wrapped : wraps Graphic r ≡ true → AreRewrapped r masked shown
 
 -- a text grew by a group, after a line feed unless it is the first
 abbrev pub AddsGroupHtml : Bool → GroupPage → List ℕ → List ℕ → Type 0
