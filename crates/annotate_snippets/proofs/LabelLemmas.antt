@@ -13,18 +13,20 @@ use Rattle.annotate_snippets.proofs.Common.{StandsIn, is_cell_of, is_start_part,
 use Rattle.annotate_snippets.proofs.Common.{promoted_spans, is_in_label, labels_ending_on, normalized_chars, shown_label, entry_of, is_short, long_places}
 use Rattle.annotate_snippets.proofs.Common.{stands_among}
 use Rattle.std.specs.List.{All}
-use Rattle.annotate_snippets.proofs.Common.{All-unmapped, false≢true}
+use Rattle.annotate_snippets.proofs.Common.{All-unmapped, cell_at, char_width, columns_of, false≢true, letters_of, row_text, width_of}
 use Rattle.annotate_snippets.proofs.EntryEnds.{entries_end}
-use Rattle.annotate_snippets.specs.Laws.Labels.{HasRoom, IsBroken, pieces_shown}
+use Rattle.annotate_snippets.specs.Laws.Labels.{IsBroken, pieces_shown}
 use Rattle.snippet_labels.proofs.PieceLemmas.{label_pieces-broken, label_pieces-nil}
 use Rattle.snippet_labels.specs.Pieces.{label_pieces, shows_any}
 use Rattle.snippet_shown.proofs.DrawnLemmas.{rows-within}
 use Rattle.snippet_shown.proofs.WrapLemmas.{wrapped-laws}
+use Rattle.snippet_shown.specs.Letters.{first_place, letter, letter_width, letters}
 use Rattle.snippet_shown.specs.WrapLaws.{AreRowsWithin}
 use Rattle.snippet_shown.specs.Wrapped.{wrapped}
 use Rattle.std.specs.List.{slice_split}
-use Rattle.snippet_strokes.proofs.PieceWrites.{piece_within}
-use Rattle.snippet_strokes.proofs.SeenLabels.{IsShownBy}
+use Rattle.snippet_strokes.proofs.PieceWrites.{piece_shows, piece_within}
+use Rattle.snippet_strokes.proofs.RowWidths.{row_has_room}
+use Rattle.snippet_strokes.proofs.SeenLabels.{HasPieceRoom}
 use Rattle.std.proofs.lemmas.List.{get_or_default}
 use Rattle.std.specs.Prelude.{nat_le, nat_lt}
 use Rattle.annotate_snippets.proofs.MarkLemmas.{end_of_entry, start_of_entry}
@@ -88,12 +90,6 @@ label_broken layout cut l wide =
       fits = subst (AreRowsWithin false room) (sym lines) (rows-within room false shown (kept.rows (omega (arith, wide))));
     }
 
--- where a piece has a character, something is shown
-piece_shows : (ps : List (List ℕ)) (n : ℕ) → 0 < length (get_or ps n []) → shows_any ps ≡ true
-piece_shows [] n some = absurd (omega (arith, some))
-piece_shows (p ∷ ps) zero some = grind (arith, nat_tests, some)
-piece_shows (p ∷ ps) (suc n) some = grind (arith, piece_shows ps n some)
-
 -- the pieces of a label without text have none
 no_piece : (layout : Layout) (cell i : ℕ) (ps : List (List ℕ)) → ps ≡ label_pieces layout cell [] → length (get_or ps i []) ≡ 0
 no_piece layout cell i ps is = ap (λ (qs : List (List ℕ)). length (get_or qs i [])) (is ∙ label_pieces-nil layout cell) ∙ none i
@@ -112,6 +108,12 @@ label_of_span source a =
 abbrev label_of_end : LineAnnotation → SpanLabel
 label_of_end e =
     record { text = normalized_chars e.label; kind = e.kind; from = e.end.display - 1; to = e.end.display }
+
+-- the characters of an untrusted text take the columns of the text
+letters-width : (cs : List ℕ) → columns_of (letters_of false cs) ≡ width_of cs
+letters-width [] = refl
+letters-width (c ∷ cs) =
+    omega (arith, sum_by-cons letter_width (letter (first_place false) c) (letters (first_place false) cs), sum_by-cons char_width c cs, letters-width cs)
 
 -- whether an entry is one at which a span ends
 abbrev ends_here : LineAnnotation → Bool
@@ -292,20 +294,26 @@ module _ (dropped : ℕ) (layout : Layout) (rows : List (List Cell)) where
 
   -- where each label that shows anything has room, so has each piece of all entries' labels
   abbrev IsRoomy : ShownLabel → Type 0
-  IsRoomy l = shows_any (pieces_shown layout l) ≡ true → HasRoom layout l
+  IsRoomy l = shows_any (pieces_shown layout l) ≡ true → l.cell + 20 ≤ layout.label_end
 
   abbrev Ends : PlacedLabel → Type 0
-  Ends = IsShownBy layout.label_end
+  Ends = HasPieceRoom layout.label_end
 
   label_ends : (e : LineAnnotation) (l : PlacedLabel) → layout.label_lines ≡ true → l.pieces ≡ pieces_shown layout (shown_at e l) → IsRoomy (shown_at e l)
       → Ends l
   label_ends e l cut are room n some =
       let ps : List (List ℕ) = pieces_shown layout (shown_at e l) in
-      let long : length (get_or l.pieces n []) ≡ length (get_or ps n []) = ap (λ (qs : List (List ℕ)). length (get_or qs n [])) are in
-      let some_too : 0 < length (get_or ps n []) = omega (arith, some, long) in
-      let has : HasRoom layout (shown_at e l) = room (piece_shows ps n some_too) in
-      let inside : n < length ps = piece_within ps n some_too in
-      omega (arith, has.room, has.cells n [] inside, (label_broken layout cut (shown_at e l) has.room).fits n [] inside, long)
+      let piece : List ℕ = get_or ps n [] in
+      let same : get_or l.pieces n [] ≡ piece = ap (λ (qs : List (List ℕ)). get_or qs n []) are in
+      let some_too : 0 < length piece = omega (arith, some, ap (λ (q : List ℕ). length q) same) in
+      let wide : (shown_at e l).cell + 20 ≤ layout.label_end = room (piece_shows ps n some_too) in
+      omega (
+        arith,
+        wide,
+        (label_broken layout cut (shown_at e l) wide).fits n [] (piece_within ps n some_too),
+        letters-width piece,
+        ap width_of same,
+      )
 
   labels_end : layout.label_lines ≡ true → (es : List LineAnnotation) (ls : List PlacedLabel)
       → map (λ (l : PlacedLabel). l.entry) ls ≡ map (shifted dropped) es → All IsLabelledAtEnd (map (shifted dropped) es) → All HasPieces ls
@@ -424,8 +432,8 @@ unfiltered {X} p P (x ∷ xs) all = both (p x) refl all (unfiltered p P xs)
 pub labels_shown : (sn : Snippet Annotation) (k dropped : ℕ) (layout : Layout) (es : List LineAnnotation) (rows : List (List Cell))
     → es ≡ parts_on (numbered_source sn) sn.markers.items k
     → All (λ e. is_bar e.annotation_type ≡ false → dropped ≤ e.start.display) es → LabelsStand layout (map (shifted dropped) es) rows
-    → ShowsLabels layout.decor layout sn k dropped rows
-labels_shown sn k dropped layout es rows same clear stand =
+    → ((r c : ℕ) → c < layout.code → char_width (cell_at rows r c).ch ≤ 1) → ShowsLabels layout.decor layout sn k dropped rows
+labels_shown sn k dropped layout es rows same clear stand left =
     let s : Source = numbered_source sn in
     let marks : List Annotation = sn.markers.items in
     let on_line : LineAnnotation → Bool = λ (p : LineAnnotation). p.start.line == s.first + k in
@@ -463,5 +471,9 @@ labels_shown sn k dropped layout es rows same clear stand =
           (All-unmapped E (label_of_part) (filter ends_here es) (subst (All E) (sym spans) marks_room.end)) in
           let end = entries_end s marks k dropped edge layout marks_room.code marks_room.begin es same (λ i x within ending. last i x within (ap not ending)) in
           let shown = labels_end dropped layout rows cut es stand.labels stand.are (labelled_at_end s marks k dropped es same) stand.pieces room in
-          omega (arith, stand.within edge marks_room.code end shown r, ap (λ (row : List Cell). length row) (get_or_default rows r d [] inside));
+          omega (
+            arith,
+            row_has_room layout (map (shifted dropped) es) rows stand cut marks_room.code end shown left r,
+            ap (λ (row : List Cell). width_of (row_text row)) (get_or_default rows r d [] inside),
+          );
     }

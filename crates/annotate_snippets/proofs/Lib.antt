@@ -83,7 +83,6 @@ pub mod RemadeLemmas
 pub mod ReportLemmas
 pub mod ReportTexts
 pub mod RoomLemmas
-pub mod RoomyLabels
 pub mod SheetPages
 pub mod ShortLemmas
 pub mod ShortShown

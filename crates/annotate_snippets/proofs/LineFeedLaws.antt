@@ -79,11 +79,11 @@ strokes_plain : (layout : Layout) (row count : ℕ) (placed order : List PlacedE
     → All IsPlainWrite (drawn_strokes layout row count placed order)
 strokes_plain layout row count placed order plain =
     each_stroke IsPlainWrite layout row count placed order
-    (each_line IsPlainWrite layout (row + 1) placed (λ k d within depth _. All-replicate IsNoFeed _ _ (plain_in bar_glyphs refl refl layout.decor _
+    (each_line IsPlainWrite layout (row + 1) placed (λ k d within _ depth _. All-replicate IsNoFeed _ _ (plain_in bar_glyphs refl refl layout.decor _
     (bars_among layout.decor (is_primary (get_or placed k d).entry.kind)).connector)))
     (each_corner IsPlainWrite layout row count placed (λ k d within depth r glyph _ _ _ _ among.
     alone glyph (plain_in bar_glyphs refl refl layout.decor glyph among)))
-    (each_stem_cell IsPlainWrite layout (row + 1) placed (λ k d within below glyph _ among.
+    (each_stem_cell IsPlainWrite layout (row + 1) placed (λ k d within _ below glyph _ among.
     alone glyph (plain_in stem_glyphs refl refl layout.decor glyph among)))
     (each_label IsPlainWrite layout (row + 1) placed (λ k d within n inside _. plain k d n within inside))
     (each_mark IsPlainWrite layout (row + 1) order (λ k d within cell n glyph _ _ among.

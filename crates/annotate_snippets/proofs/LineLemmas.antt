@@ -16,6 +16,7 @@ use Rattle.annotate_snippets.proofs.Common.{row_text-text_cells}
 use Rattle.std.proofs.Common.{chars}
 use Rattle.std.specs.List.{All}
 use Rattle.annotate_snippets.proofs.MarginWords.{room_of}
+use Rattle.snippet_strokes.proofs.RowWidths.{narrow_left}
 use Rattle.annotate_snippets.proofs.LabelLemmas.{labelled_at_end, labels_shown, head_same, tail_same}
 use Rattle.annotate_snippets.proofs.LeftLaws.{left_of_source, space_of_source}
 use Rattle.annotate_snippets.proofs.MarkLemmas.{span_of_entry, IsEntryOf, mark_of_entries, unmarked_by_entries, entries_after, unlabelled_entries, lone_entry}
@@ -249,6 +250,8 @@ module _ (r : Renderer) (layout : Layout) (s : Snippet Annotation)
         ∙ ap (λ ps. is_uncut (room_of r layout) layout (map (shifted shows.dropped) ps)) parts in
         let stand = rows_show.strokes.labels (same_entries ∙ uncut) (labelled_at_end (numbered_source s) s.markers.items k shows.dropped es parts) in
         labels_shown s k shows.dropped layout es rows_show.below parts shows.clear stand
+        (narrow_left layout (are_plain margin.term_width layout.decor (map (shifted shows.dropped) es)) (map (shifted shows.dropped) es)
+        (λ j. closes && j + 1 == length rows_show.below) rows_show.below rows_show.strokes.are)
 
     -- where the line qualifies, its strokes are those of whole spans
     module _ (qualifies : qualifies_for_marks (room_of r layout) placeholder_width (cow_str_bytes s.source.text) s.markers.items k ≡ true) where

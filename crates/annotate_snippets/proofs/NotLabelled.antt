@@ -4,9 +4,10 @@ use Rattle.annotate_snippets.proofs.Common.{length, count_by, refl, sym, ap, sub
 use Rattle.annotate_snippets.proofs.Common.{All-head, All-tail, sum_by-cons, cell_at, Cell, SPACE, DecorStyle, ElementStyle, LabelPrimary, LabelSecondary}
 use Rattle.annotate_snippets.proofs.Common.{UnderlinePrimary, UnderlineSecondary, Annotation, AnnotationKind, Primary, Context, Visible, Snippet, from_map}
 use Rattle.annotate_snippets.proofs.Common.{is_mark_role, label_role, Layout, ShowsLabel, ShowsLabels, ShownLabel, SpanLabel, is_in_label, labels_ending_on}
+use Rattle.annotate_snippets.proofs.Common.{row_text, width_of}
 use Rattle.std.specs.List.{All}
 use Rattle.std.specs.Prelude.{nat_le, nat_lt, slice_index_or, ◌-◌}
-use Rattle.annotate_snippets.specs.Laws.Labels.{HasRoom, IsBroken, MarksHaveRoom, pieces_shown}
+use Rattle.annotate_snippets.specs.Laws.Labels.{IsBroken, MarksHaveRoom, pieces_shown}
 use Rattle.snippet_labels.specs.Pieces.{label_pieces, shows_any}
 use Rattle.snippet_shown.specs.Letters.{letters_of}
 use Rattle.snippet_shown.specs.WrapLaws.{columns_of}
@@ -190,14 +191,15 @@ piece_too_wide decor layout s k dropped rows shows cut l among wide i within pas
     let broken = All-contains (λ (l : ShownLabel). l.cell + 20 ≤ layout.label_end → IsBroken layout l) shows.labels l (shows.broken cut) among wide in
     omega (arith, broken.fits i [] within, wide, past)
 
--- a row that is filled up with spaces past where labels are to end, here `·`, though all marks have room, and all labels for 20 columns:
+-- a row with more columns than there are up to where labels are to end, here by spaces, `·`, though all marks have room, and all labels for 20
+-- columns:
 --
 --     1 | ab                             in 27 columns
 --       | ^^ this one is broken····
 --       |    as it has to be
 pub row_too_wide : (decor : DecorStyle) (layout : Layout) (s : Snippet Annotation) (k dropped : ℕ) (rows : List (List Cell))
     → (shows : ShowsLabels decor layout s k dropped rows) → layout.label_lines ≡ true → MarksHaveRoom layout s k dropped
-    → All (λ l. shows_any (pieces_shown layout l) ≡ true → HasRoom layout l) shows.labels → (row : List Cell) → Contains rows row
-    → layout.label_end < length row → ⊥
+    → All (λ l. shows_any (pieces_shown layout l) ≡ true → l.cell + 20 ≤ layout.label_end) shows.labels → (row : List Cell) → Contains rows row
+    → layout.label_end < width_of (row_text row) → ⊥
 row_too_wide decor layout s k dropped rows shows cut marks room row among past =
-    omega (arith, All-contains (λ (row : List Cell). length row ≤ layout.label_end) rows row (shows.within cut marks room) among, past)
+    omega (arith, All-contains (λ (row : List Cell). width_of (row_text row) ≤ layout.label_end) rows row (shows.within cut marks room) among, past)

@@ -1,6 +1,6 @@
 -- Where no label of a report holds a line feed and no text is wrapped, its page is the same whether labels are cut or not.
-use Rattle.annotate_snippets.proofs.Common.{◌≡◌, ℕ, ◌+◌, ◌==◌, ◌&&◌, ◌||◌, Bool, true, false, List, [], ◌∷◌, ◌++◌, All, length, map, refl, sym, ap, ◌∙◌, cond}
-use Rattle.annotate_snippets.proofs.Common.{All-cons, All-filter, All-head, All-nil, All-tail, enumerate_from, None, Option, Some, option_map}
+use Rattle.annotate_snippets.proofs.Common.{◌≡◌, ℕ, ◌+◌, ◌==◌, ◌&&◌, ◌||◌, Bool, true, false, List, [], ◌∷◌, ◌++◌, All, length, map, refl, sym, ap, ◌∙◌}
+use Rattle.annotate_snippets.proofs.Common.{All-filter, All-head, All-tail, enumerate_from, None, Option, Some, option_map}
 use Rattle.annotate_snippets.proofs.Common.{Annotation, Cell, Element, Group, Layout, LineAnnotation, Patch, Renderer, Snippet, Title, cow_str_bytes}
 use Rattle.annotate_snippets.proofs.Common.{is_drawn, numbered_source}
 use Rattle.annotate_snippets.proofs.LineFeedLaws.{entries_plain}

@@ -3,12 +3,13 @@ use Rattle.snippet_labels.proofs.Common.{◌≡◌, ℕ, ◌+◌, ◌-◌, ◌�
 use Rattle.snippet_labels.proofs.Common.{refl, sym, ap, subst, ◌∙◌, arith, All, inl, inr, get_or, greatest, nat_tests, map_push}
 use Rattle.snippet_labels.proofs.Common.{encode_utf8_all, pieces_width, shows_any, LabelPieces, label_width, label_at, label_pieces, beside_column, broken}
 use Rattle.snippet_labels.proofs.Common.{broken_in, text_pieces, Layout, code_cell, PlacedEntry, HasItsLabel, pieces_of, label_place, normalized_chars}
-use Rattle.snippet_labels.proofs.Common.{LineAnnotation, label_of_entry}
+use Rattle.snippet_labels.proofs.Common.{LineAnnotation, label_of_entry, stands_last, nat_lt, ◌&&◌, list_any}
 use Rattle.snippet_labels.specs.LabelSize.{cut_pieces}
 use Rattle.snippet_parts.proofs.LeastLemmas.{greatest-push}
 use Rattle.snippet_parts.proofs.RawDepthLemmas.{greatest-cons}
 use Rattle.snippet_shown.proofs.WrapLemmas.{wrapped-chars, wrapped-length, wrapped-same}
 use Rattle.snippet_shown.specs.Wrapped.{wrapped}
+use Rattle.snippet_text.specs.Width.{char_width}
 use Rattle.std.proofs.lemmas.List.Elements.{All-contains}
 use Rattle.std.proofs.lemmas.Str.{length-le-encodes}
 use Rattle.std.specs.Prelude.{if◌then◌else◌}
@@ -71,16 +72,23 @@ label_pieces-nil layout cell = by_cut layout.label_lines
 pub label_pieces-whole : (layout : Layout) → layout.label_lines ≡ false → (cell : ℕ) (text : List ℕ) → label_pieces layout cell text ≡ text ∷ []
 label_pieces-whole layout is cell text = ap (λ b. text_pieces b (if b then broken_in (layout.label_end - cell) text else text)) is
 
+-- labels of the same pieces are one
+pub LabelPieces-is : (a b : LabelPieces) → a.beside ≡ b.beside → a.below ≡ b.below → a.last ≡ b.last → a ≡ b
+LabelPieces-is a b beside below last =
+    ap (λ x. record { beside = x; below = a.below; last = a.last }) beside ∙ ap (λ x. record { beside = b.beside; below = x; last = a.last }) below
+    ∙ ap (λ x. record { beside = b.beside; below = b.below; last = x }) last
+
 pub label_of_entry-whole : (layout : Layout) → layout.label_lines ≡ false → (e : LineAnnotation) (label : LabelPieces)
-    → label.beside ≡ normalized_chars e.label ∷ [] → label.below ≡ normalized_chars e.label ∷ [] → label ≡ label_of_entry layout e
-label_of_entry-whole layout is e label beside below =
+    → label.beside ≡ normalized_chars e.label ∷ [] → label.below ≡ normalized_chars e.label ∷ [] → label.last ≡ false → label ≡ label_of_entry layout e
+label_of_entry-whole layout is e label beside below last =
     let text : List ℕ = normalized_chars e.label in
     let first : label.beside ≡ label_pieces layout (code_cell layout (beside_column e)) text =
     beside ∙ sym (label_pieces-whole layout is (code_cell layout (beside_column e)) text) in
     let second : label.below ≡ label_pieces layout (code_cell layout e.start.display) text =
     below ∙ sym (label_pieces-whole layout is (code_cell layout e.start.display) text) in
-    ap (λ x. record { beside = x; below = label.below }) first
-    ∙ ap (λ x. record { beside = label_pieces layout (code_cell layout (beside_column e)) text; below = x }) second
+    let third : label.last ≡ stands_last layout text =
+    last ∙ sym (ap (λ b. b && (nat_lt 0 layout.label_end && list_any (λ c. nat_lt 1 (char_width c)) text)) is) in
+    LabelPieces-is label (label_of_entry layout e) first second third
 
 pub label_pieces-cut : (layout : Layout) → layout.label_lines ≡ true → (cell : ℕ) (text : List ℕ)
     → label_pieces layout cell text ≡ cut_pieces (layout.label_end - cell) text

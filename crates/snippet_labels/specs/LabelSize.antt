@@ -1,5 +1,5 @@
 -- A label as it is kept: its texts, and how large it is.
-use Rattle.std.specs.Prelude.{◌≡◌, ℕ, ◌==◌, true, List, [], ◌∷◌, chars, length}
+use Rattle.std.specs.Prelude.{◌≡◌, ℕ, ◌==◌, false, true, List, [], ◌∷◌, chars, length}
 use Rattle.std.specs.Cow.{cow_str_bytes}
 use Rattle.std.specs.String.{string_bytes}
 use Rattle.std.specs.List.{slice_split}
@@ -20,9 +20,9 @@ lines_of cut = slice_split (λ c. c == 10) (chars (cow_str_bytes cut.text))
 
 -- the label of a text that is kept
 abbrev pub pieces_in : LabelText → LabelPieces
-pieces_in (Given text) = record { beside = chars text.now ∷ []; below = chars text.now ∷ [] }
-pieces_in (Made text) = record { beside = chars (string_bytes text) ∷ []; below = chars (string_bytes text) ∷ [] }
-pieces_in (Cut label) = record { beside = lines_of label.value.beside; below = lines_of label.value.below }
+pieces_in (Given text) = record { beside = chars text.now ∷ []; below = chars text.now ∷ []; last = false }
+pieces_in (Made text) = record { beside = chars (string_bytes text) ∷ []; below = chars (string_bytes text) ∷ []; last = false }
+pieces_in (Cut label) = record { beside = lines_of label.value.beside; below = lines_of label.value.below; last = label.value.last }
 
 -- the size is that of these pieces
 pub record HasSize (size : LabelSize) (pieces : List (List ℕ)) : Type 0 where

@@ -1,5 +1,5 @@
 -- The pieces of a label: each stands in a row of its own.
-use Rattle.std.specs.Prelude.{ℕ, ◌+◌, ◌-◌, ◌==◌, Bool, false, nat_le, not, List, [], ◌∷◌, encode_utf8_all}
+use Rattle.std.specs.Prelude.{ℕ, ◌+◌, ◌-◌, ◌==◌, ◌&&◌, Bool, false, nat_le, nat_lt, not, List, [], ◌∷◌, encode_utf8_all}
 use Rattle.std.specs.Prelude.{if◌then◌else◌, length, map, max}
 use Rattle.std.specs.List.{list_any, slice_split}
 use Rattle.snippet_grid.specs.Layout.{Layout, code_cell}
@@ -7,6 +7,7 @@ use Rattle.snippet_parts.specs.declared.entries.LineAnnotation.{LineAnnotation}
 use Rattle.snippet_parts.specs.Least.{greatest}
 use Rattle.snippet_shown.specs.Wrapped.{wrapped}
 use Rattle.snippet_text.specs.Normalized.{normalized_chars}
+use Rattle.snippet_text.specs.Width.{char_width}
 
 -- a text in a room of so many columns: broken where its lines are wider, if there are 20
 abbrev pub broken_in : ℕ → List ℕ → List ℕ
@@ -24,10 +25,16 @@ text_pieces cut text = if cut then slice_split (λ c. c == 10) text else text �
 abbrev pub label_pieces : Layout → ℕ → List ℕ → List (List ℕ)
 label_pieces layout cell text = text_pieces layout.label_lines (broken layout cell text)
 
--- the pieces of a label as it stands after its mark, and as it hangs below it
+-- whether nothing may stand right of a label of this text in a row: where labels are broken and it has a character of more than one column,
+-- since what stood there would be in a later column than its cell
+abbrev pub stands_last : Layout → List ℕ → Bool
+stands_last layout text = layout.label_lines && (nat_lt 0 layout.label_end && list_any (λ c. nat_lt 1 (char_width c)) text)
+
+-- the pieces of a label as it stands after its mark, and as it hangs below it, and whether nothing may stand right of it
 pub record LabelPieces : Type 0 where
   pub beside : List (List ℕ)
   pub below : List (List ℕ)
+  pub last : Bool
 
 -- the column at which a label begins that stands after its mark: one after it. A mark that ends at column 0 still takes that column
 abbrev pub beside_column : LineAnnotation → ℕ
@@ -39,6 +46,7 @@ label_of_entry layout e =
     record {
       beside = label_pieces layout (code_cell layout (beside_column e)) (normalized_chars e.label);
       below = label_pieces layout (code_cell layout e.start.display) (normalized_chars e.label);
+      last = stands_last layout (normalized_chars e.label);
     }
 
 -- the pieces of a label at this position: at 0 it stands after its mark

@@ -1,17 +1,18 @@
 //! A label as it is drawn.
-ghost use Rattle.std.specs.Prelude.{◌≡◌, ◌+◌, ◌-◌, ◌∷◌, ◌==◌, ◌||◌, [], IfOk, chars, encode_utf8_all, if◌then◌else◌};
-ghost use Rattle.std.specs.Prelude.{length, max, not};
+ghost use Rattle.std.specs.Prelude.{◌≡◌, ◌+◌, ◌-◌, ◌∷◌, ◌==◌, ◌||◌, [], IfOk, chars, encode_utf8_all, false};
+ghost use Rattle.std.specs.Prelude.{if◌then◌else◌, length, max, nat_lt, not};
 ghost use Rattle.std.specs.Cow.{cow_str_bytes};
-ghost use Rattle.std.specs.List.{slice_split};
+ghost use Rattle.std.specs.List.{list_any, slice_split};
 ghost use Rattle.snippet_labels.specs.LabelSize.{HasSize, cut_pieces, lines_of};
 ghost use Rattle.snippet_labels.specs.Pieces as spec;
 ghost use Rattle.snippet_labels.specs.Pieces.{shows_any, text_pieces};
 ghost use Rattle.snippet_style.specs.Bounds.{HasNext, IsCount};
 ghost use Rattle.snippet_text.specs.Normalized.{norm};
+ghost use Rattle.snippet_text.specs.Width.{char_width};
 
 use snippet_grid::Layout;
 use snippet_shown::wrapped;
-use snippet_text::normalized;
+use snippet_text::{char_width, normalized};
 use std::alloc::{AllocError, Global};
 use std::borrow::CowStr;
 use std::marker::Model;
@@ -44,6 +45,8 @@ enum LabelText<'a> {
 struct CutLabel<'a> {
     beside: CutText<'a>,
     below: CutText<'a>,
+    /// Whether nothing may stand right of it in a row.
+    last: bool,
 }
 
 /// A text of which each line is a piece.
@@ -78,6 +81,7 @@ impl<'a> DrawnLabel<'a> {
     pub(crate) fn whole(text: CowStr<'a>) -> DrawnLabel<'a>
         ensures beside { result.beside ≡ chars (cow_str_bytes text.entry) ∷ [] }
         ensures below { result.below ≡ chars (cow_str_bytes text.entry) ∷ [] }
+        ensures last { result.last ≡ false }
     {
         let width = text.as_str().len();
         let text = match text {
@@ -104,11 +108,20 @@ impl<'a> DrawnLabel<'a> {
             ≡ cut_pieces (layout.label_end - beside) (norm (chars text.now))) }
         ensures below { IfOk result (λ label. label.below
             ≡ cut_pieces (layout.label_end - below) (norm (chars text.now))) }
+        ensures last { IfOk result (λ label. label.last ≡ spec.stands_last layout (norm (chars text.now))) }
     {
         let beside = cut_text(alloc, layout.label_end.saturating_sub(beside), text)?;
         let below = cut_text(alloc, layout.label_end.saturating_sub(below), text)?;
         let width = beside.size.width.max(below.size.width);
-        let label = Box::new(alloc, CutLabel { beside, below })?;
+        let last = stands_last(alloc, layout, text)?;
+        let label = Box::new(
+            alloc,
+            CutLabel {
+                beside,
+                below,
+                last,
+            },
+        )?;
         Ok(DrawnLabel {
             text: LabelText::Cut(label),
             width,
@@ -144,6 +157,16 @@ impl<'a> DrawnLabel<'a> {
         }
     }
 
+    /// Whether nothing may stand right of it in a row: what did would be in a later column than its cell.
+    pub fn stands_last(&self) -> bool
+        ensures value { result ≡ self.now.last }
+    {
+        match &self.text {
+            LabelText::Cut(label) => label.last,
+            _ => false,
+        }
+    }
+
     /// Whether it shows nothing.
     pub fn is_empty(&self) -> bool
         ensures value { result ≡ not (shows_any self.now.beside || shows_any self.now.below) }
@@ -161,6 +184,29 @@ fn cut_at<'a, 'b>(position: usize, label: &'b CutLabel<'a>) -> &'b CutText<'a>
     } else {
         &label.below
     }
+}
+
+/// Whether nothing may stand right of a label of this text in a row: labels are broken, and what is shown of it has a
+/// character of more than one column.
+///
+/// # Errors
+///
+/// There is no memory for it.
+fn stands_last(alloc: Global, layout: Layout, text: &str) -> Result<bool, AllocError>
+    ensures value { IfOk result (λ last. last ≡ spec.stands_last layout (norm (chars text.now))) }
+{
+    if !layout.label_lines || layout.label_end == 0 {
+        return Ok(false);
+    }
+    let text = normalized(alloc, text)?;
+    Ok(has_wide(text.as_str()))
+}
+
+/// Whether a text has a character of more than one column.
+fn has_wide(text: &str) -> bool
+    ensures value { result ≡ list_any (λ c. nat_lt 1 (char_width c)) (chars text.now) }
+{
+    text.chars().any(|c| char_width(c) > 1)
 }
 
 /// A text, normalised and broken where its lines are wider than this room.

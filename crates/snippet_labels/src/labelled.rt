@@ -1,5 +1,5 @@
 //! The entries of a line, each with its label as it is drawn.
-ghost use Rattle.std.specs.Prelude.{◌≡◌, ◌∷◌, [], true, All, IfOk, length, map, reverse};
+ghost use Rattle.std.specs.Prelude.{◌≡◌, ◌∷◌, [], false, true, All, IfOk, length, map, reverse};
 ghost use Rattle.std.specs.List.{range_with_len};
 ghost use Rattle.snippet_labels.specs.Pieces as spec;
 ghost use Rattle.snippet_labels.specs.Placing.{HasItsLabel, HasPlace};
@@ -72,6 +72,7 @@ fn shifted<'a>(entry: &LineAnnotation<'a>, dropped: usize) -> LineAnnotation<'a>
 fn whole_label<'a>(alloc: Global, entry: &LineAnnotation<'a>) -> Result<DrawnLabel<'a>, AllocError>
     ensures beside { IfOk result (λ label. label.beside ≡ normalized_chars entry.now.label ∷ []) }
     ensures below { IfOk result (λ label. label.below ≡ normalized_chars entry.now.label ∷ []) }
+    ensures last { IfOk result (λ label. label.last ≡ false) }
 {
     match entry.label.text() {
         Some(text) => Ok(DrawnLabel::whole(normalized(alloc, text)?)),

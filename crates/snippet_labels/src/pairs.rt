@@ -32,13 +32,13 @@ fn blocks(entry: &PlacedEntry, other: &PlacedEntry) -> bool
 }
 
 /// Whether the label of an entry farther left would reach into this entry, which has a label too, or stands in the
-/// first row and ends no earlier.
+/// first row and ends no earlier. A label right of which nothing may stand reaches all that does.
 fn reaches(position: usize, entry: &PlacedEntry, other: &PlacedEntry) -> bool
     requires columns { IsColumn other.now.entry.end.display }
     ensures value { result ≡ spec.reaches position entry.now other.now }
 {
     other.has_label()
-        && overlap(other, other.label.width() + GAP, entry)
+        && (other.label.stands_last() || overlap(other, other.label.width() + GAP, entry))
         && (entry.has_label() || (position == 0 && ends_no_later(other, entry)))
 }
 

@@ -167,13 +167,16 @@ fn stand_in_row(entries: &[PlacedEntry]) -> bool
     true
 }
 
-/// Whether an entry begins before this column, and ends before it with its label after its mark. Starts and ends of
-/// spans of several lines do not.
+/// Whether an entry begins before this column, and ends before it with its label after its mark, right of which others
+/// may stand. Starts and ends of spans of several lines do not.
 fn fits_left_of(column: usize, placed: &PlacedEntry) -> bool
     requires columns { IsColumn placed.now.entry.end.display }
     ensures yes { result ≡ true → FitsLeftOf column placed.now }
 {
-    !placed.takes_space() && placed.entry.start.display < column && label_reach(placed) <= column
+    !placed.takes_space()
+        && !placed.label.stands_last()
+        && placed.entry.start.display < column
+        && label_reach(placed) <= column
 }
 
 /// The column before which an entry ends: its mark, or its label after this and the columns that stand free after it.

@@ -39,7 +39,7 @@ pub DrawsFrom-connectors : (layout : Layout) (row : ℕ) (es : List PlacedEntry)
     → DrawsFrom row (layout.gutter + 3) old (painted (connectors_of layout row es) old)
 DrawsFrom-connectors layout row es old rows =
     DrawsFrom-painted row (layout.gutter + 3) (connectors_of layout row es) old
-    (each_line (IsWithin row (length old) (layout.gutter + 3)) layout row es (λ k d within depth _. record {
+    (each_line (IsWithin row (length old) (layout.gutter + 3)) layout row es (λ k d within _ depth _. record {
       below = omega arith;
       there = (rows k d within).mark;
       right = omega arith;
@@ -49,7 +49,7 @@ DrawsFrom-connectors layout row es old rows =
 pub KeepsBarCells-connectors : (layout : Layout) (row : ℕ) (es : List PlacedEntry) (old : List (List Cell))
     → KeepsBarCells layout old (painted (connectors_of layout row es) old)
 KeepsBarCells-connectors layout row es old =
-    KeepsBarCells-painted layout (connectors_of layout row es) old (each_line (IsBarCellWrite layout.decor) layout row es (λ k d within depth _.
+    KeepsBarCells-painted layout (connectors_of layout row es) old (each_line (IsBarCellWrite layout.decor) layout row es (λ k d within _ depth _.
     All-replicate (λ ch. IsBarCell layout.decor (unlinked_cell (stroke_role (get_or es k d)) ch)) _ _ (connector_bar_cell layout (get_or es k d))))
 
 -- where all entries stand for whole spans there are none
@@ -123,7 +123,7 @@ pub DrawsFrom-stems : (layout : Layout) (row from : ℕ) (es : List PlacedEntry)
 DrawsFrom-stems layout row from es old rows stand =
     let P : ℕ → Type 0 = λ ch. is_listed ch ≡ false in
     DrawsFrom-painted row from (stems_of layout row es) old
-    (each_stem_cell (IsWithin row (length old) from) layout row es (λ k d within below glyph low among. record {
+    (each_stem_cell (IsWithin row (length old) from) layout row es (λ k d within _ below glyph low among. record {
       below = omega arith;
       there = omega (arith, (rows k d within).mark, low);
       right = stand k d within;
@@ -136,7 +136,7 @@ pub stem_count : (layout : Layout) (row : ℕ) (e : PlacedEntry) (rows : List (L
     → length (painted (stem_of layout row e) rows) ≡ length rows
 stem_count layout row e rows has =
     let n = length rows in
-    painted-count (stem_of layout row e) rows n refl (each_cell_of_stem (λ w. w.row < n) layout row e (λ below glyph low _. omega (arith, has.mark, low)))
+    painted-count (stem_of layout row e) rows n refl (each_cell_of_stem (λ w. w.row < n) layout row e (λ _ below glyph low _. omega (arith, has.mark, low)))
 
 -- the stems from one entry on are its own, unless the next one's covers it, and those of the later ones
 pub stems_next : (layout : Layout) (row : ℕ) (e : PlacedEntry) (later : List PlacedEntry) (old new : List (List Cell)) → is_stem_covered e later ≡ false
@@ -155,7 +155,7 @@ pub stems_start : (layout : Layout) (row : ℕ) (es : List PlacedEntry) (rows : 
 stems_start layout row es rows r c beside before =
     let M : Cell → Type 0 = λ cell. is_mark_role cell.role ≡ false in
     let Q : Write → Type 0 = λ w. Reaches r c w → M (cell_of_write w c) in
-    painted-cell M (stems_of layout row es) rows r c before (each_stem_cell Q layout row es (λ k d within _ _ _ _ there.
+    painted-cell M (stems_of layout row es) rows r c before (each_stem_cell Q layout row es (λ k d within _ _ _ _ _ there.
     absurd (beside k d within (omega (arith, there.from, there.to)))))
 
 -- where no entry has a stem nothing is written

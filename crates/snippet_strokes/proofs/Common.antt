@@ -20,7 +20,7 @@ pub use Rattle.snippet_labels.proofs.PlacedLemmas.{line_positions-changed, look_
 pub use Rattle.snippet_labels.proofs.RowLemmas.{sorted_same, stable_same}
 pub use Rattle.snippet_labels.specs.PlacedEntries.{shifted, label_role, is_end_part, entry_width}
 pub use Rattle.snippet_labels.specs.Pieces.{LabelPieces, beside_column, broken, label_at, label_pieces, label_width, pieces_width, shows_any}
-pub use Rattle.snippet_labels.specs.Pieces.{text_pieces}
+pub use Rattle.snippet_labels.specs.Pieces.{stands_last, text_pieces}
 pub use Rattle.snippet_labels.specs.Placing.{ArePlaced, HasPlace, HasItsLabel, unplaced, IsFromRight, StandsLeft}
 pub use Rattle.snippet_labels.specs.Positions.{has_label, has_stem, label_place, pieces_of, is_start_part, takes_space, placed_of, line_positions, do_overlap}
 pub use Rattle.snippet_labels.specs.Positions.{position_at}
@@ -99,6 +99,7 @@ pub use Rattle.snippet_text.proofs.WidthBounds.{char_width-bound, width_of-chars
 pub use Rattle.snippet_text.specs.Normalized.{is_listed, shown}
 unfoldable pub use Rattle.snippet_text.specs.Normalized.{norm}
 pub use Rattle.snippet_text.specs.Width.{width_of}
+unfoldable pub use Rattle.snippet_text.proofs.WidthLemmas.{unicode_width}
 unfoldable pub use Rattle.snippet_text.specs.Width.{char_width}
 pub use Rattle.snippet_window.proofs.LineWindowLemmas.{reaching-none, uncovered_short, part_short, fitting_all, reaching-cons, width-cons}
 pub use Rattle.snippet_window.proofs.NearLemmas.{part_of_norm}

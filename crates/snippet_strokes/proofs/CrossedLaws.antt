@@ -31,11 +31,11 @@ module _ (layout : Layout) (depth : ℕ) (some : 0 < depth) (room : layout.gutte
   strokes_clear count placed order begun r others before =
       let Clear : Write → Type 0 = λ w. Reaches r cell w → NoBar (cell_of_write w cell) in
       painted-cell NoBar (drawn_strokes layout 0 count placed order) begun r cell before (each_stroke Clear layout 0 count placed order
-      (each_line Clear layout 1 placed (λ k d within deep _. glyphs_leave NoBar r cell _ _ _ _ (stroke_role (get_or placed k d))
+      (each_line Clear layout 1 placed (λ k d within _ deep _. glyphs_leave NoBar r cell _ _ _ _ (stroke_role (get_or placed k d))
       (inr (is_primary (get_or placed k d).entry.kind, refl))))
       (each_corner Clear layout 0 count placed (λ k d within deep _ _ at _ _ _ _ there.
       absurd (apart_at deep depth (get_or placed k d).entry.annotation_type at (others k d within) (omega (arith, there.from, there.to)))))
-      (each_stem_cell Clear layout 1 placed (λ k d within _ _ _ _ there. absurd (omega (arith, there.from, room))))
+      (each_stem_cell Clear layout 1 placed (λ k d within _ _ _ _ _ there. absurd (omega (arith, there.from, room))))
       (each_label Clear layout 1 placed (λ k d within _ _ _ there. absurd (omega (arith, there.from, room))))
       (each_mark Clear layout 1 order (λ k d within _ _ _ right _ _ there. absurd (omega (arith, right, there.from, room)))))
 

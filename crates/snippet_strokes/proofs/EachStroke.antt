@@ -6,7 +6,7 @@ use Rattle.snippet_strokes.proofs.Common.{length-range_with_len, Cell, unlinked_
 use Rattle.snippet_strokes.proofs.Common.{MultilineStart, MultilineEnd, MultilineLine, Layout, PlacedEntry, foot_glyph, is_primary, stroke_role, has_label}
 use Rattle.snippet_strokes.proofs.Common.{has_stem, HasBarCellAt, Write, glyph_at, stretch_of, column_of, connector_of, corner_of, stem_of, label_of}
 use Rattle.snippet_strokes.proofs.Common.{connectors_of, corners_of, stems_of, labels_of, is_stem_covered, first_glyph, mark_end, bars_among, stem_glyphs}
-use Rattle.snippet_strokes.proofs.Common.{stroke_glyphs, rules}
+use Rattle.snippet_strokes.proofs.Common.{stroke_glyphs, rules, takes_space, cases_Bool, inl, inr}
 use Rattle.snippet_strokes.proofs.CellLemmas.{corner_by, drawn_mark, drawn_strokes, line_to, marks_of, stem_write}
 use Rattle.snippet_strokes.proofs.PieceWrites.{All-label_of, label_write}
 use Rattle.snippet_strokes.proofs.Reach.{Reaches, cell_of_write}
@@ -68,16 +68,17 @@ module _ (Q : Write → Type 0) (layout : Layout) where
   each_stretch row from to glyph role holds = search (rules, nat_tests)
 
   -- of the line to the bar of an entry at each depth
-  pub each_line : (row : ℕ) (es : List PlacedEntry) → All (λ e. (depth : ℕ) → layout.gutter + 3 + depth < layout.code + e.entry.start.display
+  pub each_line : (row : ℕ) (es : List PlacedEntry)
+      → All (λ e. takes_space e ≡ true → (depth : ℕ) → layout.gutter + 3 + depth < layout.code + e.entry.start.display
       → Q (glyphs_at (row + e.position) (layout.gutter + 3 + depth) (layout.code + e.entry.start.display - (layout.gutter + 3 + depth))
       (strokes_of layout.decor (is_primary e.entry.kind)).connector (stroke_role e))) es → All Q (connectors_of layout row es)
   each_line row es holds =
       All-flat_map Q (connector_of layout row) es (λ k d within.
       let e : PlacedEntry = get_or es k d in
-      of_entry e (λ depth. each_stretch (row + e.position) (layout.gutter + 3 + depth) (layout.code + e.entry.start.display)
-      (strokes_of layout.decor (is_primary e.entry.kind)).connector (stroke_role e) (holds k d within depth)))
+      of_entry e (λ takes depth. each_stretch (row + e.position) (layout.gutter + 3 + depth) (layout.code + e.entry.start.display)
+      (strokes_of layout.decor (is_primary e.entry.kind)).connector (stroke_role e) (holds k d within takes depth)))
     where
-      of_entry : (e : PlacedEntry) → ((depth : ℕ) → All Q (line_to layout row e depth)) → All Q (connector_of layout row e)
+      of_entry : (e : PlacedEntry) → (takes_space e ≡ true → (depth : ℕ) → All Q (line_to layout row e depth)) → All Q (connector_of layout row e)
       of_entry e each = search rules
 
   -- of each glyph of an entry's bar and its corner, which stand in rows from the source row on: in it itself only an end's
@@ -110,23 +111,27 @@ module _ (Q : Write → Type 0) (layout : Layout) where
       by_part e (MultilineLine depth) holds = All-nil Q
 
   -- of each cell of a stem
-  pub each_cell_of_stem : (row : ℕ) (e : PlacedEntry) → ((below glyph : ℕ) → below ≤ e.position → IsAmong (stem_glyphs layout.decor) glyph
+  pub each_cell_of_stem : (row : ℕ) (e : PlacedEntry)
+      → (has_stem e ≡ true → (below glyph : ℕ) → below ≤ e.position → IsAmong (stem_glyphs layout.decor) glyph
       → Q (glyph_at (row + below) (layout.code + e.entry.start.display) glyph (stroke_role e))) → All Q (stem_of layout row e)
   each_cell_of_stem row e holds =
       let among = stems_among layout.decor (is_primary e.entry.kind) in
-      elim (has_stem e) as (λ b. All Q (cond b (map (stem_write layout row e) (range_with_len 0 (e.position + 1))) [])) [
-        | true ↦ All-map Q (stem_write layout row e) (range_with_len 0 (e.position + 1)) (λ k d within.
+      elim (cases_Bool (has_stem e)) [
+        | inl stem ↦ subst (All Q) (sym (ap (λ b. cond b (map (stem_write layout row e) (range_with_len 0 (e.position + 1))) []) stem))
+            (All-map Q (stem_write layout row e) (range_with_len 0 (e.position + 1)) (λ k d within.
             let inside : k < e.position + 1 = omega (arith, within, length-range_with_len 0 (e.position + 1)) in
-            subst (λ n. Q (stem_write layout row e n)) (sym (get_or-range_with_len 0 (e.position + 1) k d inside)) (holds (0 + k) _ (omega (arith, inside))
+            subst (λ n. Q (stem_write layout row e n)) (sym (get_or-range_with_len 0 (e.position + 1) k d inside))
+            (holds stem (0 + k) _ (omega (arith, inside))
             (elim (0 + k == e.position) as (λ b. IsAmong (stem_glyphs layout.decor) (cond b (foot_glyph layout.decor e)
             (strokes_of layout.decor (is_primary e.entry.kind)).stem)) [
               | true ↦ of_foot (IsAmong (stem_glyphs layout.decor)) e.entry.annotation_type layout.decor (is_primary e.entry.kind) (has_label e) among
               | false ↦ among.stem
-            ])))
-        | false ↦ All-nil Q
+            ]))))
+        | inr none ↦ subst (All Q) (sym (ap (λ b. cond b (map (stem_write layout row e) (range_with_len 0 (e.position + 1))) []) none)) (All-nil Q)
       ]
 
-  pub each_stem_cell : (row : ℕ) (es : List PlacedEntry) → All (λ e. (below glyph : ℕ) → below ≤ e.position → IsAmong (stem_glyphs layout.decor) glyph
+  pub each_stem_cell : (row : ℕ) (es : List PlacedEntry)
+      → All (λ e. has_stem e ≡ true → (below glyph : ℕ) → below ≤ e.position → IsAmong (stem_glyphs layout.decor) glyph
       → Q (glyph_at (row + below) (layout.code + e.entry.start.display) glyph (stroke_role e))) es → All Q (stems_of layout row es)
   each_stem_cell row [] holds = All-nil Q
   each_stem_cell row (e ∷ later) holds =

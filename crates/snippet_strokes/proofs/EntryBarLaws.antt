@@ -128,7 +128,7 @@ module _ (layout : Layout) (bar : Bar) (room : layout.gutter + 2 + bar.depth < l
             (All-append L (flat_map f after ++ stems ++ labels) marks (All-append L (flat_map f after ++ stems) labels (All-append L (flat_map f after) stems
             (each_corner L layout 0 count after (λ k d within depth _ _ has _ _ _ _ there.
             apart_at depth bar.depth (get_or after k d).entry.annotation_type has (others k d within) (omega (arith, there.from, there.to))))
-            (each_stem_cell L layout 1 placed (λ k d within _ _ _ _ there. omega (arith, there.from, room))))
+            (each_stem_cell L layout 1 placed (λ k d within _ _ _ _ _ there. omega (arith, there.from, room))))
             (each_label L layout 1 placed (λ k d within _ _ _ there. omega (arith, there.from, room))))
             (each_mark L layout 1 order (λ k d within _ _ _ right _ _ there. omega (arith, right, there.from, room)))),
       )

@@ -12,6 +12,8 @@ use Rattle.snippet_strokes.proofs.Common.{label_at}
 use Rattle.snippet_labels.specs.Positions.{pieces_of}
 use Rattle.snippet_strokes.proofs.Common.{◌==◌}
 use Rattle.snippet_labels.specs.Positions.{blocks}
+use Rattle.snippet_strokes.proofs.Common.{false≢true, takes_space}
+use Rattle.std.proofs.lemmas.List.{get_or_default}
 
 -- a position is no lower than the one reached, and so no lower than those before it
 at_least : (p : ℕ) (e : PlacedEntry) (others : List PlacedEntry) → p ≤ position_at p e others
@@ -31,7 +33,7 @@ positions_from p (e ∷ others) =
     omega (arith, here, after, is)) (positions (position_after q e others) others) (positions_from (position_after q e others) others))
 
 -- a test that no element passes
-any_false : {X : Type 0} (p : X → Bool) (xs : List X) → list_any p xs ≡ false → All (λ x. p x ≡ false) xs
+pub any_false : {X : Type 0} (p : X → Bool) (xs : List X) → list_any p xs ≡ false → All (λ x. p x ≡ false) xs
 any_false p [] none = All-nil (λ x. p x ≡ false)
 any_false p (x ∷ xs) none =
     All-cons (λ y. p y ≡ false) x xs (left (p x) (list_any p xs) none) (any_false p xs (right (p x) (list_any p xs) none))
@@ -125,15 +127,23 @@ clear_left e f uncrossed place left = search rules
 
 clear_right : (e f : PlacedEntry) → crowds 0 f e ≡ false → has_label e ≡ true → e.entry.start.display ≤ f.entry.start.display → IsClear e f
 clear_right e f uncrowded has left = record {
-  clear = by_parts (blocks f e) (has_label e) (has_label f) f.entry.start.display f.entry.end.display e.entry.start.display e.entry.end.display
+  clear = by_parts (blocks f e) (has_label e) e.label.last (has_label f) f.entry.start.display f.entry.end.display e.entry.start.display e.entry.end.display
       e.entry.end.char f.entry.end.char (label_width e.label + 2) uncrowded has left;
 }
   where
-    by_parts : (block own other : Bool) (fs fe es ee ec fc more : ℕ)
-        → (block || ((own && ((nat_le fs es && nat_lt es fe) || (nat_le es fs && nat_lt fs (ee + more))))
+    by_parts : (block own last other : Bool) (fs fe es ee ec fc more : ℕ)
+        → (block || ((own && (last || ((nat_le fs es && nat_lt es fe) || (nat_le es fs && nat_lt fs (ee + more)))))
         && (other || ((0 == 0) && (nat_lt ee fe || (ee == fe && nat_le ec fc)))))) ≡ false
         → own ≡ true → es ≤ fs → (fe ≤ ee) ⊎ (ee + more ≤ fs)
-    by_parts block own other fs fe es ee ec fc more is has left = grind (arith, nat_tests)
+    by_parts block own last other fs fe es ee ec fc more is has left = grind (arith, nat_tests)
+
+-- nor, where nothing may stand right of the label, does one that starts there
+last_right : (e f : PlacedEntry) → crowds 0 f e ≡ false → has_label e ≡ true → e.label.last ≡ true → f.entry.end.display ≤ e.entry.end.display
+last_right e f uncrowded has last = search (rules, nat_tests)
+
+-- what has a label, or a line to its bar, is crowded by a label right of which nothing may stand
+last_crowds : (p : ℕ) (e f : PlacedEntry) → has_label f ≡ true → f.label.last ≡ true → (has_label e || takes_space e) ≡ true → crowds p e f ≡ true
+last_crowds p e f has last asks = search rules
 
 mark_end_le : (f : PlacedEntry) → mark_end f ≤ f.entry.end.display + 1
 mark_end_le f = search rules
@@ -168,11 +178,54 @@ all_clear layout given es i d placed places within has zero_here j d2 fits =
             subst (IsClear (get_or es i d)) (sym same) (record { clear = inl (omega arith) })
       ]
     ]
+
+-- what stands right of a label that nothing may stand right of hangs above it, with all pieces of its own
+pub far_above : (layout : Layout) (given : List LineAnnotation) (es : List PlacedEntry) (i j : ℕ) (d d2 : PlacedEntry) → ArePlaced layout given es
+    → i < j → j < length es → has_label (get_or es j d2) ≡ true → (get_or es j d2).label.last ≡ true
+    → (has_label (get_or es i d) || takes_space (get_or es i d)) ≡ true
+    → (get_or es i d).position + length (pieces_of (get_or es i d)) ≤ (get_or es j d2).position
+far_above layout given es i j d d2 placed before within has last asks =
+    let e : PlacedEntry = get_or es i d in
+    let f : PlacedEntry = get_or es j d2 in
+    let are = labelled_positions layout given es j d2 placed within has in
+    let at_e = position_of es i d are (omega (arith, before, within)) in
+    let at_f = position_of es j d2 are within in
+    elim (cases_lt f.position (e.position + length (pieces_of e))) [
+      | inl close ↦ absurd (false≢true (sym (uncrowded 0 es i j d d2 before within
+          (omega (arith, at_f, subst (λ p. f.position < p + length (label_at p e.label)) at_e close)))
+          ∙ last_crowds (get_or (positions 0 es) i 0) e f has last asks))
+      | inr far ↦ far
+    ]
+
+-- where nothing may stand right of a label in the row of the marks, no mark there ends farther right than its own
+pub all_left : (layout : Layout) (given : List LineAnnotation) (es : List PlacedEntry) (i : ℕ) (d : PlacedEntry) → ArePlaced layout given es
+    → All (λ e. HasPlace e.entry) es → i < length es → has_label (get_or es i d) ≡ true → (get_or es i d).label.last ≡ true
+    → (get_or es i d).position ≡ 0 → All (λ f. f.entry.end.display ≤ (get_or es i d).entry.end.display) es
+all_left layout given es i d placed places within has last zero_here j d2 fits =
+    let e : PlacedEntry = get_or es i d in
+    let f : PlacedEntry = get_or es j d2 in
+    let clear : IsClear e f = all_clear layout given es i d placed places within has zero_here j d2 fits in
+    elim (cases_lt j i) [
+      | inl right ↦
+          let are = labelled_positions layout given es i d placed within has in
+          let zero_there : get_or (positions 0 es) i 0 ≡ 0 = sym (position_of es i d are within) ∙ zero_here in
+          let low : get_or (positions 0 es) j 0 ≡ 0 = omega (arith, zero_there, ascending 0 es j i right within) in
+          last_right e f (subst (λ p. crowds p f e ≡ false) low
+          (uncrowded 0 es j i d2 d right within
+          (omega (arith, zero_there, low, labels_some_at layout given es placed (get_or (positions 0 es) j 0) j d2 fits)))) has last
+      | inr left ↦ elim clear.clear [
+        | inl ends ↦ ends
+        | inr starts ↦ omega (arith, starts, (places i d within).ordered, start_left left)
+      ]
+    ]
   where
-    get_or_default : (xs : List PlacedEntry) (k : ℕ) (a b : PlacedEntry) → k < length xs → get_or xs k a ≡ get_or xs k b
-    get_or_default [] k a b inside = absurd (omega (arith, inside))
-    get_or_default (x ∷ xs) zero a b inside = refl
-    get_or_default (x ∷ xs) (suc k) a b inside = get_or_default xs k a b (omega (arith, inside))
+    start_left : i ≤ j → (get_or es j d2).entry.start.display ≤ (get_or es i d).entry.start.display
+    start_left left = elim (cases_lt i j) [
+      | inl after ↦ stands_left layout given es i j d d2 placed after fits
+      | inr own ↦
+          let here : i ≡ j = omega (arith, left, own) in
+          omega (arith, ap (λ k. (get_or es k d2).entry.start.display) here, ap (λ (e : PlacedEntry). e.entry.start.display) (get_or_default es i d2 d within))
+    ]
 
 -- marks, painted later, leave each label as it stands
 pub labels_kept : (layout : Layout) (row : ℕ) (given : List LineAnnotation) (es : List PlacedEntry) (old new : List (List Cell))

@@ -8,7 +8,7 @@ use Rattle.snippet_strokes.proofs.Common.{IsStrokeCell, label_place, HasPlace, A
 use Rattle.snippet_strokes.proofs.Common.{inner_cell}
 use Rattle.snippet_strokes.proofs.Common.{IsBarCell, is_mark_role, closing_row, common_steps, rules}
 use Rattle.std.proofs.Common.{if◌then◌else◌}
-use Rattle.snippet_strokes.proofs.SeenLabels.{EndsBy, IsLedTo, IsShownBy, LabelsStand, PlacedLabel, StandsIn, is_cell_of}
+use Rattle.snippet_strokes.proofs.SeenLabels.{EndsBy, EndsRows, IsLedTo, IsShownBy, LabelsStand, PlacedLabel, StandsIn, is_cell_of}
 use Rattle.snippet_strokes.proofs.PaintedMarks.{StandsWhole}
 use Rattle.snippet_strokes.proofs.PieceWrites.{label_write}
 use Rattle.snippet_strokes.proofs.Reach.{Reaches}
@@ -21,7 +21,8 @@ use Rattle.snippet_strokes.proofs.RowLemmas.{bare_row_right, bare_row_short, fre
 use Rattle.snippet_labels.proofs.PieceLemmas.{label_pieces-nil, pieces_are}
 use Rattle.snippet_parts.proofs.PartLemmas.{All-unmapped}
 use Rattle.snippet_labels.specs.Positions.{pieces_of}
-use Rattle.snippet_strokes.proofs.PieceWrites.{label_shows}
+use Rattle.snippet_strokes.proofs.PieceWrites.{label_shows, piece_shows}
+use Rattle.snippet_strokes.proofs.Common.{LabelPieces, stands_last}
 
 -- ---- what a rule gives for things in another order
 
@@ -136,18 +137,19 @@ abbrev pub HasStrokesBeside : Layout → ℕ → List PlacedEntry → List (List
 HasStrokesBeside layout row placed rows =
     (r c : ℕ) → layout.code ≤ c → BesideLabels layout row (row + r) c placed → IsStrokeCell layout.decor (cell_at rows (row + r) c)
 
--- where the code begins before a cell, and all entries and their labels end by it, each row does
-abbrev pub EndWithin : Layout → List LineAnnotation → List PlacedEntry → List (List Cell) → Type 0
-EndWithin layout es placed rows =
-    (edge : ℕ) → layout.code < edge → All (EndsBy layout edge) es → All (λ e. IsShownBy edge (placed_label layout e)) placed → (r : ℕ)
-    → length (row_at rows r) ≤ edge
+-- where the code begins before a cell, and all entries and what is of their labels in a row end by it, the row does; and where nothing may stand
+-- right of a label its rows end with it
+pub record EndRows (layout : Layout) (es : List LineAnnotation) (placed : List PlacedEntry) (rows : List (List Cell)) : Type 0 where
+  pub within : (edge : ℕ) → layout.code < edge → All (EndsBy layout edge) es → (r : ℕ) → All (λ e. IsShownBy r edge (placed_label layout e)) placed
+      → length (row_at rows r) ≤ edge
+  pub last : All (λ e. e.label.last ≡ true → EndsRows rows (placed_label layout e)) placed
 
 -- labels that stand whole in the rows from `row` on stand so in those rows alone, for each entry as it is given
 pub LabelsStand-placed : (layout : Layout) (row : ℕ) (es : List LineAnnotation) (placed : List PlacedEntry) (rows below : List (List Cell))
     → ArePlaced layout es placed → All (λ (e : PlacedEntry). HasPlace e.entry) placed → All (StandsWhole layout row rows) placed
     → HasStrokesBeside layout row placed rows → All (IsHung layout row placed rows) placed
-    → ((r c : ℕ) → cell_at below r c ≡ cell_at rows (row + r) c) → EndWithin layout es placed below → LabelsStand layout es below
-LabelsStand-placed layout row es placed rows below is places stands beside hung same within =
+    → ((r c : ℕ) → cell_at below r c ≡ cell_at rows (row + r) c) → EndRows layout es placed below → LabelsStand layout es below
+LabelsStand-placed layout row es placed rows below is places stands beside hung same ends =
     let f : PlacedEntry → LineAnnotation = λ e. e.entry in
     let moved : Reordered f placed es = reordered f placed es (IsPermutation-sym es (map f placed) is.same) in
     let order : List PlacedEntry = moved.order in
@@ -194,9 +196,13 @@ LabelsStand-placed layout row es placed rows below is places stands beside hung 
           omega (arith, few, kept, count-map (is_cell_of r c) g order);
       others = λ r c right none.
           subst (IsStrokeCell layout.decor) (sym (same r c)) (beside r c right (beside_labels layout row r c placed (counted r c ∙ none)));
-      within = λ edge right end shown.
-          let S : PlacedEntry → Type 0 = λ e. IsShownBy edge (g e) in
-          within edge right end (All-permutation S order placed (IsPermutation-sym placed order moved.same) (All-unmapped (IsShownBy edge) g order shown));
+      within = λ edge right end r shown.
+          let S : PlacedEntry → Type 0 = λ e. IsShownBy r edge (g e) in
+          ends.within edge right end r
+          (All-permutation S order placed (IsPermutation-sym placed order moved.same) (All-unmapped (IsShownBy r edge) g order shown));
+      last = All-map (λ (l : PlacedLabel). stands_last layout (label_text l.entry) ≡ true → EndsRows below l) g order (λ k d within is_last.
+          All-permutation (λ e. e.label.last ≡ true → EndsRows below (g e)) placed order moved.same ends.last k d within
+          (ap (λ (label : LabelPieces). label.last) (has k d within) ∙ is_last));
     }
   where
     entries : (xs : List PlacedEntry) → map (λ (l : PlacedLabel). l.entry) (map (placed_label layout) xs) ≡ map (λ (e : PlacedEntry). e.entry) xs
@@ -224,7 +230,9 @@ LabelsStand-none layout es rows none blank short =
           no_cell r c (g (get_or es j d)).pieces (empty_pieces j d within)) in
           omega (arith, empty, count-map (is_cell_of r c) g es);
       others = λ r c right _. inl (blank r c right);
-      within = λ edge right _ _ r. omega (arith, short r, right);
+      within = λ edge right _ r _. omega (arith, short r, right);
+      last = All-map (λ (l : PlacedLabel). stands_last layout (label_text l.entry) ≡ true → EndsRows rows l) g es (λ k d within _ n some.
+          absurd (nothing k d within (piece_shows (g (get_or es k d)).pieces n some)));
     }
   where
     entries : (xs : List LineAnnotation)
@@ -263,7 +271,11 @@ LabelsStand-kept layout es old new is same short = record {
       (is.led k d within some r under above none);
   apart = is.apart;
   others = λ r c right none. subst (IsStrokeCell layout.decor) (sym (same r c right)) (is.others r c right none);
-  within = λ edge right end shown r. omega (arith, short r, is.within edge right end shown r, right);
+  within = λ edge right end r shown. omega (arith, short r, is.within edge right end r shown, right);
+  last = λ k d within is_last n some.
+      let l : PlacedLabel = get_or is.labels k d in
+      let stands : StandsIn layout old l = is.stand k d within (piece_shows l.pieces n some) in
+      omega (arith, short (l.row + n), is.last k d within is_last n some, right l stands.place 0);
 }
   where
     right : (l : PlacedLabel) → ((l.row ≡ 0) × (l.cell ≡ layout.code + max l.entry.end.display 1 + 1))

@@ -44,6 +44,7 @@ pub mod Reach
 pub mod ReadyLemmas
 pub mod RowEnds
 pub mod RowLemmas
+pub mod RowWidths
 pub mod SeenLabels
 pub mod SeenRows
 pub mod ShiftLemmas

@@ -3,10 +3,13 @@ use Rattle.snippet_strokes.proofs.Common.{◌≡◌, ℕ, ◌-◌, ◌==◌, Boo
 use Rattle.snippet_strokes.proofs.Common.{map, zip, Layout, LineAnnotation, PlacedEntry, Cell, placed_of, line_positions, look_counts, shifted, code_cell}
 use Rattle.snippet_strokes.proofs.PaintOrder.{IsPermutation-ordered_by}
 use Rattle.snippet_strokes.proofs.Common.{◌+◌, ◌++◌, All-map, bare_row, bars_apart, cut_middle, drop, ends_of_bars, fold, if◌then◌else◌, is_beside, list_all}
-use Rattle.snippet_strokes.proofs.Common.{painted, painting_order, replicate, row_count, separator_row, take, with_bars}
+use Rattle.snippet_strokes.proofs.Common.{painted, painting_order, replicate, row_count, separator_row, take, with_bars, ◌&&◌, nat_lt, list_any, sym}
+use Rattle.snippet_text.specs.Width.{char_width}
+use Rattle.std.proofs.Math.Bool.{and-false}
 use Rattle.snippet_strokes.specs.Strokes.{cut_pairs, line_strokes, stroke_rows}
 use Rattle.snippet_strokes.specs.LineRows.{line_rows, own_rows}
 use Rattle.snippet_strokes.specs.declared.bars.OpenBar.{OpenBar}
+use Rattle.snippet_labels.proofs.PieceLemmas.{LabelPieces-is}
 use Rattle.snippet_labels.specs.Pieces.{LabelPieces, beside_column, broken_in, label_of_entry, label_pieces, text_pieces}
 use Rattle.snippet_labels.specs.Positions.{is_placed_before}
 use Rattle.snippet_lines.specs.OrderedBy.{ordered_by}
@@ -20,14 +23,6 @@ with_cut cut layout = record layout { label_lines = cut }
 -- a label of one line
 abbrev pub IsPlainEntry : LineAnnotation → Type 0
 IsPlainEntry e = All (λ c. (c == 10) ≡ false) (normalized_chars e.label)
-
--- the rows of a line whose entries are placed so
-abbrev rows_with : Layout → ℕ → Bool → List Cell → List PlacedEntry → List (List Cell)
-rows_with layout room closes source placed =
-    let count = row_count placed in
-    let below = replicate (count - 1) (separator_row layout.decor layout.gutter) ++ bare_row layout.decor layout.gutter closes ∷ [] in
-    let whole = painted (line_strokes layout 0 (count + 1) placed (painting_order placed)) (source ∷ below) in
-    map (λ row. fold (cut_middle layout room) row (cut_pairs placed)) (take 2 whole) ++ drop 2 whole
 
 module _ (layout : Layout) (none : layout.label_end ≡ 0) (cut : Bool) where
   -- it has one piece, where none is broken
@@ -44,10 +39,11 @@ module _ (layout : Layout) (none : layout.label_end ≡ 0) (cut : Bool) where
   label_same : (e : LineAnnotation) → IsPlainEntry e → label_of_entry (with_cut cut layout) e ≡ label_of_entry (with_cut false layout) e
   label_same e plain =
       let text : List ℕ = normalized_chars e.label in
-      let whole : List (List ℕ) = text ∷ [] in
-      ap (λ x. record { beside = x; below = label_pieces (with_cut cut layout) (code_cell layout e.start.display) text })
-      (piece_sole (code_cell layout (beside_column e)) text plain)
-      ∙ ap (λ x. record { beside = whole; below = x }) (piece_sole (code_cell layout e.start.display) text plain)
+      let unbroken : nat_lt 0 layout.label_end ≡ false = ap (nat_lt 0) none in
+      let last : (b : Bool) → (b && (nat_lt 0 layout.label_end && list_any (λ c. nat_lt 1 (char_width c)) text)) ≡ false = λ b.
+      ap (λ long. b && (long && list_any (λ c. nat_lt 1 (char_width c)) text)) unbroken ∙ and-false b in
+      LabelPieces-is (label_of_entry (with_cut cut layout) e) (label_of_entry (with_cut false layout) e)
+      (piece_sole (code_cell layout (beside_column e)) text plain) (piece_sole (code_cell layout e.start.display) text plain) (last cut ∙ sym (last false))
 
   abbrev bare : Bool → LineAnnotation → PlacedEntry
   bare b e = record { entry = e; label = label_of_entry (with_cut b layout) e; position = 0; looked = 0 }
@@ -70,7 +66,15 @@ module _ (layout : Layout) (none : layout.label_end ≡ 0) (cut : Bool) where
   -- and its rows are the same
   rows_same : (room : ℕ) (closes : Bool) (es : List LineAnnotation) (source : List Cell) → All IsPlainEntry es
       → stroke_rows (with_cut cut layout) room closes es source ≡ stroke_rows (with_cut false layout) room closes es source
-  rows_same room closes es source plain = ap (rows_with (with_cut cut layout) room closes source) (placed_same es plain)
+  rows_same room closes es source plain = ap rows_with (placed_same es plain)
+    where
+      -- the rows of a line whose entries are placed so
+      rows_with : List PlacedEntry → List (List Cell)
+      rows_with placed =
+          let count = row_count placed in
+          let below = replicate (count - 1) (separator_row layout.decor layout.gutter) ++ bare_row layout.decor layout.gutter closes ∷ [] in
+          let whole = painted (line_strokes (with_cut cut layout) 0 (count + 1) placed (painting_order placed)) (source ∷ below) in
+          map (λ row. fold (cut_middle (with_cut cut layout) room) row (cut_pairs placed)) (take 2 whole) ++ drop 2 whole
 
   own_same : (room : ℕ) (closes : Bool) (text : List ℕ) (dropped : ℕ) (es : List LineAnnotation) (source : List Cell) → All IsPlainEntry es
       → own_rows (with_cut cut layout) room closes text dropped es source ≡ own_rows (with_cut false layout) room closes text dropped es source

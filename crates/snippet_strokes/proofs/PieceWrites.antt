@@ -137,14 +137,15 @@ label_shows e shows = of_either (e.position == 0) shows
         either true is = refl
         either false is = is
 
--- so has one of which a piece has a character
+-- pieces of which one has a character show something
+pub piece_shows : (ps : List (List ℕ)) (n : ℕ) → 0 < length (get_or ps n []) → shows_any ps ≡ true
+piece_shows [] n some = absurd (omega (arith, some))
+piece_shows (p ∷ ps) zero some = grind (arith, nat_tests, some)
+piece_shows (p ∷ ps) (suc n) some = grind (arith, piece_shows ps n some)
+
+-- so an entry of such pieces has a label
 pub has_piece : (e : PlacedEntry) (n : ℕ) → 0 < length (get_or (pieces_of e) n []) → has_label e ≡ true
-has_piece e n some = label_shows e (any (pieces_of e) n some)
-  where
-    any : (ps : List (List ℕ)) (n : ℕ) → 0 < length (get_or ps n []) → shows_any ps ≡ true
-    any [] n some = absurd (omega (arith, some))
-    any (p ∷ ps) zero some = grind (arith, nat_tests, some)
-    any (p ∷ ps) (suc n) some = grind (arith, any ps n some)
+has_piece e n some = label_shows e (piece_shows (pieces_of e) n some)
 
 -- a piece is one of those that the label has
 pub piece_within : (ps : List (List ℕ)) (n : ℕ) → 0 < length (get_or ps n []) → n < length ps
@@ -270,17 +271,21 @@ pieces_all : (P : ℕ → Type 0) (text : List ℕ) → All P text → All (All 
 pieces_all P [] all = All-cons (All P) [] [] (All-nil P) (All-nil (All P))
 pieces_all P (c ∷ cs) all = free_more P c cs (All-head P c cs all) (pieces_all P cs (All-tail P c cs all))
 
+pub pieces_hold : (P : ℕ → Type 0) (cut : Bool) (text : List ℕ) → All P text → All (All P) (text_pieces cut text)
+pieces_hold P true text all = pieces_all P text all
+pieces_hold P false text all = All-cons (All P) text [] all (All-nil (All P))
+
+-- what holds of each character of a label's text, and of line feeds, holds of each of its pieces
+pub label_pieces-all : (P : ℕ → Type 0) (layout : Layout) (cell : ℕ) (text : List ℕ) → P 10 → All P text → All (All P) (label_pieces layout cell text)
+label_pieces-all P layout cell text feed all = pieces_hold P layout.label_lines (broken layout cell text) (broken-all P layout cell text feed all)
+
 -- so it is with the pieces of labels
 pub labels_free : (layout : Layout) (es : List LineAnnotation) (placed : List PlacedEntry) → ArePlaced layout es placed
     → All (λ e. AreFree (pieces_of e)) placed
 labels_free layout es placed is k d within =
     let e : PlacedEntry = get_or placed k d in
-    subst AreFree (sym (own_pieces layout es placed is k d within)) (of_text layout.label_lines (shown_text layout e)
+    subst AreFree (sym (own_pieces layout es placed is k d within)) (pieces_hold (λ c. is_listed c ≡ false) layout.label_lines (shown_text layout e)
     (broken-all (λ c. is_listed c ≡ false) layout (code_cell layout (label_place e).1) (label_text e.entry) refl (free_label_text e.entry)))
-  where
-    of_text : (cut : Bool) (text : List ℕ) → All (λ c. is_listed c ≡ false) text → AreFree (text_pieces cut text)
-    of_text true text free = pieces_all (λ c. is_listed c ≡ false) text free
-    of_text false text free = All-cons (All (λ c. is_listed c ≡ false)) text [] free (All-nil (All (λ c. is_listed c ≡ false)))
 
 -- pieces in rows that are lowered
 pub pieces_at-lowered : (n row cell : ℕ) (role : ElementStyle) (ps : List (List ℕ))

@@ -2,7 +2,7 @@
 use Rattle.std.specs.Prelude.{ℕ, Bool, true, ◌+◌, ◌-◌, ◌<◌, ◌≤◌, ◌≡◌, ◌⊎◌, ◌&&◌, ◌||◌, nat_le, nat_lt, max, All, List}
 use Rattle.std.specs.Prelude.{[], count_by, length, map, slice_index_or}
 use Rattle.snippet_strokes.proofs.Common.{Cell, unlinked_cell, DecorStyle, cell_at, row_at, is_bar, LineAnnotation, Layout, code_cell, label_role, label_text}
-use Rattle.snippet_strokes.proofs.Common.{is_start_part, IsStrokeCell, IsStemCell, label_pieces, shows_any}
+use Rattle.snippet_strokes.proofs.Common.{is_start_part, IsStrokeCell, IsStemCell, label_pieces, shows_any, stands_last, width_of}
 
 -- the pieces of the label of an entry, and where it begins: in which row of a line's strokes, that of the marks first, and in which cell
 -- of it
@@ -34,13 +34,24 @@ pub record EndsBy (layout : Layout) (edge : ℕ) (e : LineAnnotation) : Type 0 w
   pub begins : code_cell layout e.start.display < edge
   pub ends : code_cell layout e.end.display ≤ edge
 
--- each piece of a label does, that has a character
-abbrev pub IsShownBy : ℕ → PlacedLabel → Type 0
-IsShownBy edge l = (n : ℕ) → 0 < length (slice_index_or l.pieces n []) → l.cell + length (slice_index_or l.pieces n []) ≤ edge
+-- each piece of a label in this row does, that has a character
+abbrev pub IsShownBy : ℕ → ℕ → PlacedLabel → Type 0
+IsShownBy r edge l =
+    (n : ℕ) → l.row + n ≡ r → 0 < length (slice_index_or l.pieces n []) → l.cell + length (slice_index_or l.pieces n []) ≤ edge
+
+-- each has room for its columns up to the cell
+abbrev pub HasPieceRoom : ℕ → PlacedLabel → Type 0
+HasPieceRoom edge l = (n : ℕ) → 0 < length (slice_index_or l.pieces n []) → l.cell + width_of (slice_index_or l.pieces n []) ≤ edge
+
+-- the rows in which a label stands end with it
+abbrev pub EndsRows : List (List Cell) → PlacedLabel → Type 0
+EndsRows rows l =
+    (n : ℕ) → 0 < length (slice_index_or l.pieces n []) → length (row_at rows (l.row + n)) ≤ l.cell + length (slice_index_or l.pieces n [])
 
 -- the labels of a line's entries stand in the rows of its strokes, one for each entry, in their order: each that shows anything
 -- stands whole, and a stem leads to it; no cell is one of two labels, and each that is of none is a space or a stroke's. Where the code
--- begins before a cell, and all entries and pieces of labels end by it, each row does
+-- begins before a cell, and all entries and the pieces of labels in a row end by it, the row does. Those of a label right of which nothing may
+-- stand end with it
 pub record LabelsStand (layout : Layout) (es : List LineAnnotation) (rows : List (List Cell)) : Type 0 where
   pub labels : List PlacedLabel
   pub are : map (λ (l : PlacedLabel). l.entry) labels ≡ es
@@ -49,7 +60,9 @@ pub record LabelsStand (layout : Layout) (es : List LineAnnotation) (rows : List
   pub led : All (λ l. shows_any l.pieces ≡ true → IsLedTo layout.decor labels rows l) labels
   pub apart : (r c : ℕ) → count_by (is_cell_of r c) labels ≤ 1
   pub others : (r c : ℕ) → layout.code ≤ c → count_by (is_cell_of r c) labels ≡ 0 → IsStrokeCell layout.decor (cell_at rows r c)
-  pub within : (edge : ℕ) → layout.code < edge → All (EndsBy layout edge) es → All (IsShownBy edge) labels → (r : ℕ) → length (row_at rows r) ≤ edge
+  pub within : (edge : ℕ) → layout.code < edge → All (EndsBy layout edge) es → (r : ℕ) → All (IsShownBy r edge) labels
+      → length (row_at rows r) ≤ edge
+  pub last : All (λ l. stands_last layout (label_text l.entry) ≡ true → EndsRows rows l) labels
 
 -- an entry has a label only where a span ends: the start of one of several lines, or a bar, has none
 abbrev pub IsLabelledAtEnd : LineAnnotation → Type 0

@@ -110,10 +110,10 @@ module _ (layout : Layout) (depth : ℕ) (room : layout.gutter + 2 + depth < lay
   untouched count placed order begun others =
       let Leaves : Write → Type 0 = λ w. Reaches 0 cell w → ⊥ in
       painted-untouched (drawn_strokes layout 0 count placed order) begun 0 cell (each_stroke Leaves layout 0 count placed order
-      (each_line Leaves layout 1 placed (λ k d within _ _ there. omega (arith, there.row)))
+      (each_line Leaves layout 1 placed (λ k d within _ _ _ there. omega (arith, there.row)))
       (each_corner Leaves layout 0 count placed (λ k d within deep _ _ _ _ ends _ _ there.
       let same : deep ≡ depth = omega (arith, there.from, there.to) in others k d within (ends there.row ∙ ap MultilineEnd same)))
-      (each_stem_cell Leaves layout 1 placed (λ k d within _ _ _ _ there. omega (arith, there.row)))
+      (each_stem_cell Leaves layout 1 placed (λ k d within _ _ _ _ _ there. omega (arith, there.row)))
       (each_label Leaves layout 1 placed (λ k d within _ _ _ there. omega (arith, there.row)))
       (each_mark Leaves layout 1 order (λ k d within _ _ _ _ _ _ there. omega (arith, there.row))))
 

@@ -103,10 +103,10 @@ module _ (layout : Layout) where
 
   -- all else stands below it
   connectors_below : (es : List PlacedEntry) → All IsBelow (connectors_of layout 1 es)
-  connectors_below es = each_line IsBelow layout 1 es (λ _ _ _ _ _. omega arith)
+  connectors_below es = each_line IsBelow layout 1 es (λ _ _ _ _ _ _. omega arith)
 
   stems_below : (es : List PlacedEntry) → All IsBelow (stems_of layout 1 es)
-  stems_below es = each_stem_cell IsBelow layout 1 es (λ _ _ _ _ _ _ _. omega arith)
+  stems_below es = each_stem_cell IsBelow layout 1 es (λ _ _ _ _ _ _ _ _. omega arith)
 
   labels_below : (es : List PlacedEntry) → All IsBelow (labels_of layout 1 es)
   labels_below es = each_label IsBelow layout 1 es (λ _ _ _ _ _ _. omega arith)

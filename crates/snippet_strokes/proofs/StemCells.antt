@@ -49,7 +49,7 @@ module _ (layout : Layout) (r c : ℕ) where
   -- each cell of a stem is one
   stem_leaves : (row : ℕ) (e : PlacedEntry) → All Q (stem_of layout row e)
   stem_leaves row e =
-      each_cell_of_stem Q layout row e (λ b glyph low among. glyphs_leave P r c (row + b) (layout.code + e.entry.start.display) 1 glyph (stroke_role e)
+      each_cell_of_stem Q layout row e (λ _ b glyph low among. glyphs_leave P r c (row + b) (layout.code + e.entry.start.display) 1 glyph (stroke_role e)
       (stem_cell layout.decor (is_primary e.entry.kind) glyph among))
 
   -- a stem that is drawn stands in each of its cells
@@ -126,9 +126,9 @@ strokes_inside : (layout : Layout) (count : ℕ) (placed order : List PlacedEntr
     → All (λ w. w.row < count) (drawn_strokes layout 0 count placed order)
 strokes_inside layout count placed order some rows =
     let Inside : Write → Type 0 = λ w. w.row < count in
-    each_stroke Inside layout 0 count placed order (each_line Inside layout 1 placed (λ k d within _ _. (rows k d within).mark))
+    each_stroke Inside layout 0 count placed order (each_line Inside layout 1 placed (λ k d within _ _ _. (rows k d within).mark))
     (each_corner Inside layout 0 count placed (λ k d within _ _ _ _ _ _ there _. omega (arith, there, (rows k d within).mark)))
-    (each_stem_cell Inside layout 1 placed (λ k d within _ _ low _. omega (arith, (rows k d within).mark, low)))
+    (each_stem_cell Inside layout 1 placed (λ k d within _ _ _ low _. omega (arith, (rows k d within).mark, low)))
     (each_label Inside layout 1 placed (λ k d within n inside some.
     omega (arith, (rows k d within).label (has_piece (get_or placed k d) n some), inside))) (each_mark Inside layout 1 order (λ _ _ _ _ _ _ _ _ _. some))
 
@@ -172,14 +172,12 @@ row_text-written cells at new = grind (arith, common_steps, map-replicate, lengt
 
 -- a text, which stands after as many columns, if lines are cut on the left, with the placeholder at their beginning, and with the
 -- placeholder over its end, from this cell on
-abbrev begun_with : List ℕ → Option ℕ → List ℕ → List ℕ
-begun_with placeholder start text = option_map_or (λ columns. cond (length text == 0) placeholder (written 32 placeholder columns text)) start text
-
 abbrev ended_with : List ℕ → Option ℕ → List ℕ → List ℕ
 ended_with placeholder end text = option_map_or (λ at. written 32 text at placeholder) end text
 
 row_text-begun : (decor : DecorStyle) (start : Option ℕ) (text : List ℕ)
-    → row_text (begun_cells decor start text) ≡ begun_with (placeholder_of decor) start text
+    → row_text (begun_cells decor start text)
+    ≡ option_map_or (λ columns. cond (length text == 0) (placeholder_of decor) (written 32 (placeholder_of decor) columns text)) start text
 row_text-begun decor None text = row_text-text_cells Quotation text
 row_text-begun decor (Some columns) [] = row_text-text_cells LineNumber (placeholder_of decor)
 row_text-begun decor (Some columns) (c ∷ cs) = grind (arith, row_text-written, row_text-text_cells, above_zero)

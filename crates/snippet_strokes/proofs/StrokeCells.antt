@@ -39,12 +39,12 @@ cell_of_strokes layout r c right row count placed order rows bar_cells before be
     let P : Cell → Type 0 = IsStrokeCell layout.decor in
     let Q : Write → Type 0 = λ w. Reaches r c w → P (cell_of_write w c) in
     painted-cell P (drawn_strokes layout row count placed order) rows r c before (each_stroke Q layout row count placed order
-    (each_line Q layout (row + 1) placed (λ k d within depth _. of_glyphs (get_or placed k d) _ _ _ _
+    (each_line Q layout (row + 1) placed (λ k d within _ depth _. of_glyphs (get_or placed k d) _ _ _ _
     (code_among layout.decor (is_primary (get_or placed k d).entry.kind)).connector))
     -- bars and corners stand left of the code
     (each_corner Q layout row count placed (λ k d within depth n glyph at _ _ _ _ there.
     let room = room_at layout depth (get_or placed k d).entry.annotation_type (bar_cells k d within) at in absurd (omega (arith, there.to, right, room.1))))
-    (each_stem_cell Q layout (row + 1) placed (λ k d within below glyph _ among. of_glyphs (get_or placed k d) _ _ 1 glyph (stem_among glyph among)))
+    (each_stem_cell Q layout (row + 1) placed (λ k d within _ below glyph _ among. of_glyphs (get_or placed k d) _ _ 1 glyph (stem_among glyph among)))
     (each_label Q layout (row + 1) placed (λ k d within n _ _ there. absurd (beside k d within n there)))
     (each_mark Q layout (row + 1) order (λ k d within cell n glyph _ _ among. of_glyphs (get_or order k d) _ cell n glyph among)))
   where

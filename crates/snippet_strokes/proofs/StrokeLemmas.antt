@@ -8,15 +8,15 @@ use Rattle.snippet_strokes.proofs.Common.{IsPermutation-map, IsPermutation-trans
 use Rattle.snippet_strokes.proofs.Common.{SPACE, text_cells, written, length-written, Layout, PlacedEntry, IsBarCell, is_mark_role}
 use Rattle.snippet_strokes.proofs.Common.{label_role, label_text, IsFreeCell, painting_order, painted, row_count, HasRows, has_label, has_stem, takes_space}
 use Rattle.snippet_strokes.proofs.Common.{bare_row, separator_row, is_uncut, mark_end, connectors_of, corners_of, labels_of, HasPlace, HasItsLabel, ArePlaced}
-use Rattle.snippet_strokes.proofs.Common.{HasBarCell, stems_of, entries_all, rules, All-permutation, inl, inr}
+use Rattle.snippet_strokes.proofs.Common.{HasBarCell, label_place, stems_of, entries_all, rules, All-permutation, inl, inr}
 use Rattle.snippet_strokes.proofs.SeenRows.{EntryCovers, are_plain, wide_entries, AreSeen, CutsRows, HasNoBars, IsCut, IsStrokeRow, ShowsMarks, first_piece}
 use Rattle.snippet_strokes.proofs.PaintedMarks.{IsPaintedAt, AreMarked, StandsWhole}
 use Rattle.snippet_strokes.proofs.DrawnCells.{DrawsFrom, DrawsBarCells, KeepsBarCells, MarksStarts, StandsFrom}
 use Rattle.snippet_strokes.proofs.DrawLemmas.{DrawsFrom-more, bar_space}
 use Rattle.snippet_strokes.proofs.CellLemmas.{drawn_strokes, marks_of}
-use Rattle.snippet_strokes.proofs.LabelPlaces.{EndWithin, HasStrokesBeside, LabelsStand-placed}
+use Rattle.snippet_strokes.proofs.LabelPlaces.{EndRows, HasStrokesBeside, LabelsStand-placed}
 use Rattle.snippet_strokes.proofs.PaintOrder.{IsPermutation-painting_order}
-use Rattle.snippet_strokes.proofs.RowEnds.{strokes-by}
+use Rattle.snippet_strokes.proofs.RowEnds.{row_ends, strokes-by}
 use Rattle.snippet_strokes.proofs.SeenLabels.{EndsBy}
 use Rattle.snippet_strokes.proofs.StrokeCells.{cell_of_strokes, AreMarked-marks, labels_stand}
 use Rattle.snippet_strokes.proofs.StemCells.{IsHung, all_hung}
@@ -378,24 +378,42 @@ module _ (layout : Layout) (room : ℕ) (closes : Bool) (es : List LineAnnotatio
         | inr none ↦ omega (arith, ap (λ (cells : List Cell). length cells) (get_or_past begun (row + k) [] (omega (arith, none, long_begun))))
       ]
 
-  -- so none goes past a cell by which all entries and their labels end
-  rows_end : (marks_now : List Cell) → marks_now ≡ row_at new row → EndWithin layout es placed (marks_now ∷ lower)
-  rows_end marks_now uncut edge right end shown r =
-      omega (arith, ap (λ (cells : List Cell). length cells) (same r), each)
-    where
-      same : (r : ℕ) → row_at (marks_now ∷ lower) r ≡ row_at new (row + r)
-      same zero = uncut ∙ ap (row_at new) (let here : row ≡ row + 0 = omega arith in here)
-      same (suc k) = lower_at k
+  -- so none goes past a cell by which all entries and their labels end, and none past the end of a label right of which nothing may stand
+  module _ (marks_now : List Cell) (uncut : marks_now ≡ row_at new row) where
+    same_row : (r : ℕ) → row_at (marks_now ∷ lower) r ≡ row_at new (row + r)
+    same_row zero = uncut ∙ ap (row_at new) (let here : row ≡ row + 0 = omega arith in here)
+    same_row (suc k) = lower_at k
 
-      each : length (row_at new (row + r)) ≤ edge
-      each =
-          let order : List PlacedEntry = painting_order placed in
+    by_strokes : (r edge : ℕ)
+        → length (row_at (painted (drawn_strokes layout (length above_rows) (length begun) placed (painting_order placed)) begun) (row + r)) ≤ edge
+        → length (row_at (marks_now ∷ lower) r) ≤ edge
+    by_strokes r edge short =
+        omega (
+          arith,
+          ap (λ (cells : List Cell). length cells) (same_row r),
+          ap (λ (rows : List (List Cell)). length (row_at rows (row + r))) new_is,
+          short,
+        )
+
+    rows_end : EndRows layout es placed (marks_now ∷ lower)
+    rows_end = record {
+      within = λ edge right end r shown.
           let E : PlacedEntry → Type 0 = λ e. EndsBy layout edge e.entry in
           let end_placed : All E placed = entries_all (EndsBy layout edge) es placed is.same end in
-          let end_order : All E order = All-permutation E placed order (IsPermutation-painting_order placed) end_placed in
-          subst (λ (rows : List (List Cell)). length (row_at rows (row + r)) ≤ edge) (sym new_is)
-          (strokes-by layout edge right (length above_rows) (length begun) placed order begun bar_cells end_placed end_order shown (row + r)
-          (omega (arith, begun_short r, right)))
+          let end_order : All E (painting_order placed) = All-permutation E placed (painting_order placed) (IsPermutation-painting_order placed) end_placed in
+          by_strokes r edge (strokes-by layout edge right (length above_rows) (length begun) placed (painting_order placed) begun bar_cells end_placed end_order
+          (row + r) (λ k d within n some there. shown k d within n (omega (arith, there)) some) (omega (arith, begun_short r, right)));
+      last = λ k d within is_last n some.
+          let e : PlacedEntry = get_or placed k d in
+          let at : length above_rows + 1 + (label_place e).0 + n ≡ row + ((label_place e).0 + n) = omega arith in
+          by_strokes ((label_place e).0 + n) (layout.code + (label_place e).1 + length (get_or (pieces_of e) n []))
+          (subst (λ i. length (row_at (painted (drawn_strokes layout (length above_rows) (length begun) placed (painting_order placed)) begun) i)
+          ≤ layout.code + (label_place e).1 + length (get_or (pieces_of e) n [])) at
+          (row_ends layout (length above_rows) es placed (painting_order placed) is places bar_cells (IsPermutation-painting_order placed) k d within is_last n
+          some (length begun) begun
+          (subst (λ i. length (row_at begun i) ≤ layout.code + (label_place e).1 + length (get_or (pieces_of e) n [])) (sym at)
+          (omega (arith, begun_short ((label_place e).0 + n))))));
+    }
 
   -- what is seen of the rows, once those of the source and of the marks are cut where entries are wide
   pub strokes_seen : (rows : List (List Cell))

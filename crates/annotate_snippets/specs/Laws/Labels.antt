@@ -4,9 +4,11 @@ use Rattle.std.specs.Prelude.{map}
 use Rattle.std.specs.Cow.{cow_str_bytes}
 use Rattle.std.specs.List.{count_by, slice_index_or, slice_split}
 use Rattle.snippet_grid.specs.Grid.{cell_at}
+use Rattle.snippet_grid.specs.Print.{row_text}
 use Rattle.snippet_style.specs.Cell.{Cell, unlinked_cell}
 use Rattle.snippet_style.specs.declared.glyphs.DecorStyle.{DecorStyle}
 use Rattle.snippet_text.specs.Normalized.{normalized_chars}
+use Rattle.snippet_text.specs.Width.{width_of}
 use Rattle.snippet_model.specs.declared.snippet.Snippet.{Snippet}
 use Rattle.snippet_model.specs.declared.snippet.Annotation.{Annotation}
 use Rattle.snippet_model.specs.declared.snippet.AnnotationKind.{AnnotationKind}
@@ -16,7 +18,7 @@ use Rattle.snippet_parts.specs.Mark.{is_marked_on, start_column, end_column}
 use Rattle.snippet_parts.specs.Marked.{first_line}
 use Rattle.snippet_labels.specs.Pieces.{label_pieces, shows_any}
 use Rattle.snippet_shown.specs.Letters.{letters_of}
-use Rattle.snippet_shown.specs.WrapLaws.{AreRowsWithin, IsRewrapped, columns_of}
+use Rattle.snippet_shown.specs.WrapLaws.{AreRowsWithin, IsRewrapped}
 use Rattle.snippet_labels.specs.PlacedEntries.{label_role}
 use Rattle.snippet_strokes.specs.Labels.{IsStemCell, IsStrokeCell}
 use Rattle.snippet_grid.specs.Layout.{Layout, code_cell}
@@ -77,11 +79,6 @@ pub record IsBroken (layout : Layout) (l : ShownLabel) : Type 0 where
   pub kept : IsRewrapped (layout.label_end - l.cell) (letters_of false l.label.text) (letters_of false text)
   pub fits : AreRowsWithin false (layout.label_end - l.cell) (pieces_shown layout l)
 
--- a label has room for 20 columns, and its pieces have no more cells than columns, as where each of its characters takes one at least
-pub record HasRoom (layout : Layout) (l : ShownLabel) : Type 0 where
-  pub room : l.cell + 20 ≤ layout.label_end
-  pub cells : All (λ piece. length piece ≤ columns_of (letters_of false piece)) (pieces_shown layout l)
-
 -- what stands below line k beside labels has its place left of where these are to end: the code begins before that cell, and so does each span of
 -- several lines that begins on the line; and each span that ends on the line ends there or before
 pub record MarksHaveRoom (layout : Layout) (s : Snippet Annotation) (k dropped : ℕ) : Type 0 where
@@ -99,7 +96,8 @@ HasStem decor layout labels rows l =
 -- no label of line k is lost: of the spans that end on it, each that has a label to show has it in the rows below the line, whole, and
 -- a stem leads to it; no cell belongs to two labels, so that two of the same words stand twice; each cell of these rows that belongs to none,
 -- from the code's on, is a space or the glyph of a stroke, so that no other word stands there; where labels are cut each that has room for
--- 20 columns is broken for it; and if all have, and the marks have room too, no row below the line goes past where labels are to end
+-- 20 columns is broken for it; and if all have, and the marks have room too, no row below the line has more columns than there are up to where
+-- labels are to end
 pub record ShowsLabels (decor : DecorStyle) (layout : Layout) (s : Snippet Annotation) (k dropped : ℕ) (rows : List (List Cell)) : Type 0 where
   pub labels : List ShownLabel
   pub spans : map (λ (l : ShownLabel). l.label) labels ≡ labels_ending_on s k
@@ -108,5 +106,6 @@ pub record ShowsLabels (decor : DecorStyle) (layout : Layout) (s : Snippet Annot
   pub apart : (r c : ℕ) → count_by (is_in_label layout r c) labels ≤ 1
   pub others : (r c : ℕ) → layout.code ≤ c → count_by (is_in_label layout r c) labels ≡ 0 → IsStrokeCell decor (cell_at rows r c)
   pub broken : layout.label_lines ≡ true → All (λ l. l.cell + 20 ≤ layout.label_end → IsBroken layout l) labels
-  pub within : layout.label_lines ≡ true → MarksHaveRoom layout s k dropped → All (λ l. shows_any (pieces_shown layout l) ≡ true → HasRoom layout l) labels
-      → All (λ row. length row ≤ layout.label_end) rows
+  pub within : layout.label_lines ≡ true → MarksHaveRoom layout s k dropped
+      → All (λ l. shows_any (pieces_shown layout l) ≡ true → l.cell + 20 ≤ layout.label_end) labels
+      → All (λ row. width_of (row_text row) ≤ layout.label_end) rows

@@ -1,6 +1,6 @@
-use Rattle.snippet_labels.proofs.Common.{◌≡◌, ◌∙◌, ◌∷◌, [], ℕ, List, ap, chars-nil, option_copied, sym, LabelPieces, label_pieces, beside_column, code_cell}
-use Rattle.snippet_labels.proofs.Common.{normalized_chars}
-use Rattle.snippet_labels.proofs.PieceLemmas.{label_pieces-nil}
+use Rattle.snippet_labels.proofs.Common.{◌≡◌, ◌∙◌, ◌∷◌, [], ◌&&◌, ℕ, List, Bool, true, false, ap, chars-nil, nat_lt, option_copied, refl, sym, label_of_entry}
+use Rattle.snippet_labels.proofs.Common.{beside_column, code_cell, label_pieces, normalized_chars, stands_last}
+use Rattle.snippet_labels.proofs.PieceLemmas.{LabelPieces-is, label_pieces-nil}
 use Rattle.snippet_labels.proofs.labelled.cut_label.Goals as goal
 
 -- a label of no text
@@ -11,11 +11,16 @@ returns-in_default c =
     let none : normalized_chars e.label ≡ [] = ap normalized_chars (sym c.text.ensures.value ∙ ap option_copied c.in_default.is) in
     let empty : (cell : ℕ) → [] ∷ [] ≡ label_pieces layout cell (normalized_chars e.label) = λ cell.
     sym (ap (label_pieces layout cell) none ∙ label_pieces-nil layout cell) in
+    let last : false ≡ stands_last layout (normalized_chars e.label) =
+    sym (ap (stands_last layout) none ∙ no_wide layout.label_lines (nat_lt 0 layout.label_end)) in
     record {
-      value = both c.whole.result (c.whole.ensures.beside ∙ ap (λ (cs : List ℕ). cs ∷ []) chars-nil ∙ empty (code_cell layout (beside_column e)))
-          (c.whole.ensures.below ∙ ap (λ (cs : List ℕ). cs ∷ []) chars-nil ∙ empty (code_cell layout e.start.display));
+      value = LabelPieces-is c.whole.result (label_of_entry layout e)
+          (c.whole.ensures.beside ∙ ap (λ (cs : List ℕ). cs ∷ []) chars-nil ∙ empty (code_cell layout (beside_column e)))
+          (c.whole.ensures.below ∙ ap (λ (cs : List ℕ). cs ∷ []) chars-nil ∙ empty (code_cell layout e.start.display))
+          (c.whole.ensures.last ∙ last);
     }
   where
-    both : (label : LabelPieces) {a b : List (List ℕ)} → label.beside ≡ a → label.below ≡ b → label ≡ record { beside = a; below = b }
-    both label {a} {b} first second =
-        ap (λ x. record { beside = x; below = label.below }) first ∙ ap (λ x. record { beside = a; below = x }) second
+    no_wide : (a b : Bool) → (a && (b && false)) ≡ false
+    no_wide true true = refl
+    no_wide true false = refl
+    no_wide false b = refl

@@ -1,4 +1,4 @@
-use Rattle.snippet_labels.proofs.Common.{◌≡◌, ◌∙◌, ◌∷◌, [], ℕ, List, arith, ap, chars, encodes-chars, label_width, length, pieces_width, subst, sym}
+use Rattle.snippet_labels.proofs.Common.{◌≡◌, ◌∙◌, ◌∷◌, [], false, ℕ, List, arith, ap, chars, encodes-chars, label_width, length, pieces_width, subst, sym}
 use Rattle.snippet_labels.proofs.PieceLemmas.{pieces_width-one}
 use Rattle.snippet_labels.specs.LabelSize.{AreSized, pieces_in}
 use Rattle.std.specs.Cow.{cow_str_bytes}
@@ -10,8 +10,8 @@ pub invariant_of-result : goal.invariant_of-result
 invariant_of-result c =
     let text : List ℕ = c.as_str-width.result.now in
     let one : pieces_width (chars text ∷ []) ≡ length text = pieces_width-one (chars text) ∙ ap length (encodes-chars text c.as_str-width.utf8) in
-    let long : length text ≡ label_width (record { beside = chars text ∷ []; below = chars text ∷ [] }) = omega (arith, one) in
-    let whole : List ℕ → ℕ = λ bytes. label_width (record { beside = chars bytes ∷ []; below = chars bytes ∷ [] }) in
+    let long : length text ≡ label_width (record { beside = chars text ∷ []; below = chars text ∷ []; last = false }) = omega (arith, one) in
+    let whole : List ℕ → ℕ = λ bytes. label_width (record { beside = chars bytes ∷ []; below = chars bytes ∷ []; last = false }) in
     elim c.match-text.branch [
       | in-Borrowed w ↦ record {
         texts = subst AreSized (sym w.text-is) (cc);
