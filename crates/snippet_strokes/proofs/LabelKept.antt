@@ -108,7 +108,7 @@ position_of es k d are within =
     sym (get_or-map (λ (e : PlacedEntry). e.position) es k d 0 within) ∙ ap (λ ps. get_or ps k 0) are
 
 -- a later entry starts no farther right
-pub stands_left : (layout : Layout) (given : List LineAnnotation) (es : List PlacedEntry) (i j : ℕ) (d d2 : PlacedEntry) → ArePlaced layout given es → i < j
+pub stands_left : (layout : Layout) (given : List LineAnnotation) (es : List PlacedEntry) (i j : ℕ) (d d2 : PlacedEntry) → ArePlaced layout given es → i ≤ j
     → j < length es → (get_or es j d2).entry.start.display ≤ (get_or es i d).entry.start.display
 stands_left layout given es i j d d2 placed before within =
     let f : PlacedEntry → LineAnnotation = λ e. e.entry in
@@ -164,14 +164,14 @@ all_clear layout given es i d placed places within has zero_here j d2 fits =
     let zero_there : get_or (positions 0 es) i 0 ≡ 0 = sym (position_of es i d are within) ∙ zero_here in
     elim (cases_lt i j) [
       | inl left ↦ clear_left (get_or es i d) (get_or es j d2) (uncrossed 0 es i j d d2 left fits zero_there has) (places i d within)
-          (stands_left layout given es i j d d2 placed left fits)
+          (stands_left layout given es i j d d2 placed (omega (arith, left)) fits)
       | inr not_left ↦ elim (cases_lt j i) [
         | inl right ↦
             let low : get_or (positions 0 es) j 0 ≡ 0 = omega (arith, zero_there, ascending 0 es j i right within) in
             clear_right (get_or es i d) (get_or es j d2) (subst (λ p. crowds p (get_or es j d2) (get_or es i d) ≡ false) low
             (uncrowded 0 es j i d2 d right within
             (omega (arith, zero_there, low, labels_some_at layout given es placed (get_or (positions 0 es) j 0) j d2 fits)))) has
-            (stands_left layout given es j i d2 d placed right within)
+            (stands_left layout given es j i d2 d placed (omega (arith, right)) within)
         | inr not_right ↦
             let own : j ≡ i = omega (arith, not_left, not_right) in
             let same : get_or es j d2 ≡ get_or es i d = ap (λ k. get_or es k d2) own ∙ get_or_default es i d2 d within in
@@ -215,16 +215,8 @@ all_left layout given es i d placed places within has last zero_here j d2 fits =
           (omega (arith, zero_there, low, labels_some_at layout given es placed (get_or (positions 0 es) j 0) j d2 fits)))) has last
       | inr left ↦ elim clear.clear [
         | inl ends ↦ ends
-        | inr starts ↦ omega (arith, starts, (places i d within).ordered, start_left left)
+        | inr starts ↦ omega (arith, starts, (places i d within).ordered, stands_left layout given es i j d d2 placed left fits)
       ]
-    ]
-  where
-    start_left : i ≤ j → (get_or es j d2).entry.start.display ≤ (get_or es i d).entry.start.display
-    start_left left = elim (cases_lt i j) [
-      | inl after ↦ stands_left layout given es i j d d2 placed after fits
-      | inr own ↦
-          let here : i ≡ j = omega (arith, left, own) in
-          omega (arith, ap (λ k. (get_or es k d2).entry.start.display) here, ap (λ (e : PlacedEntry). e.entry.start.display) (get_or_default es i d2 d within))
     ]
 
 -- marks, painted later, leave each label as it stands

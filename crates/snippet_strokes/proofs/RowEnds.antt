@@ -9,6 +9,7 @@ use Rattle.snippet_strokes.proofs.CellLemmas.{drawn_strokes, written_by}
 use Rattle.snippet_strokes.proofs.EachStroke.{each_corner, each_label, each_line, each_mark, each_stem_cell, each_stroke, room_at}
 use Rattle.snippet_strokes.proofs.LabelKept.{all_left, far_above, label_parts, labelled_positions, position_of, stands_left, uncrowded}
 use Rattle.snippet_strokes.proofs.PieceWrites.{has_piece, label_chars_le, label_write, labels_some, piece_within}
+use Rattle.snippet_strokes.proofs.PositionLemmas.{label_column}
 use Rattle.snippet_strokes.proofs.SeenLabels.{EndsBy}
 use Rattle.snippet_strokes.proofs.StrokeCells.{uncrowded_apart}
 use Rattle.snippet_labels.specs.Positions.{pieces_of}
@@ -90,10 +91,7 @@ module _ (layout : Layout) (row : ℕ) (given : List LineAnnotation) (placed ord
 
   -- its label begins no farther left than its mark
   start_of_label : own.entry.start.display ≤ (label_place own).1
-  start_of_label = elim (label_parts own) [
-    | inl at ↦ omega (arith, at.from, (places k d inside).ordered)
-    | inr at ↦ omega (arith, at.column)
-  ]
+  start_of_label = (label_column own (places k d inside)).0
 
   -- what stands right of it and asks for a row hangs above it
   above : (i : ℕ) (x : PlacedEntry) → i < k → (has_label (get_or placed i x) || takes_space (get_or placed i x)) ≡ true
@@ -103,16 +101,7 @@ module _ (layout : Layout) (row : ℕ) (given : List LineAnnotation) (placed ord
 
   -- what stands left of it begins there
   starts_left : (i : ℕ) (x : PlacedEntry) → k ≤ i → i < length placed → (get_or placed i x).entry.start.display ≤ own.entry.start.display
-  starts_left i x after within = elim (cases_lt k i) [
-    | inl left ↦ stands_left layout given placed k i d x is left within
-    | inr here ↦
-        let at : i ≡ k = omega (arith, after, here) in
-        omega (
-          arith,
-          ap (λ j. (get_or placed j x).entry.start.display) at,
-          ap (λ (e : PlacedEntry). e.entry.start.display) (get_or_default placed k x d inside),
-        )
-  ]
+  starts_left i x after within = stands_left layout given placed k i d x is after within
 
   -- the rows of the label, if it hangs
   hangs : 0 < own.position → (label_place own).0 ≡ own.position + 1
@@ -148,7 +137,7 @@ module _ (layout : Layout) (row : ℕ) (given : List LineAnnotation) (placed ord
               let are = labelled_positions layout given placed k d is inside has in
               let at_own = position_of placed k d are inside in
               let at_e = position_of placed i x are within in
-              let starts = stands_left layout given placed k i d x is left within in
+              let starts = starts_left i x (omega (arith, left)) within in
               elim (cases_lt e.position (own.position + length (pieces_of own))) [
                 | inl close ↦
                     let crowded = uncrowded 0 placed k i d x left within

@@ -110,7 +110,8 @@ placed_apart layout row given es i j d d2 placed places before within n m r c he
     let at_e = position_of es i d are inside in
     let at_f = position_of es j d2 are within in
     labels_apart layout row e f n m (places i d inside) (places j d2 within) (piece_within (pieces_of e) n some_e)
-    has (has_piece f m some_f) (stands_left layout given es i j d d2 placed before within) (omega (arith, at_e, at_f, ascending 0 es i j before within))
+    has (has_piece f m some_f) (stands_left layout given es i j d d2 placed (omega (arith, before)) within)
+    (omega (arith, at_e, at_f, ascending 0 es i j before within))
     (λ close. subst (λ p. crowds p e f ≡ false) (sym at_e) (uncrowded 0 es i j d d2 before within
     (omega (arith, at_f, subst (λ p. f.position < p + length (label_at p e.label)) at_e close)))) r c here there
 
