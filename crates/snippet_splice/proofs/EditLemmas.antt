@@ -1,8 +1,9 @@
 -- Laws of trimmed edits and of the patched source.
-use Rattle.snippet_splice.proofs.Common.{◌≡◌, ℕ, ◌+◌, ◌-◌, ◌≤◌, ◌&&◌, ltb, leb, Option, Some, None, List, [], ◌∷◌, ◌++◌, length, map, take, drop, refl, sym}
+use Rattle.snippet_splice.proofs.Common.{◌≡◌, ℕ, ◌+◌, ◌-◌, ◌≤◌, Option, Some, None, List, [], ◌∷◌, ◌++◌, length, map, take, drop, refl, sym}
 use Rattle.snippet_splice.proofs.Common.{ap, ◌∙◌, arith, append_assoc, length-take-le, length-drop, take-append-drop, take-take, drop-drop, drop-take}
 use Rattle.snippet_splice.proofs.Common.{cond_both, and_parts, leb-true, slice_range, sandwich, Edit, shrunk, trimmed_edit, edited_from, AreApart}
 use Rattle.snippet_splice.proofs.Common.{IsSandwiched, rules}
+use Rattle.snippet_splice.proofs.Common.{common_steps}
 use Rattle.snippet_splice.proofs.TrimLemmas.{sandwich-sandwiched}
 
 -- ---- parts of a list
@@ -42,11 +43,7 @@ shrunk-by source e a m b ordered within h = grind (arith, length-take-le, length
 -- a trimmed edit is the edit made smaller, where that doesn't end before it starts
 pub trimmed_edit-shrunk : (source : List ℕ) (e : Edit) → e.start ≤ e.end → IsShrunk source e (trimmed_edit source e)
 unfolding trimmed_edit
-trimmed_edit-shrunk source e ordered =
-    cond_both (ltb 0 (length e.text) && leb e.end (length source)) (shrunk e (sandwich (slice_range source e.start e.end) e.text)) e (IsShrunk source e)
-    (λ t. kept (sandwich (slice_range source e.start e.end) e.text)
-    (leb-true e.end (length source) (and_parts (ltb 0 (length e.text)) (leb e.end (length source)) t).1) refl)
-    (λ f. unchanged source e ordered)
+trimmed_edit-shrunk source e ordered = grind (arith, common_steps, cond_both, kept, leb-true, and_parts, unchanged)
   where
     kept : (r : Option (ℕ × List ℕ × ℕ)) → e.end ≤ length source → sandwich (slice_range source e.start e.end) e.text ≡ r → IsShrunk source e (shrunk e r)
     kept None within is = unchanged source e ordered
@@ -78,18 +75,7 @@ pub edited_from-trimmed : (source : List ℕ) (at : ℕ) (es : List Edit) → Ar
     → edited_from source at (map (trimmed_edit source) es) ≡ edited_from source at es
 edited_from-trimmed source at [] apart = refl
 edited_from-trimmed source at (e ∷ es) apart =
-    let t : Edit = trimmed_edit source e in
-    let h : IsShrunk source e t = trimmed_edit-shrunk source e apart.1 in
-    let rest : List ℕ = edited_from source e.end es in
-    let later : edited_from source t.end (map (trimmed_edit source) es) ≡ slice_range source t.end e.end ++ rest =
-    edited_from-earlier source t.end e.end (map (trimmed_edit source) es) h.end (trimmed-apart source e.end es apart.2)
-    ∙ ap (λ l. slice_range source t.end e.end ++ l) (edited_from-trimmed source e.end es apart.2) in
-    let x : List ℕ = slice_range source at e.start in
-    let y : List ℕ = slice_range source e.start t.start in
-    let z : List ℕ = slice_range source t.end e.end in
-    ap (λ l. slice_range source at t.start ++ (t.text ++ l)) later ∙ ap (λ l.
-    l ++ (t.text ++ (z ++ rest))) (slice_split source at e.start t.start apart.0 h.start) ∙ regroup x y t.text z rest
-    ∙ ap (λ l. x ++ (l ++ rest)) (sym h.text)
+    grind (arith, common_steps, trimmed_edit-shrunk, edited_from-earlier, trimmed-apart, slice_split, regroup, edited_from-trimmed source e.end es apart.2)
   where
     regroup : (x y m z rest : List ℕ) → (x ++ y) ++ (m ++ (z ++ rest)) ≡ x ++ ((y ++ (m ++ z)) ++ rest)
     regroup x y m z rest = simp append_assoc

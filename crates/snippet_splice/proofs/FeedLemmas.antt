@@ -2,7 +2,7 @@
 use Rattle.snippet_splice.proofs.Common.{◌≡◌, ℕ, zero, suc, ◌+◌, ◌-◌, ◌<◌, ◌≤◌, Bool, eqb, List, [], ◌∷◌, ◌++◌, length, map, take, drop, refl, sym, ap, ◌∙◌}
 use Rattle.snippet_splice.proofs.Common.{arith, and_parts, cond_both, eqb-true, ltb-true, take-append-drop, sum_by-cons, sum_by_more, take-add, slice_range}
 use Rattle.snippet_splice.proofs.Common.{sum_by, lines_of, source_lines, start_of, last_byte, newline_count, put_in, IsLine-at, length-lines_of}
-use Rattle.snippet_splice.proofs.Common.{length-source_lines, start_of-zero, line_of-within, start_of-inside, copied, end_from, in_text, written_from, Edit}
+use Rattle.snippet_splice.proofs.Common.{length-source_lines, start_of-zero, line_of-within, start_of-inside, end_from, in_text, written_from, Edit}
 use Rattle.snippet_splice.proofs.Common.{in_order, precedes, trimmed_edit, trimmed_edits, closes_line, first_start, shown_rest, shown_start, shown_text}
 use Rattle.snippet_splice.proofs.Common.{without_final_line_feeds, shown_line, AreApart, rules, common_steps}
 use Rattle.snippet_splice.proofs.EditLemmas.{trimmed_edit-shrunk}
@@ -39,11 +39,9 @@ in_text-feeds source b inside = grind (arith, cond_both, and_parts, ltb-true, eq
 start-inside : (source : List ℕ) (k : ℕ) → k < length (source_lines source) → start_of (source_lines source) k ≤ text_end source
 start-inside source zero within = omega (arith, start_of-zero (source_lines source))
 start-inside source (suc k) within =
+    let all = cond_both (eqb (last_byte source) 10) (length source - 1) (length source) (λ n. length source ≤ n + 1) (λ _. omega arith) (λ _. omega arith) in
     let next : k + 1 ≡ suc k = omega arith in
-    let short : start_of (source_lines source) (k + 1) < length source = start_of-inside source k (omega (arith, within)) in
-    let all : length source ≤ text_end source + 1 = cond_both (eqb (last_byte source) 10) (length source - 1) (length source) (λ n.
-    length source ≤ n + 1) (λ _. omega arith) (λ _. omega arith) in
-    omega (arith, ap (start_of (source_lines source)) next, short, all)
+    omega (arith, ap (start_of (source_lines source)) next, start_of-inside source k (omega (arith, within)), all)
 
 shown_start-inside : (fold : Bool) (source : List ℕ) (first : ℕ) → shown_start fold source first ≤ text_end source
 shown_start-inside fold source first = grind (arith, cond_both, start-inside, line_of-within)
@@ -74,21 +72,10 @@ written-feeds : (source : List ℕ) (at : ℕ) (ts : List Edit) → AreApart at 
 written-feeds source at [] apart = omega arith
 written-feeds source at (t ∷ ts) apart =
     let rest : List ℕ = written_from source t.end ts in
-    let between : feeds (copied source at t.start) ≡ feeds (slice_range source (in_text source at) (in_text source t.start)) = count-with_line_feeds
-    (slice_range source (in_text source at) (in_text source t.start)) in
+    let between = count-with_line_feeds (slice_range source (in_text source at) (in_text source t.start)) in
     let before = feeds-between source (in_text source at) (in_text source t.start) (in_text-mono source at t.start apart.0) in
     let under = feeds-between source (in_text source t.start) (in_text source t.end) (in_text-mono source t.start t.end apart.1) in
-    omega (
-      arith,
-      between,
-      before,
-      under,
-      written-feeds source t.end ts apart.2,
-      feeds-append (copied source at t.start)
-          (t.text ++ rest),
-      feeds-append t.text rest,
-      sum_by-cons (λ d. feeds d.text) t ts,
-    )
+    omega (arith, between, before, under, written-feeds source t.end ts apart.2, feeds-append, sum_by-cons)
 
 -- what is shown of the rest has no more than the rest
 rest-feeds : (fold closed : Bool) (rest : List ℕ) → feeds (shown_rest fold closed rest) ≤ feeds rest
@@ -113,23 +100,10 @@ shown-bound fold source es apart =
     let rest : List ℕ = shown_rest fold (closes_line ts) (drop end source) in
     let zero_less : s - 0 ≡ s = omega arith in
     let before : feeds (take s source) ≡ shown_line fold source es = ap (λ n. feeds (take n source)) (sym zero_less) ∙ feeds-shown fold source es in
-    let to : feeds (take end source) ≡ feeds (take (in_text source end) source) + feeds (slice_range source (in_text source end) end) = feeds-between source
-    (in_text source end) end (in_text-le source end) in
+    let to = feeds-between source (in_text source end) end (in_text-le source end) in
     let after : feeds (take end source) + feeds (drop end source) ≡ feeds source = feeds-after source end in
     let texts : text_feeds ts ≤ text_feeds es = omega (arith, text_feeds-trimmed source 0 (in_order es) apart, text_feeds-in_order es) in
     let all : length (lines_of (without_final_line_feeds (w ++ rest))) ≤ feeds w + feeds rest + 1 = omega
     (arith, lines-feeds (without_final_line_feeds (w ++ rest)), final-feeds (w ++ rest), feeds-append w rest) in
     let from : feeds (take s source) ≤ feeds (take (in_text source s) source) = in_text-feeds source s (shown_start-inside fold source first) in
-    omega (
-      arith,
-      before,
-      from,
-      written-feeds source s ts (shown-apart fold source es apart),
-      to,
-      after,
-      texts,
-      all,
-      rest-feeds fold (closes_line ts)
-          (drop end source),
-      feeds-source source,
-    )
+    omega (arith, written-feeds source s ts (shown-apart fold source es apart), rest-feeds fold (closes_line ts) (drop end source), feeds-source source)

@@ -2,7 +2,7 @@
 use Rattle.snippet_splice.proofs.Common.{◌≡◌, ◌≢◌, ℕ, zero, suc, ◌+◌, ◌-◌, ◌<◌, ◌⊎◌, inl, inr, Bool, true, false, cond, eqb, List, [], ◌∷◌, ◌++◌, All, length}
 use Rattle.snippet_splice.proofs.Common.{take, drop, get_or, refl, sym, ap, subst, ◌∙◌, ⊎_elim, arith, append_assoc, append-nil, length-append, length-map}
 use Rattle.snippet_splice.proofs.Common.{length-take-le, take_at, drop_at, map-append, get_or-take, get_or-drop, All-nil, All-cons, All-same, All-head}
-use Rattle.snippet_splice.proofs.Common.{All-tail, All-take, All-drop, All-append, cases_Bool, cond-true, cond-false, eqb-true, eqb-false, slice_range}
+use Rattle.snippet_splice.proofs.Common.{All-tail, All-take, All-drop, All-append, cases_Bool, eqb-true, eqb-false, slice_range}
 use Rattle.snippet_splice.proofs.Common.{EndLine, Eof, Lf, Crlf, Line, line_bytes, end_bytes, joined, lines_of, with_first_byte, source_lines, start_of}
 use Rattle.snippet_splice.proofs.Common.{last_byte, is_lf, AreLines, AreLinesOf-source_lines, lines_of-append, lines_of-joined, last_byte-cons}
 use Rattle.snippet_splice.proofs.Common.{line_of-within, Edit, precedes, in_order, edited_from, patched, first_start, shown_start, unless_lone_line_feed}
@@ -26,11 +26,8 @@ first-texts x y z = search rules
 texts-lines_of : (xs : List ℕ) → HasNoCr xs → texts_of (lines_of xs) ≡ texts xs
 texts-lines_of [] none = refl
 texts-lines_of (b ∷ bs) none =
-    let more : texts_of (lines_of bs) ≡ texts bs = texts-lines_of bs (All-tail (λ c. c ≢ 13) b bs none) in
-    ⊎_elim (λ t. ap texts_of (cond-true {A = List Line} (eqb b 10) (([], Lf) ∷ lines_of bs) (with_first_byte b (lines_of bs)) t) ∙ ap (λ ts. [] ∷ ts) more
-    ∙ sym (cond-true (is_lf b) ([] ∷ texts bs) (in_first b (texts bs)) t))
-    (λ f. ap texts_of (cond-false {A = List Line} (eqb b 10) (([], Lf) ∷ lines_of bs) (with_first_byte b (lines_of bs)) f)
-    ∙ first-texts b (lines_of bs) (none 0 0 (omega arith)) ∙ ap (in_first b) more ∙ sym (cond-false (is_lf b) ([] ∷ texts bs) (in_first b (texts bs)) f))
+    let more = texts-lines_of bs (All-tail (λ c. c ≢ 13) b bs none) in
+    ⊎_elim (λ t. rw t (ap (λ ts. [] ∷ ts) more)) (λ f. rw f (first-texts b (lines_of bs) (none 0 0 (omega arith)) ∙ ap (in_first b) more))
     (cases_Bool (eqb b 10))
 
 -- a text that no LF ends is some whole lines where an LF follows
@@ -50,17 +47,15 @@ pub record Shortens (xs ws : List ℕ) : Type 0 where
 
 Shortens-cons : (b : ℕ) (bs ws : List ℕ) → Shortens bs ws → Shortens (b ∷ bs) (unless_lone_line_feed b ws)
 Shortens-cons b bs [] h =
-    ⊎_elim (λ t. subst (Shortens (b ∷ bs)) (sym (cond-true (is_lf b) [] (b ∷ []) t))
-    (record {
+    ⊎_elim (λ t. rw t (record {
       tail = b ∷ bs;
       whole = refl;
       stops = inr (bs, ap (λ c. c ∷ bs) (eqb-true b 10 t));
-      feeds =
-          All-cons (λ c. c ≡ 10) b bs (eqb-true b 10 t) (All-same (λ c. c ≡ 10) bs h.tail h.whole h.feeds);
+      feeds = All-cons (λ c. c ≡ 10) b bs (eqb-true b 10 t) (All-same (λ c. c ≡ 10) bs h.tail h.whole h.feeds);
       unclosed = inl refl;
     }))
-    (λ f. subst (Shortens (b ∷ bs)) (sym (cond-false (is_lf b) [] (b ∷ []) f))
-    (record { tail = h.tail; whole = ap (λ l. b ∷ l) h.whole; stops = h.stops; feeds = h.feeds; unclosed = inr (eqb-false b 10 f) })) (cases_Bool (is_lf b))
+    (λ f. rw f (record { tail = h.tail; whole = ap (λ l. b ∷ l) h.whole; stops = h.stops; feeds = h.feeds; unclosed = inr (eqb-false b 10 f) }))
+    (cases_Bool (is_lf b))
 Shortens-cons b bs (c ∷ cs) h = search rules
 
 -- a text without its final line feeds is a shorter one
@@ -113,13 +108,11 @@ pub record IsLinesFront (front : List ℕ) (k : ℕ) : Type 0 where
 lines-front : (source : List ℕ) (k : ℕ) → k < length (source_lines source) → IsLinesFront (take (start_of (source_lines source) k) source) k
 lines-front source k within =
     let ls : List Line = source_lines source in
-    subst (λ f. IsLinesFront f k) (sym (front-lines source k)) (⊎_elim
-    (λ one. let e : k ≡ 0 = omega (arith, ap length one) in
-    subst (λ n. IsLinesFront (joined (take n ls)) n) (sym e) (record { closed = λ some. absurd (omega arith); count = refl }))
+    rw (front-lines source k) (⊎_elim
+    (λ one. let e : k ≡ 0 = omega (arith, ap length one) in rw e (record { closed = λ some. absurd (omega arith); count = refl }))
     (λ (some, are). record {
       closed = closed-joined ls k are within;
-      count = ap length (lines_of-joined (take k ls) (AreLines-take ls k are))
-          ∙ length-take-le k ls (omega arith);
+      count = ap length (lines_of-joined (take k ls) (AreLines-take ls k are)) ∙ length-take-le k ls (omega arith);
     })
     (AreLinesOf-source_lines source).lines)
 
@@ -176,14 +169,12 @@ AreFrom-shown fold source es none texts_none h =
     let (z, joint, stops) = after-shown h.part ws h.rest short h.stops in
     let clean_ws : HasNoCr ws = HasNoCr-left ws z (subst HasNoCr joint clean_back) in
     let (more, cut) = texts-front ws z stops short.unclosed in
-    let front : IsLinesFront h.front (shown_line fold source es) = subst (λ f.
-    IsLinesFront f (shown_line fold source es)) (sym h.before) (shown-front fold source es) in
+    let front : IsLinesFront h.front (shown_line fold source es) = rw h.before (shown-front fold source es) in
     let back : texts_of (lines_of (h.part ++ h.rest)) ≡ texts_of (lines_of ws) ++ more = texts-lines_of (h.part ++ h.rest) clean_back ∙ ap texts joint ∙ cut
     ∙ ap (λ ts. ts ++ more) (sym (texts-lines_of ws clean_ws)) in
     let all : texts_of (lines_of d) ≡ texts_of (lines_of h.front) ++ (texts_of (lines_of ws) ++ more) =
     ap (λ t. texts_of (lines_of t)) h.whole ∙ ap texts_of (lines_of-append h.front (h.part ++ h.rest) front.closed)
     ∙ map-append (λ l. l.0) (lines_of h.front) (lines_of (h.part ++ h.rest)) ∙ ap (λ ts. texts_of (lines_of h.front) ++ ts) back in
     AreFrom-source d (shown_line fold source es) (texts_of (lines_of ws))
-    (subst (AreFrom (shown_line fold source es) (texts_of (lines_of ws))) (sym all)
-    (AreFrom-append (texts_of (lines_of h.front)) (texts_of (lines_of ws)) more (shown_line fold source es)
+    (rw all (AreFrom-append (texts_of (lines_of h.front)) (texts_of (lines_of ws)) more (shown_line fold source es)
     (length-map (lines_of h.front) (λ l. l.0) ∙ front.count)))

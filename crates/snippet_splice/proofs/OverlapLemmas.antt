@@ -3,6 +3,7 @@ use Rattle.snippet_splice.proofs.Common.{◌≡◌, ℕ, zero, suc, ◌+◌, ◌
 use Rattle.snippet_splice.proofs.Common.{get_or, All, IfSome, IfNone, sym, ap, subst, ◌∙◌, ⊎_elim, arith, refl, position_from, option_map, option_or}
 use Rattle.snippet_splice.proofs.Common.{get_or-map, length-map, All-from_get_or, All-cons, All-head, All-tail, All-map, cases_Bool, cond-true, cond-false}
 use Rattle.snippet_splice.proofs.Common.{ltb-false, false_from_ne_true, Patch, IsSpan, Edit, edit_of, precedes, in_order, put_in, overlap, first_overlap_from}
+use Rattle.snippet_splice.proofs.Common.{common_steps}
 use Rattle.snippet_splice.proofs.Common.{first_overlap, overlap_at, no_edit, AreDisjoint, AreOverlapping, IsFirstOverlap, AreApart, rules}
 
 -- the edit at a place is that of the patch there
@@ -27,10 +28,7 @@ far : (es : List Edit) → ((k : ℕ) → k + 1 < length es → (get_or es k no_
     → ((k : ℕ) → k < length es → (get_or es k no_edit).start ≤ (get_or es k no_edit).end) → (m d : ℕ) → m + d + 1 < length es
     → (get_or es m no_edit).end ≤ (get_or es (m + d + 1) no_edit).start
 far es steps ordered m zero within = search rules
-far es steps ordered m (suc d) within =
-    let e : m + d + 1 + 1 ≡ m + suc d + 1 = omega arith in
-    subst (λ n. (get_or es m no_edit).end ≤ (get_or es n no_edit).start) e
-    (omega (arith, far es steps ordered m d (omega arith), ordered (m + d + 1) (omega arith), steps (m + d + 1) (omega arith)))
+far es steps ordered m (suc d) within = grind (arith, common_steps, far es steps ordered m d (omega arith))
 
 disjoint-in_order : (es : List Edit) → ((k : ℕ) → k + 1 < length es → (get_or es k no_edit).end ≤ (get_or es (k + 1) no_edit).start)
     → ((k : ℕ) → k < length es → (get_or es k no_edit).start ≤ (get_or es k no_edit).end) → AreDisjoint es
@@ -68,18 +66,16 @@ put-apart at e (d ∷ ds) low ordered apart clear =
 pub apart-in_order : (es : List Edit) → All (λ e. e.start ≤ e.end) es → AreDisjoint es → AreApart 0 (in_order es)
 apart-in_order [] ordered disjoint = tt
 apart-in_order (e ∷ es) ordered disjoint =
-    let rest : AreApart 0 (in_order es) = apart-in_order es (λ k d within. ordered (suc k) d (omega arith)) (λ m n low high.
-    disjoint (suc m) (suc n) (omega arith) (omega arith)) in
+    let rest = apart-in_order es (λ k d within. ordered (suc k) d (omega arith)) (λ m n low high. disjoint (suc m) (suc n) (omega arith) (omega arith)) in
     put-apart 0 e (in_order es) (omega arith) (ordered 0 e (omega arith)) rest
     (clear-in_order es (All-from_get_or (ClearOf e) es no_edit (λ k within. disjoint 0 (suc k) (omega arith) (omega arith))))
   where
     clear-put : (d : Edit) (ds : List Edit) → ClearOf e d → All (ClearOf e) ds → All (ClearOf e) (put_in precedes d ds)
     clear-put d [] here all = All-cons (ClearOf e) d [] here all
     clear-put d (c ∷ ds) here all =
-        ⊎_elim (λ t. subst (All (ClearOf e)) (sym (cond-true (precedes c d) (c ∷ put_in precedes d ds) (d ∷ c ∷ ds) t))
-        (All-cons (ClearOf e) c (put_in precedes d ds) (All-head (ClearOf e) c ds all) (clear-put d ds here (All-tail (ClearOf e) c ds all))))
-        (λ f. subst (All (ClearOf e)) (sym (cond-false (precedes c d) (c ∷ put_in precedes d ds) (d ∷ c ∷ ds) f)) (All-cons (ClearOf e) d (c ∷ ds) here all))
-        (cases_Bool (precedes c d))
+        ⊎_elim (λ t. rw t (All-cons (ClearOf e) c (put_in precedes d ds) (All-head (ClearOf e) c ds all)
+        (clear-put d ds here (All-tail (ClearOf e) c ds all))))
+        (λ f. rw f (All-cons (ClearOf e) d (c ∷ ds) here all)) (cases_Bool (precedes c d))
 
     clear-in_order : (ds : List Edit) → All (ClearOf e) ds → All (ClearOf e) (in_order ds)
     clear-in_order [] all = all
@@ -125,21 +121,11 @@ overlap_from-some : (n : ℕ) (es : List Edit) (a b : ℕ) → IsFirstOverlap es
 overlap_from-some n [] a b first = absurd (omega (arith, first.is.within))
 overlap_from-some n (e ∷ es) a zero first = absurd (omega (arith, first.is.before))
 overlap_from-some n (e ∷ es) zero (suc b) first =
-    let found : position_from (overlap e) (n + 1) es ≡ Some (n + 1 + b) = position-found (overlap e) (n + 1) es b
-    (omega (arith, first.is.within)) first.is.overlapping
+    let found = position-found (overlap e) (n + 1) es b (omega (arith, first.is.within)) first.is.overlapping
     (λ j low. false_from_ne_true (overlap e (get_or es j no_edit)) (λ t.
-    absurd (omega (
-      arith,
-      low,
-      first.least_second (suc j) (record {
-        before = omega arith;
-        within = omega
-            (arith, low, first.is.within);
-        overlapping = t;
-      }),
-    )))) in
-    ap (λ p. option_or (option_map (λ k. (n, k)) p) (first_overlap_from (n + 1) es)) found
-    ∙ same_pair n (n + 1 + b) (n + 0) (n + suc b) (omega arith) (omega arith)
+    let o : AreOverlapping (e ∷ es) 0 (suc j) = record { before = omega arith; within = omega (arith, low, first.is.within); overlapping = t } in
+    absurd (omega (arith, low, first.least_second (suc j) o)))) in
+    cc (found, same_pair n (n + 1 + b) (n + 0) (n + suc b) (omega arith) (omega arith))
 overlap_from-some n (e ∷ es) (suc a) (suc b) first =
     let none : position_from (overlap e) (n + 1) es ≡ None = position-none (overlap e) (n + 1) es
     (λ j low. false_from_ne_true (overlap e (get_or es j no_edit)) (λ t.

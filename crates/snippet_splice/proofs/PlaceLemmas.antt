@@ -1,5 +1,5 @@
 -- Where edits stand in their lines of the source, one after the other.
-use Rattle.snippet_splice.proofs.Common.{subst, ◌≡◌, ◌∙◌, ℕ, ◌+◌, ◌-◌, ◌≤◌, Bool, List, [], ◌∷◌, ◌++◌, length, map, refl, sym, ap, arith, append_assoc}
+use Rattle.snippet_splice.proofs.Common.{subst, ◌≡◌, ◌∙◌, ℕ, ◌+◌, ◌≤◌, Bool, List, [], ◌∷◌, ◌++◌, length, map, refl, sym, ap, arith, append_assoc}
 use Rattle.snippet_splice.proofs.Common.{slice_range, IsUtf8, length-drop, length-take, map-append, IsUtf8-append, IsUtf8-nil, PatchExtent, in_text, Edit}
 use Rattle.snippet_splice.proofs.Common.{in_order, trimmed_edits, first_start, shown_start, Extent, after_last_lf, characters_before, extents_from}
 use Rattle.snippet_splice.proofs.Common.{new_stretches, replaced_on, extent_of, replaced_stretches, start_character, stretches_on, IsUsize, rules}

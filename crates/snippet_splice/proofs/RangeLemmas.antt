@@ -1,5 +1,5 @@
 -- On which lines of the patched source the texts of edits stand.
-use Rattle.snippet_splice.proofs.Common.{◌≡◌, ◌≢◌, ℕ, zero, suc, ◌+◌, ◌-◌, ◌<◌, Bool, cond, List, [], ◌∷◌, ◌++◌, All, length, map, take, drop, count_by, refl}
+use Rattle.snippet_splice.proofs.Common.{◌≡◌, ◌≢◌, ℕ, zero, suc, ◌+◌, ◌<◌, Bool, cond, List, [], ◌∷◌, ◌++◌, All, length, map, take, drop, count_by, refl}
 use Rattle.snippet_splice.proofs.Common.{sym, ap, ◌∙◌, ⊎_elim, arith, append_assoc, length-append, take_at, take-append-drop, sum_by-append, sum_by-cons}
 use Rattle.snippet_splice.proofs.Common.{flat_map-append, All-head, All-tail, cond-false, ne_eqb, slice_range, Eof, Line, line_bytes, joined, source_lines}
 use Rattle.snippet_splice.proofs.Common.{start_of, is_lf, IsLine, AreLines, AreLinesOf-source_lines, joined-source_lines, line_of-within, Edit, in_order}
@@ -7,6 +7,7 @@ use Rattle.snippet_splice.proofs.Common.{trimmed_edits, edited_from, patched, co
 use Rattle.snippet_splice.proofs.Common.{IsBeforeFinalLf, shown_line, lines_of_stand, line_ranges, ranges_from, AreApart, common_steps}
 use Rattle.snippet_splice.proofs.EditLemmas.{edited_from-earlier, edited_from-trimmed}
 use Rattle.snippet_splice.proofs.ShownLemmas.{shown-apart}
+use Rattle.snippet_splice.proofs.Common.{rules}
 use Rattle.snippet_splice.proofs.SpliceLemmas.{AreBeforeFinalLf, copied-same, stands_from-earlier, front-size}
 
 -- how many LF some bytes hold
@@ -30,9 +31,7 @@ feeds-line l is ended = grind (arith, feeds-append, feeds-none)
 feeds-lines : (ls : List Line) (k : ℕ) → AreLines ls → k < length ls → feeds (joined (take k ls)) ≡ k
 feeds-lines ls zero are within = refl
 feeds-lines [] (suc k) are within = absurd (omega arith)
-feeds-lines (l ∷ ls) (suc k) are within =
-    let ended : l.1 ≢ Eof = λ eof. let none : ls ≡ [] = (are.1 eof).1 in absurd (omega (arith, ap length none)) in
-    feeds-append (line_bytes l) (joined (take k ls)) ∙ omega (arith, feeds-line l are.0 ended, feeds-lines ls k are.2 (omega arith))
+feeds-lines (l ∷ ls) (suc k) are within = grind (arith, common_steps, feeds-append, feeds-line, feeds-lines ls k are.2 (omega arith))
 
 -- the front of a source before line k
 pub front-lines : (source : List ℕ) (k : ℕ) → take (start_of (source_lines source) k) source ≡ joined (take k (source_lines source))
@@ -75,30 +74,18 @@ ranges-stands source d front at now count (t ∷ ts) none before apart whole siz
     let parts2 : d ≡ ((front ++ between) ++ t.text) ++ rest = parts ∙ sym (append_assoc (front ++ between) t.text rest) in
     let size1 : length (front ++ between) ≡ from = omega (arith, length-append front between, size) in
     let size2 : length ((front ++ between) ++ t.text) ≡ to = omega (arith, length-append (front ++ between) t.text, size1) in
-    let begins : feeds (take from d) ≡ first = ap feeds (ap (take from) parts ∙ take_at (front ++ between) (t.text ++ rest) from size1)
-    ∙ feeds-append front between ∙ omega (arith, counted, ap feeds here) in
+    let begins : feeds (take from d) ≡ first = rw (parts, take_at (front ++ between) _ from size1) (omega (arith, feeds-append, ap feeds here)) in
     let ends : feeds (take to d) ≡ last = ap feeds (ap (take to) parts2 ∙ take_at ((front ++ between) ++ t.text) rest to size2)
     ∙ feeds-append (front ++ between) t.text ∙ omega (arith, feeds-append front between, counted, ap feeds here) in
-    let counted2 : last ≡ feeds ((front ++ between) ++ t.text) = sym
-    (feeds-append (front ++ between) t.text ∙ omega (arith, feeds-append front between, counted, ap feeds here)) in
-    let more : map (lines_of_stand d) (stands_from source t.end to ts)
-    ≡ written_ranges source last t.end ts = ranges-stands source d ((front ++ between) ++ t.text) t.end to last ts none
-    (All-tail (λ t. IsBeforeFinalLf source t.start) t ts before) apart.2 parts2 (sym size2) counted2 in
-    ap (λ n. record { first = n; last = feeds (take to d) } ∷ map (lines_of_stand d) (stands_from source t.end to ts)) begins
-    ∙ ap (λ n. record { first = first; last = n } ∷ map (lines_of_stand d) (stands_from source t.end to ts)) ends
-    ∙ ap (λ rs. record { first = first; last = last } ∷ rs) more
+    let counted2 : last ≡ feeds ((front ++ between) ++ t.text) = omega (arith, feeds-append, ap feeds here) in
+    let more = ranges-stands source d ((front ++ between) ++ t.text) t.end to last ts none (All-tail (λ t. IsBeforeFinalLf source t.start) t ts before)
+    apart.2 parts2 (sym size2) counted2 in
+    cc (begins, ends, more)
 
 -- ranges counted from a later line on
 ranges-shift : (source : List ℕ) (base n at : ℕ) (ts : List Edit) → ranges_from base (written_ranges source n at ts) ≡ written_ranges source (base + n) at ts
 ranges-shift source base n at [] = refl
-ranges-shift source base n at (t ∷ ts) =
-    let c : ℕ = feeds (copied source at t.start) in
-    let e1 : base + (n + c) ≡ base + n + c = omega arith in
-    let e2 : base + (n + c + feeds t.text) ≡ base + n + c + feeds t.text = omega arith in
-    ap (λ k. record { first = k; last = base + (n + c + feeds t.text) } ∷ ranges_from base (written_ranges source (n + c + feeds t.text) t.end ts)) e1
-    ∙ ap (λ k. record { first = base + n + c; last = k } ∷ ranges_from base (written_ranges source (n + c + feeds t.text) t.end ts)) e2
-    ∙ ap (λ rs. record { first = base + n + c; last = base + n + c + feeds t.text } ∷ rs)
-    (ranges-shift source base (n + c + feeds t.text) t.end ts ∙ ap (λ k. written_ranges source k t.end ts) e2)
+ranges-shift source base n at (t ∷ ts) = search (rules, ranges-shift source base (n + (feeds (copied source at t.start)) + feeds t.text) t.end ts)
 
 -- the ranges that are counted while the text is written are those of the texts in the patched source
 pub ranges_from-written_ranges : (fold : Bool) (source : List ℕ) (es : List Edit) → HasNoCr source → AreBeforeFinalLf source (trimmed_edits source es)
@@ -110,8 +97,7 @@ ranges_from-written_ranges fold source es none before apart =
     let f : List ℕ = slice_range source 0 s in
     let after : AreApart s ts = shown-apart fold source es apart in
     let size : length f ≡ s = front-size fold source (first_start (in_order es)) in
-    let whole : patched source es ≡ f ++ edited_from source s ts = sym (edited_from-trimmed source 0 (in_order es) apart)
-    ∙ edited_from-earlier source 0 s ts (omega arith) after in
+    let whole = sym (edited_from-trimmed source 0 (in_order es) apart) ∙ edited_from-earlier source 0 s ts (omega arith) after in
     let e : shown_line fold source es + 0 ≡ shown_line fold source es = omega arith in
     ranges-shift source (shown_line fold source es) 0 s ts ∙ ap (λ n. written_ranges source n s ts) e
     ∙ sym (ranges-stands source (patched source es) f s s (shown_line fold source es) ts none before after whole (sym size)
@@ -122,7 +108,4 @@ ranges_from-written_ranges fold source es none before apart =
         → stands source ts ≡ stands_from source (shown_start fold source (first_start (in_order es)))
         (shown_start fold source (first_start (in_order es))) ts
     stands-at [] apart size = refl
-    stands-at (t ∷ ts) apart size =
-        let s : ℕ = shown_start fold source (first_start (in_order es)) in
-        let e : 0 + length (slice_range source 0 s) ≡ s = omega (arith, size) in
-        stands_from-earlier source 0 s 0 t ts (omega arith) apart.0 ∙ ap (λ n. stands_from source s n (t ∷ ts)) e
+    stands-at (t ∷ ts) apart size = grind (arith, common_steps, stands_from-earlier)

@@ -31,9 +31,8 @@ pub AreTrimmed-more : (source : List ℕ) (patches : List Patch) (trimmed : List
 AreTrimmed-more source patches trimmed i d t within h one span original =
     let p : Patch = get_or patches i d in
     let left : map seen (trimmed ++ t ∷ []) ≡ map seen trimmed ++ seen t ∷ [] = map_push seen trimmed t in
-    let right : map (seen_edit source) (map edit_of (take (i + 1) patches)) ≡ map (seen_edit source) (map edit_of (take i patches))
-    ++ seen_edit source (edit_of p) ∷ [] = ap (map (seen_edit source)) (map_more edit_of patches i d within)
-    ∙ map_push (seen_edit source) (map edit_of (take i patches)) (edit_of p) in
+    let right : map (seen_edit source) (map edit_of (take (i + 1) patches)) ≡ map (seen_edit source) (map edit_of (take i patches)) ++ seen_edit source
+    (edit_of p) ∷ [] = cc (map_more edit_of patches i d within, map_push (seen_edit source) (map edit_of (take i patches)) (edit_of p)) in
     record {
       are = left ∙ ap (λ l. l ++ seen t ∷ []) h.are ∙ ap (λ s. map (seen_edit source) (map edit_of (take i patches)) ++ s ∷ []) one ∙ sym right;
       spans = All-push (λ t. IsSpan source t.span.start t.span.end) trimmed t h.spans span;
@@ -51,8 +50,7 @@ seen_before a b = pair_lt a.1 a.2 b.1 b.2
 pub sorted-seen : (source : List ℕ) (patches : List Patch) (trimmed sorted : List TrimmedPatch) → AreTrimmed source patches trimmed → IsSortedBy before sorted
     → IsStableBy before trimmed sorted → map seen sorted ≡ map (seen_edit source) (in_order (map edit_of patches))
 sorted-seen source patches trimmed sorted h up stable =
-    let only : sorted ≡ ordered_by before trimmed = sorted-only before
-    (pair-order (λ t. t.original_span.start) (λ t. t.original_span.end)) trimmed sorted up stable in
+    let only = sorted-only before (pair-order (λ t. t.original_span.start) (λ t. t.original_span.end)) trimmed sorted up stable in
     let es : List Edit = map edit_of patches in
     ap (map seen) only ∙ map-ordered_by seen seen_before trimmed ∙ ap (ordered_by seen_before) h.are ∙ sym (map-ordered_by (seen_edit source) seen_before es)
 

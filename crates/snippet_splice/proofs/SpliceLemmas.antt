@@ -2,9 +2,9 @@
 use Rattle.snippet_splice.proofs.Common.{◌≡◌, ◌≢◌, ℕ, ◌+◌, ◌-◌, ◌<◌, ◌≤◌, ◌⊎◌, inl, inr, Bool, true, false, eqb, min, List, [], ◌∷◌, ◌++◌, All, length, take}
 use Rattle.snippet_splice.proofs.Common.{drop, refl, sym, ap, ◌∙◌, ⊎_elim, arith, append_assoc, append-nil, length-append, length-take, length-take-le}
 use Rattle.snippet_splice.proofs.Common.{length-drop, drop_at, take_all, take_min, drop_min, take-append-drop, take-append-add, All-take, All-drop, All-head}
-use Rattle.snippet_splice.proofs.Common.{All-tail, cases_Bool, cond-true, cond-false, cond_both, eqb-true, slice_range, before_first, position_or_len, Lf}
+use Rattle.snippet_splice.proofs.Common.{All-tail, cases_Bool, cond-false, cond_both, eqb-true, slice_range, before_first, position_or_len}
 use Rattle.snippet_splice.proofs.Common.{Line, lines_of, with_first_byte, source_lines, text_at, last_byte, is_lf, line_of-within, text_at-end, Edit}
-use Rattle.snippet_splice.proofs.Common.{in_order, trimmed_edits, edited_from, patched, in_text, with_line_feeds, copied, written_from, end_from, first_start}
+use Rattle.snippet_splice.proofs.Common.{in_order, trimmed_edits, edited_from, patched, in_text, copied, written_from, end_from, first_start}
 use Rattle.snippet_splice.proofs.Common.{closes_line, shown_start, without_final_line_feeds, shown_text, stands_from, stands, HasNoCr, IsBeforeFinalLf}
 use Rattle.snippet_splice.proofs.Common.{last_end, spliced_end, spliced_text, AreApart, rules, common_steps}
 use Rattle.snippet_splice.proofs.EditLemmas.{edited_from-earlier, edited_from-trimmed}
@@ -22,12 +22,8 @@ slice-min s a b low = grind (arith, drop_min, take_all, length-drop)
 -- a stretch without carriage returns is copied as it is
 pub copied-same : (source : List ℕ) (a b : ℕ) → HasNoCr source → a ≤ b → IsBeforeFinalLf source b → copied source a b ≡ slice_range source a b
 copied-same source a b none low before =
-    let from : in_text source a ≡ min a (length source) = in_text-same source a none (λ e. omega (arith, before e)) in
-    let to : in_text source b ≡ min b (length source) = in_text-same source b none before in
-    let part : slice_range source (in_text source a) (in_text source b) ≡ slice_range source a b = ap (λ n. slice_range source n (in_text source b)) from
-    ∙ ap (slice_range source (min a (length source))) to ∙ slice-min source a b low in
-    let clean : All (λ c. c ≢ 13) (slice_range source a b) = All-take (λ c. c ≢ 13) (b - a) (drop a source) (All-drop (λ c. c ≢ 13) a source none) in
-    ap with_line_feeds part ∙ with_line_feeds-none (slice_range source a b) (λ i within. clean i 0 within)
+    rw (in_text-same source a none (λ e. omega (arith, before e)), in_text-same source b none before, slice-min source a b low)
+    (with_line_feeds-none (slice_range source a b) (λ i. All-take (λ c. c ≢ 13) (b - a) (drop a source) (All-drop (λ c. c ≢ 13) a source none) i 0))
 
 -- no edit starts after a final LF
 abbrev pub AreBeforeFinalLf : List ℕ → List Edit → Type 0
@@ -38,14 +34,9 @@ pub edited_from-written : (source : List ℕ) (at : ℕ) (ts : List Edit) → Ha
     → edited_from source at ts ≡ written_from source at ts ++ drop (end_from at ts) source
 edited_from-written source at [] none before apart = refl
 edited_from-written source at (t ∷ ts) none before apart =
-    let here : slice_range source at t.start ≡ copied source at t.start = sym
-    (copied-same source at t.start none apart.0 (All-head (λ t. IsBeforeFinalLf source t.start) t ts before)) in
-    let rest : edited_from source t.end ts ≡ written_from source t.end ts
-    ++ drop (end_from t.end ts) source = edited_from-written source t.end ts none (All-tail (λ t. IsBeforeFinalLf source t.start) t ts before) apart.2 in
-    let after : List ℕ = drop (end_from t.end ts) source in
-    ap (λ l. l ++ (t.text ++ edited_from source t.end ts)) here ∙ ap (λ l. copied source at t.start ++ (t.text ++ l)) rest
-    ∙ ap (λ l. copied source at t.start ++ l) (sym (append_assoc t.text (written_from source t.end ts) after))
-    ∙ sym (append_assoc (copied source at t.start) (t.text ++ written_from source t.end ts) after)
+    let here = copied-same source at t.start none apart.0 (All-head (λ t. IsBeforeFinalLf source t.start) t ts before) in
+    let rest = edited_from-written source t.end ts none (All-tail (λ t. IsBeforeFinalLf source t.start) t ts before) apart.2 in
+    simp (here, rest, append_assoc)
 
 -- ---- where the last text ends
 
@@ -53,17 +44,10 @@ last_end-written : (source : List ℕ) (at now : ℕ) (ts : List Edit) → HasNo
     → last_end now (stands_from source at now ts) ≡ now + length (written_from source at ts)
 last_end-written source at now [] none before apart = omega arith
 last_end-written source at now (t ∷ ts) none before apart =
-    let here : slice_range source at t.start ≡ copied source at t.start = sym
-    (copied-same source at t.start none apart.0 (All-head (λ t. IsBeforeFinalLf source t.start) t ts before)) in
-    let from : ℕ = now + length (slice_range source at t.start) in
-    last_end-written source t.end (from + length t.text) ts none (All-tail (λ t. IsBeforeFinalLf source t.start) t ts before) apart.2
-    ∙ omega (
-      arith,
-      ap length here,
-      length-append (copied source at t.start) (t.text ++ written_from source t.end ts),
-      length-append t.text
-          (written_from source t.end ts),
-    )
+    let here = copied-same source at t.start none apart.0 (All-head (λ t. IsBeforeFinalLf source t.start) t ts before) in
+    last_end-written source t.end (now + length (slice_range source at t.start) + length t.text) ts none
+    (All-tail (λ t. IsBeforeFinalLf source t.start) t ts before) apart.2
+    ∙ omega (arith, ap length here, length-append {A = ℕ})
 
 -- texts stand where they do when the source before them is given first
 pub stands_from-earlier : (source : List ℕ) (a b now : ℕ) (t : Edit) (ts : List Edit) → a ≤ b → b ≤ t.start
@@ -84,11 +68,8 @@ first_text x y z = search rules
 text_at-first-of : (xs : List ℕ) → HasNoCr xs → text_at (lines_of xs) 0 ≡ before_first is_lf xs
 text_at-first-of [] none = refl
 text_at-first-of (b ∷ bs) none =
-    ⊎_elim (λ t. ap (λ (ls : List Line). text_at ls 0) (cond-true {A = List Line} (eqb b 10) (([], Lf) ∷ lines_of bs) (with_first_byte b (lines_of bs)) t)
-    ∙ sym (prefix-none b bs t))
-    (λ f. ap (λ (ls : List Line). text_at ls 0) (cond-false {A = List Line} (eqb b 10) (([], Lf) ∷ lines_of bs) (with_first_byte b (lines_of bs)) f)
-    ∙ first_text b (lines_of bs) (none 0 0 (omega arith)) ∙ ap (λ l. b ∷ l) (text_at-first-of bs (All-tail (λ c. c ≢ 13) b bs none))
-    ∙ sym (prefix-first b bs f)) (cases_Bool (eqb b 10))
+    ⊎_elim (λ t. rw (prefix-none b bs t, t) refl) (λ f. rw (prefix-first b bs f, f)
+    (first_text b (lines_of bs) (none 0 0 (omega arith)) ∙ ap (λ l. b ∷ l) (text_at-first-of bs (All-tail (λ c. c ≢ 13) b bs none)))) (cases_Bool (eqb b 10))
 
 pub text_at-first : (xs : List ℕ) → HasNoCr xs → text_at (source_lines xs) 0 ≡ before_first is_lf xs
 text_at-first [] none = refl
@@ -123,10 +104,9 @@ pub shown-whole : (fold : Bool) (source : List ℕ) (es : List Edit) → HasNoCr
     patched source es ≡ slice_range source 0 s ++ (written_from source s ts ++ drop (end_from s ts) source)
 shown-whole fold source es none before apart =
     let s : ℕ = shown_start fold source (first_start (in_order es)) in
-    let ts : List Edit = trimmed_edits source es in
-    let after : AreApart s ts = shown-apart fold source es apart in
-    sym (edited_from-trimmed source 0 (in_order es) apart) ∙ edited_from-earlier source 0 s ts (omega arith) after
-    ∙ ap (λ l. slice_range source 0 s ++ l) (edited_from-written source s ts none before after)
+    let after = shown-apart fold source es apart in
+    sym (edited_from-trimmed source 0 (in_order es) apart) ∙ edited_from-earlier source 0 s (trimmed_edits source es) (omega arith) after
+    ∙ ap (λ l. slice_range source 0 s ++ l) (edited_from-written source s (trimmed_edits source es) none before after)
 
 -- what stands before the shown part is as long as where that starts
 pub front-size : (fold : Bool) (source : List ℕ) (first : ℕ) → length (slice_range source 0 (shown_start fold source first)) ≡ shown_start fold source first
@@ -205,11 +185,9 @@ IsShownPart-plain true source es none before apart some =
     let whole : patched source es ≡ f ++ (w ++ r) = shown-whole true source es none before apart in
     let same : edited_from source 0 ts ≡ f ++ (w ++ r) = edited_from-trimmed source 0 (in_order es) apart ∙ whole in
     let to : last_end 0 (stands source ts) ≡ s + length w = last_of ts some before after size in
-    let left : drop (last_end 0 (stands source ts)) (edited_from source 0 ts) ≡ r = ap (λ n. drop n (edited_from source 0 ts)) to
-    ∙ ap (drop (s + length w)) same ∙ drop-part f w r s size in
+    let left : drop (last_end 0 (stands source ts)) (edited_from source 0 ts) ≡ r = cc (to, same, drop-part f w r s size) in
     ⊎_elim
-    (λ t. let end : spliced_end source ts ≡ s + length w + 0 = cond-true (closes_line ts) (last_end 0 (stands source ts))
-    (last_end 0 (stands source ts) + length (before_first is_lf (drop (last_end 0 (stands source ts)) (edited_from source 0 ts)))) t ∙ to ∙ omega arith in
+    (λ t. let end : spliced_end source ts ≡ s + length w + 0 = rw t (to ∙ omega arith) in
     record {
       front = f;
       part = w;
@@ -220,10 +198,8 @@ IsShownPart-plain true source es none before apart some =
       stops = inr (last-written source s ts (eqb-true (last_byte (last_text ts)) 10 (sym (closes-last ts) ∙ t)));
       closes = inr (some_bytes (last_text ts) (eqb-true (last_byte (last_text ts)) 10 (sym (closes-last ts) ∙ t)));
       ends = omega arith;
-      text = ap (λ l. without_final_line_feeds (w ++ l)) (cond-true (closes_line ts) [] (text_at (source_lines r) 0) t)
-          ∙ ap without_final_line_feeds (append-nil w);
-      spliced = ap without_final_line_feeds (ap (slice_range (patched source es) s) end ∙ ap (λ d. slice_range d s (s + length w + 0)) whole
-          ∙ cut-part f w r s 0 size ∙ append-nil w);
+      text = rw (t, append-nil w) refl;
+      spliced = rw (end, whole, cut-part f w r s 0 size, append-nil w) refl;
     })
     (λ t. let l : List ℕ = before_first is_lf r in
     let clean : HasNoCr r = All-drop (λ c. c ≢ 13) (end_from s ts) source none in
@@ -244,8 +220,7 @@ IsShownPart-plain true source es none before apart some =
       closes = inl (first_stops r);
       ends = omega (arith, length-append w l);
       text = ap (λ x. without_final_line_feeds (w ++ x)) (cond-false (closes_line ts) [] (text_at (source_lines r) 0) t ∙ text_at-first r clean);
-      spliced = ap without_final_line_feeds (ap (slice_range (patched source es) s) end ∙ ap (λ d. slice_range d s (s + length w + length l)) whole
-          ∙ cut-part f w r s (length l) size ∙ ap (λ x. w ++ x) front_of);
+      spliced = rw (end, whole, cut-part f w r s (length l) size, front_of) refl;
     })
     (cases_Bool (closes_line ts))
   where

@@ -1,7 +1,7 @@
 -- Tables of stretches, the pieces of a text, and what stands in a line before a byte.
-use Rattle.snippet_splice.proofs.Common.{◌≡◌, ◌≢◌, ◌∙◌, ◌⊎◌, inl, inr, ℕ, zero, suc, ◌+◌, ◌-◌, ◌<◌, ◌==◌, eqb, List, [], ◌∷◌, ◌++◌, Vec, count_by, drop}
-use Rattle.snippet_splice.proofs.Common.{length, take, ◌≤◌, set, get_or, lit<, refl, sym, ap, arith, if◌then◌else◌, subst, onto_first, slice_split, IsUtf8}
-use Rattle.snippet_splice.proofs.Common.{Global, eq-eqb, eqb-true, cond-true, cond-false, false_from_ne_true, cases_Bool, cases_eq, nat_tests, append-nil}
+use Rattle.snippet_splice.proofs.Common.{◌≡◌, ◌≢◌, ◌∙◌, ◌⊎◌, inl, inr, ℕ, zero, suc, ◌+◌, ◌<◌, ◌==◌, eqb, List, [], ◌∷◌, ◌++◌, Vec, count_by, drop}
+use Rattle.snippet_splice.proofs.Common.{length, take, ◌≤◌, set, get_or, lit<, refl, sym, ap, arith, if◌then◌else◌, subst, slice_split, IsUtf8}
+use Rattle.snippet_splice.proofs.Common.{Global, eq-eqb, eqb-true, cond-true, cond-false, false_from_ne_true, cases_Bool, nat_tests, append-nil}
 use Rattle.snippet_splice.proofs.Common.{get_or_default, get_or-drop, get_or-map, get_or-set_other, get_or-set_same, length-append, length-drop, length-map}
 use Rattle.snippet_splice.proofs.Common.{map-set, places, same_lists, slice_split_at, slice_split_none, sum_by-cons, chars-append, is_lf, last_byte-not}
 use Rattle.snippet_splice.proofs.Common.{length-chars_le, SubstitutionHighlight, after_last_lf, capped, taken_on, without_cr, line_stretches, rules}
@@ -19,20 +19,7 @@ Row = Vec SubstitutionHighlight Global
 pub line_set : (lines : List Row) (i : ℕ) (was now : Row) (x : SubstitutionHighlight) (k : ℕ) → i < length lines → was ≡ get_or lines i was
     → now.items ≡ was.items ++ x ∷ [] → line_stretches (set lines i now) k ≡ line_stretches lines k ++ (if i == k then x ∷ [] else [])
 line_set lines i was now x k within is more =
-    grind (
-      arith,
-      length-map,
-      map-set,
-      get_or-map,
-      get_or-set_same,
-      cond-true,
-      eq-eqb,
-      get_or-set_other,
-      append-nil,
-      cond-false,
-      false_from_ne_true,
-      eqb-true,
-    )
+    search (rules, length-map, map-set, get_or-map, get_or-set_same, cond-true, eq-eqb, get_or-set_other, append-nil, cond-false, false_from_ne_true, eqb-true)
 
 -- a line more at the end has its own stretches, and each other has those that it had
 pub line_added : (lines : List Row) (row : Row) (k : ℕ)
@@ -111,30 +98,18 @@ cut : (text : List ℕ) → 0 < count_by is_lf text → Cut text
 cut [] some = absurd (omega (arith, some))
 cut (b ∷ bs) some =
     elim (zero_or (count_by is_lf bs)) [
-      | inl zeros ↦
-          let here : b ≡ 10 = lf b bs some zeros in
-          let line : after_last_lf (b ∷ bs) ≡ bs = after_some b bs some ∙ after_none bs zeros in
-          record { front = []; whole = ap (λ c. c ∷ bs) here ∙ ap (λ l. 10 ∷ l) (sym line) }
-      | inr later ↦
-          let rest = cut bs later in
-          record { front = b ∷ rest.front; whole = ap (λ l. b ∷ l) rest.whole ∙ ap (λ l. b ∷ rest.front ++ 10 ∷ l) (sym (after_some b bs some)) }
+      | inl zeros ↦ record { front = []; whole = cc (lf b bs some zeros, after_some b bs some, after_none bs zeros) }
+      | inr later ↦ let rest = cut bs later in record { front = b ∷ rest.front; whole = rw (after_some b bs some) (ap (λ l. b ∷ l) rest.whole) }
     ]
   where
     lf : (b : ℕ) (bs : List ℕ) → 0 < count_by is_lf (b ∷ bs) → count_by is_lf bs ≡ 0 → b ≡ 10
-    lf b bs some zeros = elim (cases_eq b 10) [
-      | inl same ↦ same
-      | inr other ↦
-          let none : count_by is_lf (b ∷ bs) ≡ 0 = grind (arith, nat_tests, other, zeros) in
-          absurd (omega (arith, none, some))
-    ]
+    lf b bs some zeros = grind (arith, common_steps)
 
 -- what stands after the last LF has no more bytes, and so no more characters, than there are bytes
 pub after_few : (text : List ℕ) → length (chars (after_last_lf text)) ≤ length text
 after_few text = elim (zero_or (count_by is_lf text)) [
   | inl zeros ↦ omega (arith, length-chars_le (after_last_lf text), ap length (after_none text zeros))
-  | inr some ↦
-      let c = cut text some in
-      omega (arith, length-chars_le (after_last_lf text), ap length c.whole, length-append c.front (10 ∷ after_last_lf text))
+  | inr some ↦ omega (arith, length-chars_le (after_last_lf text), ap length (cut text some).whole, length-append {A = ℕ})
 ]
 
 after_utf8 : (text : List ℕ) → IsUtf8 text → IsUtf8 (after_last_lf text)
@@ -148,10 +123,7 @@ after_utf8 text utf8 = elim (zero_or (count_by is_lf text)) [
 -- before the end of a text without LF stand those before it, and its own
 pub chars_more : (front text : List ℕ) (before : ℕ) → IsUtf8 front → before ≡ length (chars (after_last_lf front)) → HoldsNoLf text
     → before + length (chars text) ≡ length (chars (after_last_lf (front ++ text)))
-chars_more front text before utf8 is none =
-    let joined : chars (after_last_lf (front ++ text)) ≡ chars (after_last_lf front) ++ chars text = ap chars (after_append front text (feeds_whole text none))
-    ∙ chars-append (after_last_lf front) text (after_utf8 front utf8) in
-    omega (arith, is, ap length joined, length-append (chars (after_last_lf front)) (chars text))
+chars_more front text before utf8 is none = grind (arith, common_steps, after_append, feeds_whole, chars-append, after_utf8, length-append)
 
 -- no LF stands after this place
 abbrev pub HasNoLfAfter : List ℕ → ℕ → Type 0
@@ -185,17 +157,8 @@ pieces_some [] = record { first = []; rest = []; are = refl }
 pieces_some (b ∷ bs) =
     let later = pieces_some bs in
     elim (cases_Bool (is_lf b)) [
-      | inl lf ↦ record {
-        first = [];
-        rest = slice_split is_lf bs;
-        are = cond-true (is_lf b) ([] ∷ slice_split is_lf bs) (onto_first b (slice_split is_lf bs)) lf;
-      }
-      | inr other ↦
-          record {
-            first = b ∷ later.first;
-            rest = later.rest;
-            are = cond-false (is_lf b) ([] ∷ slice_split is_lf bs) (onto_first b (slice_split is_lf bs)) other ∙ ap (onto_first b) later.are;
-          }
+      | inl lf ↦ record { first = []; rest = slice_split is_lf bs; are = rw lf refl }
+      | inr other ↦ record { first = b ∷ later.first; rest = later.rest; are = rw (other, later.are) refl }
     ]
 
 -- what the first of several takes, and the others

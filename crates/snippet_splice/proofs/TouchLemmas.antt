@@ -59,13 +59,10 @@ in-line-feeds d j p h =
     All-same (λ c. c ≢ 10) (slice_range d b p) l part (no-feeds l one (λ some e.
     open_end (sym (last_byte-drop b d (omega (arith, some))) ∙ ap last_byte tail ∙ e))))
     h.to in
-    let split : take p d ≡ take b d ++ slice_range d b p = front-split d b p h.from in
-    ap feeds split ∙ feeds-append (take b d) (slice_range d b p) ∙ omega (arith, feeds-front d j h.within, feeds-none (slice_range d b p) none)
+    rw (front-split d b p h.from) (feeds-append (take b d) (slice_range d b p) ∙ omega (arith, feeds-front d j h.within, feeds-none (slice_range d b p) none))
   where
     front-split : (d : List ℕ) (b p : ℕ) → b ≤ p → take p d ≡ take b d ++ slice_range d b p
-    front-split d b p low =
-        let e : b + (p - b) ≡ p = omega arith in
-        ap (λ n. take n d) (sym e) ∙ take-add b (p - b) d
+    front-split d b p low = grind (arith, take-add b (p - b) d)
 
 -- ---- where the texts stand
 
@@ -88,13 +85,7 @@ stands-within : (source : List ℕ) (at now : ℕ) (ts : List Edit)
     → All (IsWithin now (last_end now (stands_from source at now ts))) (stands_from source at now ts)
 stands-within source at now [] = All-nil (IsWithin now now)
 stands-within source at now (t ∷ ts) =
-    let from : ℕ = now + length (slice_range source at t.start) in
-    let to : ℕ = from + length t.text in
-    let high : ℕ = last_end to (stands_from source t.end to ts) in
-    All-cons (IsWithin now high) (record { from = from; to = to }) (stands_from source t.end to ts)
-    (record { from = omega arith; to = last_end-le source t.end to ts })
-    (All-weaker (IsWithin to high) (IsWithin now high) (λ s h. record { from = omega (arith, h.from); to = h.to }) (stands_from source t.end to ts)
-    (stands-within source t.end to ts))
+    search (rules, All-cons, last_end-le, All-weaker, stands-within source t.end ((now + length (slice_range source at t.start)) + length t.text) ts)
 
 -- where the last text isn't empty each empty one stands before its end
 abbrev pub EndsBefore : ℕ → Stand → Type 0
@@ -137,16 +128,8 @@ touched-in d f part rest ws k j s whole short closed counted stops within touche
     let line : IsInLine d j p = touched.in_line in
     let here : feeds (take p d) ≡ j = in-line-feeds d j p line in
     let front : take (length f) d ≡ f = ap (take (length f)) whole ∙ take_at f (part ++ rest) (length f) refl in
-    let low : k ≤ j = omega (
-      arith,
-      feeds-take (length f) (take p d),
-      ap feeds
-          (take-take (length f) p d (omega (arith, within.from, touched.from)) ∙ front),
-      here,
-      counted,
-    ) in
-    let parts : d ≡ g ++ (short.tail ++ rest) = whole ∙ ap (λ l. f ++ (l ++ rest)) short.whole ∙ ap (λ l. f ++ l) (append_assoc ws short.tail rest)
-    ∙ sym (append_assoc f ws (short.tail ++ rest)) in
+    let low : k ≤ j = omega (arith, feeds-take (length f) (take p d), ap feeds (take-take (length f) p d (omega arith) ∙ front)) in
+    let parts : d ≡ g ++ (short.tail ++ rest) = cc (whole, short.whole, append_assoc ws short.tail rest, append_assoc f ws (short.tail ++ rest)) in
     let size : length part ≡ length ws + length short.tail = ap length short.whole ∙ length-append ws short.tail in
     let size_g : length g ≡ length f + length ws = length-append f ws in
     let empty_line : (x < length d → get_or d x 0 ≡ 10) → ⊥ = λ at. some (line-empty d j line.within at) in
@@ -162,11 +145,10 @@ touched-in d f part rest ws k j s whole short closed counted stops within touche
     (λ past_part. ⊎_elim (λ before. absurd (omega (arith, before, line.from, past_part, within.to)))
     (λ (same, at). let at_end : x ≡ length f + length part = omega (arith, at, line.from, past_part, within.to) in
     ⊎_elim
-    (λ stop. empty_line (λ inside. let e : get_or d x 0 ≡ get_or rest 0 0 =
-    ap (λ l. get_or l x 0) (whole ∙ sym (append_assoc f part rest))
-    ∙ get_or-append_right (f ++ part) rest (length f + length part) x 0 (length-append f part) (omega (arith, at_end))
-    ∙ (let z : x - (length f + length part) ≡ 0 = omega (arith, at_end) in ap (λ n. get_or rest n 0) z) in
-    ⊎_elim (λ nil. absurd (omega (arith, inside, at_end, ap length whole, length-append f (part ++ rest), length-append part rest, ap length nil)))
+    (λ stop. empty_line (λ inside. let z : x - (length f + length part) ≡ 0 = omega arith in
+    let e : get_or d x 0 ≡ get_or rest 0 0 = ap (λ l. get_or l x 0) (whole ∙ sym (append_assoc f part rest))
+    ∙ get_or-append_right (f ++ part) rest (length f + length part) x 0 (length-append f part) (omega arith) ∙ ap (λ n. get_or rest n 0) z in
+    ⊎_elim (λ nil. absurd (omega (arith, ap length whole, length-append f (part ++ rest), length-append part rest, ap length nil)))
     (λ (y, lf). e ∙ ap (λ l. get_or l 0 0) lf) stop))
     (λ ends. absurd (omega (arith, ends same, at, line.from, past_part))) stops)
     touched.to)
@@ -176,9 +158,7 @@ touched-in d f part rest ws k j s whole short closed counted stops within touche
   where
     few : (ws f : List ℕ) (x k j : ℕ) → feeds f ≡ k → (0 < length f → last_byte f ≡ 10) → (ws ≡ []) ⊎ (last_byte ws ≢ 10) → x < length (f ++ ws)
         → k + length (lines_of ws) ≤ j → feeds (take x (f ++ ws)) ≡ j → ⊥
-    few [] f x k j counted closed unclosed inside past many =
-        let short : x < length f = omega (arith, inside, ap length (append-nil f)) in
-        absurd (omega (arith, fewer-feeds f x (closed (omega (arith, short))) short, ap (λ l. feeds (take x l)) (append-nil f), many, past, counted))
+    few [] f x k j counted closed unclosed inside past many = grind (arith, common_steps, append-nil, fewer-feeds)
     few (c ∷ cs) f x k j counted closed unclosed inside past many =
         absurd (omega (arith, feeds-take x (f ++ (c ∷ cs)), feeds-append f (c ∷ cs), count-open (c ∷ cs) unclosed (omega arith), many, past, counted))
 
@@ -190,8 +170,7 @@ pub shown-touched : (fold : Bool) (source : List ℕ) (es : List Edit) → HasNo
 shown-touched fold source es none before apart h j touched some =
     let first : ℕ = shown_start fold source (first_start (in_order es)) in
     let ts : List Edit = trimmed_edits source es in
-    let front : IsLinesFront h.front (shown_line fold source es) = subst (λ f.
-    IsLinesFront f (shown_line fold source es)) (sym h.before) (shown-front fold source es) in
+    let front : IsLinesFront h.front (shown_line fold source es) = rw h.before (shown-front fold source es) in
     let counted : feeds h.front ≡ shown_line fold source es = ap feeds h.before ∙ feeds-shown fold source es in
     let facts = placed ts (shown-apart fold source es apart) before touched.stand touched.among in
     touched-in (patched source es) h.front h.part h.rest (without_final_line_feeds h.part) (shown_line fold source es) j touched.stand h.whole

@@ -1,8 +1,8 @@
 -- Laws of what a replacement keeps.
-use Rattle.snippet_splice.proofs.Common.{◌≡◌, ◌≢◌, ℕ, zero, suc, ◌+◌, ◌-◌, ◌<◌, ◌≤◌, Bool, true, false, cond, Option, Some, None, List, [], ◌∷◌, ◌++◌, length}
+use Rattle.snippet_splice.proofs.Common.{◌≡◌, ◌≢◌, ℕ, zero, suc, ◌+◌, ◌-◌, ◌<◌, ◌≤◌, Bool, true, false, Option, Some, None, List, [], ◌∷◌, ◌++◌, length}
 use Rattle.snippet_splice.proofs.Common.{take, drop, refl, sym, ap, subst, ◌∙◌, ⊎_elim, arith, append_assoc, le_refl, append-nil, length-append}
 use Rattle.snippet_splice.proofs.Common.{length-take-le, length-drop, take_at, drop_at, take_all, drop_all, take-append-drop, drop-drop, drop-append-le}
-use Rattle.snippet_splice.proofs.Common.{get_or_past, cases_Bool, cases_eq, ltb-true, lt-ltb, or_cases, or_left, or_right, cond-true, cond-false, and_parts}
+use Rattle.snippet_splice.proofs.Common.{get_or_past, cases_Bool, cases_eq, ltb-true, lt-ltb, or_cases, or_left, or_right, cond-false, and_parts}
 use Rattle.snippet_splice.proofs.Common.{and_from, false_from_ne_true, le-leb, leb-true, both_ways, bytes_eq-Decides, IsCharBoundary-end}
 use Rattle.snippet_splice.proofs.Common.{IsCharBoundary-start, Decides, slice_range, option_map, IsUtf8, IsCharBoundary, is_character_border, is_sandwiched}
 use Rattle.snippet_splice.proofs.Common.{greatest_passing, kept_before, sandwich, IsSandwiched, IsSandwich, rules}
@@ -105,8 +105,7 @@ test-true o r a t =
     record {
       border = border;
       parts = omega (arith, border.0);
-      whole = sym (take-append-drop a r) ∙ ap (λ l. l ++ drop a r) front ∙ ap (λ l. take a o ++ l) (rest ∙ ap (λ l. slice_range r a k ++ l) end)
-          ∙ sym (regroup (take a o) (slice_range r a k) (drop a o));
+      whole = cc (take-append-drop a r, front, rest, end, regroup (take a o) (slice_range r a k) (drop a o));
     }
 
 test-from : (o r : List ℕ) (a : ℕ) (m : List ℕ) (b : ℕ) → IsSandwiched o r a m b → is_sandwiched o r a ≡ true
@@ -117,9 +116,8 @@ test-from o r a m b h = grind (arith, common_steps, and_from, border-test, le-le
 greatest-is : (p : ℕ → Bool) (n a : ℕ) → a ≤ n → p a ≡ true → ((k : ℕ) → a < k → k ≤ n → p k ≡ false) → greatest_passing p n ≡ Some a
 greatest-is p zero a within yes_it above = search rules
 greatest-is p (suc n) a within yes_it above =
-    ⊎_elim (λ e. cond-true (p (suc n)) (Some (suc n)) (greatest_passing p n) (subst (λ k. p k ≡ true) e yes_it) ∙ ap Some (sym e))
-    (λ other. cond-false (p (suc n)) (Some (suc n)) (greatest_passing p n) (above (suc n) (omega arith) (omega arith))
-    ∙ greatest-is p n a (omega arith) yes_it (λ k low high. above k low (omega arith)))
+    ⊎_elim (λ e. rw (subst (λ k. p k ≡ true) e yes_it) (ap Some (sym e)))
+    (λ other. rw (above (suc n) (omega arith) (omega arith)) (greatest-is p n a (omega arith) yes_it (λ k low high. above k low (omega arith))))
     (cases_eq a (suc n))
 
 greatest-none : (p : ℕ → Bool) (n : ℕ) → ((k : ℕ) → p k ≡ false) → greatest_passing p n ≡ None
@@ -129,9 +127,8 @@ greatest-none p (suc n) none = cond-false (p (suc n)) (Some (suc n)) (greatest_p
 greatest-passes : (p : ℕ → Bool) (n a : ℕ) → greatest_passing p n ≡ Some a → p a ≡ true
 greatest-passes p zero a e = search rules
 greatest-passes p (suc n) a e =
-    ⊎_elim (λ t. let same : Some (suc n) ≡ Some a = sym (cond-true (p (suc n)) (Some (suc n)) (greatest_passing p n) t) ∙ e in let at : suc n
-    ≡ a = cc in subst (λ k. p k ≡ true) at t)
-    (λ f. greatest-passes p n a (sym (cond-false (p (suc n)) (Some (suc n)) (greatest_passing p n) f) ∙ e)) (cases_Bool (p (suc n)))
+    ⊎_elim (λ t. let at : suc n ≡ a = cc (rw t at e) in subst (λ k. p k ≡ true) at t) (λ f. greatest-passes p n a (rw f at e))
+    (cases_Bool (p (suc n)))
 
 -- ---- the way that is taken, computed
 
@@ -140,22 +137,19 @@ unfolding kept_before
 kept_before-is o r a m b h =
     let p : ℕ → Bool = is_sandwiched o r in
     let here : p a ≡ true = test-from o r a m b h.is in
-    let rest : Option ℕ = cond (p 0) (Some 0) (greatest_passing p (length o)) in
     ⊎_elim
     (λ t. let parts : length o - length o ≡ 0 = omega arith in
-    let at : a ≡ length o = h.all_before _ (subst (λ n. IsSandwiched o r (length o) (slice_range r (length o) (length r - (length o - length o))) n) parts
-    (test-true o r (length o) t)) in
-    cond-true (p (length o)) (Some (length o)) rest t ∙ ap Some (sym at))
+    rw t (ap Some (sym (h.all_before _ (rw parts at (test-true o r (length o) t))))))
     (λ f. let below : a < length o = ⊎_elim (λ at. absurd (both_ways (p a) (ap p at ∙ f) here)) (λ other.
     omega (arith, h.is.border.0)) (cases_eq a (length o)) in
-    cond-false (p (length o)) (Some (length o)) rest f ∙ ⊎_elim
+    rw f (⊎_elim
     (λ t. let parts : length o - 0 ≡ length o = omega arith in
     let at : a ≡ 0 = h.all_after below _ (subst (λ n. IsSandwiched o r 0 (slice_range r 0 (length r - (length o - 0))) n) parts (test-true o r 0 t)) in
-    cond-true (p 0) (Some 0) (greatest_passing p (length o)) t ∙ ap Some (sym at))
+    rw t (ap Some (sym at)))
     (λ g. let some : 0 < a = ⊎_elim (λ at. absurd (both_ways (p a) (ap p at ∙ g) here)) (λ other. omega arith) (cases_eq a 0) in
-    cond-false (p 0) (Some 0) (greatest_passing p (length o)) g ∙ greatest-is p (length o) a h.is.border.0 here (λ k low high.
-    false_from_ne_true (p k) (λ t. absurd (omega (arith, h.longest some k _ _ (test-true o r k t))))))
-    (cases_Bool (p 0)))
+    rw g (greatest-is p (length o) a h.is.border.0 here (λ k low high.
+    false_from_ne_true (p k) (λ t. absurd (omega (arith, h.longest some k _ _ (test-true o r k t)))))))
+    (cases_Bool (p 0))))
     (cases_Bool (p (length o)))
 
 -- the way that is taken is the one that the definition computes
@@ -176,14 +170,10 @@ kept_before-passes : (o r : List ℕ) (a : ℕ) → kept_before o r ≡ Some a �
 unfolding kept_before
 kept_before-passes o r a e =
     let p : ℕ → Bool = is_sandwiched o r in
-    let rest : Option ℕ = cond (p 0) (Some 0) (greatest_passing p (length o)) in
-    ⊎_elim (λ t. let same : Some (length o) ≡ Some a = sym (cond-true (p (length o)) (Some (length o)) rest t) ∙ e in let at : length o
-    ≡ a = cc in subst (λ k. p k ≡ true) at t)
-    (λ f. let e2 : rest ≡ Some a = sym (cond-false (p (length o)) (Some (length o)) rest f) ∙ e in
-    ⊎_elim (λ t. let same : Some 0 ≡ Some a = sym (cond-true (p 0) (Some 0) (greatest_passing p (length o)) t) ∙ e2 in let at : 0
-    ≡ a = cc in subst (λ k. p k ≡ true) at t)
-    (λ g. greatest-passes p (length o) a (sym (cond-false (p 0) (Some 0) (greatest_passing p (length o)) g) ∙ e2)) (cases_Bool (p 0)))
-    (cases_Bool (p (length o)))
+    ⊎_elim (λ t. let same : Some (length o) ≡ Some a = rw t at e in let at : length o ≡ a = cc in subst (λ k. p k ≡ true) at t)
+    (λ f. let rest = rw f at e in
+    ⊎_elim (λ t. let same : Some 0 ≡ Some a = rw t at rest in let at : 0 ≡ a = cc in subst (λ k. p k ≡ true) at t)
+    (λ g. greatest-passes p (length o) a (rw g at rest)) (cases_Bool (p 0))) (cases_Bool (p (length o)))
 
 -- what is computed is a sandwich
 pub sandwich-sandwiched : (o r : List ℕ) (a : ℕ) (m : List ℕ) (b : ℕ) → sandwich o r ≡ Some (a, m, b) → IsSandwiched o r a m b
@@ -195,9 +185,4 @@ sandwich-sandwiched o r a m b e = of_kept (kept_before o r) refl e
     of_kept None is same = absurd (cc)
     of_kept (Some n) is same =
         let t : ◌≡◌ {A = ℕ × List ℕ × ℕ} (n, slice_range r n (length r - (length o - n)), length o - n) (a, m, b) = cc in
-        let e1 : n ≡ a = ap (λ p. p.0) t in
-        let e2 : slice_range r n (length r - (length o - n)) ≡ m = ap (λ p. p.1) t in
-        let e3 : length o - n ≡ b = ap (λ p. p.2) t in
-        let here : IsSandwiched o r n (slice_range r n (length r - (length o - n))) (length o - n) = test-true o r n (kept_before-passes o r n is) in
-        subst (λ k. IsSandwiched o r k m b) e1 (subst (λ l. IsSandwiched o r n l b) e2
-        (subst (λ k. IsSandwiched o r n (slice_range r n (length r - (length o - n))) k) e3 here))
+        subst (λ (p : ℕ × List ℕ × ℕ). IsSandwiched o r p.0 p.1 p.2) t (test-true o r n (kept_before-passes o r n is))

@@ -1,6 +1,6 @@
 -- Laws of what is written for edits, and of the end of the text that is shown.
-use Rattle.snippet_splice.proofs.Common.{◌≡◌, ◌≢◌, ℕ, suc, ◌+◌, ◌-◌, ◌<◌, ◌≤◌, false, cond, ◌&&◌, eqb, List, [], ◌∷◌, ◌++◌, length, map, take, drop, get_or}
-use Rattle.snippet_splice.proofs.Common.{count_by, refl, sym, ap, subst, ◌∙◌, arith, append_assoc, zero-add, ◌==◌, if◌then◌else◌, length-append, take_at}
+use Rattle.snippet_splice.proofs.Common.{◌≡◌, ◌≢◌, ℕ, suc, ◌+◌, ◌-◌, ◌<◌, ◌≤◌, false, cond, ◌&&◌, eqb, List, [], ◌∷◌, ◌++◌, length, map, take, get_or}
+use Rattle.snippet_splice.proofs.Common.{count_by, refl, ap, subst, ◌∙◌, arith, append_assoc, zero-add, ◌==◌, if◌then◌else◌, length-append, take_at}
 use Rattle.snippet_splice.proofs.Common.{take-take, drop_at, get_or_at, length_push, IsUtf8-take, IsUtf8-drop, IsCharBoundary-before_ascii}
 use Rattle.snippet_splice.proofs.Common.{IsCharBoundary-after_ascii, IsUtf8, sum_by-append, sum_by-cons, cond-true, cond-false, and_parts, and_left, eqb-true}
 use Rattle.snippet_splice.proofs.Common.{ne_eqb, is_lf, last_byte, IsSpanBorder, LineRange, TrimmedPatch, Edit, trimmed_edit_of, AreApart, in_text}
@@ -14,8 +14,7 @@ pub with_line_feeds-split : (xs ys : List ℕ) → ((i : ℕ) → i < length xs 
     → with_line_feeds (xs ++ 13 ∷ ys) ≡ xs ++ cond (eqb (get_or ys 0 0) 10) (with_line_feeds ys) (13 ∷ with_line_feeds ys)
 with_line_feeds-split [] ys none = refl
 with_line_feeds-split (x ∷ xs) ys none =
-    let other : (eqb x 13 && eqb (get_or (xs ++ 13 ∷ ys) 0 0) 10) ≡ false = and_left (eqb x 13) (eqb (get_or (xs ++ 13 ∷ ys) 0 0) 10)
-    (ne_eqb x 13 (none 0 (omega arith))) in
+    let other = and_left (eqb x 13) (eqb (get_or (xs ++ 13 ∷ ys) 0 0) 10) (ne_eqb x 13 (none 0 (omega arith))) in
     cond-false (eqb x 13 && eqb (get_or (xs ++ 13 ∷ ys) 0 0) 10) (with_line_feeds (xs ++ 13 ∷ ys)) (x ∷ with_line_feeds (xs ++ 13 ∷ ys)) other
     ∙ ap (λ l. x ∷ l) (with_line_feeds-split xs ys (λ i within. none (suc i) (omega arith)))
 
@@ -35,11 +34,10 @@ with_line_feeds-step old rest front after more e none added = grind (arith, cond
 -- what stands before and after an ASCII character is text
 pub utf8-after : (rest front after : List ℕ) (b : ℕ) → IsUtf8 rest → b < 128 → rest ≡ front ++ b ∷ after → IsUtf8 after
 utf8-after rest front after b utf8 ascii e =
-    let at : get_or rest (length front) 0 ≡ b = ap (λ l. get_or l (length front) 0) e ∙ get_or_at front b after 0 (length front) refl in
-    let within : length front < length rest = omega (arith, ap length e, length-append front (b ∷ after)) in
-    let cut : drop (length front + 1) rest ≡ after = ap (drop (length front + 1)) (e ∙ sym (append_assoc front (b ∷ []) after))
-    ∙ drop_at (front ++ b ∷ []) after (length front + 1) (length_push front b) in
-    subst IsUtf8 cut (IsUtf8-drop rest (length front + 1) utf8 (IsCharBoundary-after_ascii rest (length front) utf8 within (omega (arith, at))))
+    let within : length front < length rest = omega (arith, ap length e, length-append {A = ℕ}) in
+    let at : get_or rest (length front) 0 ≡ b = rw e (get_or_at front b after 0 (length front) refl) in
+    subst IsUtf8 (rw (e, ← append_assoc front (b ∷ []) after) (drop_at (front ++ b ∷ []) after (length front + 1) (length_push front b)))
+    (IsUtf8-drop rest (length front + 1) utf8 (IsCharBoundary-after_ascii rest (length front) utf8 within (omega (arith, at))))
 
 -- what stands before an ASCII byte in UTF-8 is UTF-8
 pub utf8-front : (rest front after : List ℕ) (b : ℕ) → IsUtf8 rest → b < 128 → rest ≡ front ++ b ∷ after → IsUtf8 front
@@ -103,9 +101,7 @@ pub last_text-at : (ps : List TrimmedPatch) (d : TrimmedPatch) → 0 < length ps
     → last_text (map trimmed_edit_of ps) ≡ (get_or ps (length ps - 1) d).replacement.now
 last_text-at [] d some = absurd (omega arith)
 last_text-at (p ∷ []) d some = refl
-last_text-at (p ∷ q ∷ ps) d some =
-    let e : length (p ∷ q ∷ ps) - 1 ≡ suc (length (q ∷ ps) - 1) = omega arith in
-    last_text-at (q ∷ ps) d (omega arith) ∙ ap (λ k. (get_or (p ∷ q ∷ ps) k d).replacement.now) (sym e)
+last_text-at (p ∷ q ∷ ps) d some = grind (arith, last_text-at (q ∷ ps) d (omega arith))
 
 -- an LF after a text is none of it
 pub without_final-push : (xs : List ℕ) → without_final_line_feeds (xs ++ 10 ∷ []) ≡ without_final_line_feeds xs
@@ -133,5 +129,4 @@ without_final-twice (b ∷ bs) = without_lone-twice b (without_final_line_feeds 
 pub front-shorter : (rest text front : List ℕ) → rest ≡ take (length rest) text → rest ≡ front ++ 10 ∷ [] → front ≡ take (length front) text
 front-shorter rest text front is cut =
     let short : length front ≤ length rest = omega (arith, ap length cut, length-append front (10 ∷ [])) in
-    sym (ap (take (length front)) cut ∙ take_at front (10 ∷ []) (length front) refl) ∙ ap (take (length front)) is
-    ∙ take-take (length front) (length rest) text short
+    cc (take_at front (10 ∷ []) (length front) refl, cut, is, take-take (length front) (length rest) text short)

@@ -1,4 +1,4 @@
-use Rattle.snippet_splice.proofs.Common.{◌≡◌, ◌≢◌, ◌<◌, ℕ, true, false, [], ◌∷◌, ◌++◌, Some, None, eqb, length, get_or, sym, ap}
+use Rattle.snippet_splice.proofs.Common.{◌≡◌, true, false, [], ◌∷◌, ◌++◌, Some, None, eqb, get_or, sym, ap}
 use Rattle.snippet_splice.proofs.Common.{◌∙◌, lit<, eq-eqb, cond-true, cond-false, false_from_ne_true, eqb-true, both_ways, append-nil, encode_ascii}
 use Rattle.snippet_splice.proofs.Common.{split_parts, starts_char, string_bytes, with_line_feeds}
 use Rattle.snippet_splice.proofs.WriteLemmas.{with_line_feeds-step, with_line_feeds-none, utf8-after}
@@ -10,8 +10,7 @@ loop-front-preserved-in_ok-push c =
     let starts = starts_char 10 c.in-Some.after.now c.starts_with.result c.starts_with.ensures.cases (lit< tt) (lit< tt) in
     let no_lf : eqb (get_or c.in-Some.after.now 0 0) 10 ≡ false = false_from_ne_true _ (λ t.
     both_ways c.starts_with.result c.if-not-starts_with.true (starts.1 (eqb-true _ 10 t))) in
-    let added : string_bytes c.push.new.self ≡ string_bytes c.push_str.new.self ++ 13 ∷ [] = c.in_ok-push.ensures.bytes
-    ∙ ap (λ l. string_bytes c.push_str.new.self ++ l) (encode_ascii 13 (lit< tt)) in
+    let added : string_bytes c.push.new.self ≡ string_bytes c.push_str.new.self ++ 13 ∷ [] = cc (c.in_ok-push.ensures.bytes, encode_ascii 13 (lit< tt)) in
     let pushed : string_bytes c.push_str.new.self ≡ string_bytes c.loop-front.out ++ c.in-Some.front.now = c.in_ok-push_str.ensures.bytes in (
       utf8-after c.loop-front.rest.now c.in-Some.front.now c.in-Some.after.now 13 c.loop-front.invariant.0 (lit< tt) parts.0,
       ap (λ l. l ++ with_line_feeds c.in-Some.after.now) (added ∙ ap (λ l. l ++ 13 ∷ []) pushed)
@@ -33,9 +32,7 @@ loop-front-preserved c =
 
 pub returns : goal.returns
 returns c =
-    let none : (i : ℕ) → i < length c.loop-front.rest.now → get_or c.loop-front.rest.now i 0 ≢ 13 = split_parts 13 c.loop-front.rest.now None
-    c.in_default.ensures.cases (lit< tt) in
+    let none = split_parts 13 c.loop-front.rest.now None c.in_default.ensures.cases (lit< tt) in
     record {
-      written = c.in_ok-push_str-2.ensures.bytes ∙ ap (λ l. string_bytes c.loop-front.out ++ l) (sym (with_line_feeds-none c.loop-front.rest.now none))
-          ∙ c.loop-front.invariant.1;
+      written = cc (c.in_ok-push_str-2.ensures.bytes, with_line_feeds-none c.loop-front.rest.now none, c.loop-front.invariant.1);
     }

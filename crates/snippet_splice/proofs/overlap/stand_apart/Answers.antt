@@ -1,4 +1,4 @@
-use Rattle.snippet_splice.proofs.Common.{◌-◌, arith}
+use Rattle.snippet_splice.proofs.Common.{arith}
 use Rattle.snippet_splice.proofs.OverlapLemmas.{get_or-edit_of}
 use Rattle.snippet_splice.proofs.overlap.stand_apart.Goals as goal
 

@@ -1,5 +1,5 @@
-use Rattle.snippet_splice.proofs.Common.{◌≡◌, ◌<◌, ◌+◌, ℕ, List, length, get_or, map, take, sym, ap, subst, ◌∙◌, arith, rules, take_all}
-use Rattle.snippet_splice.proofs.Common.{answers_always, All-permutation, IsSortedBy, IsStableBy, Range, Patch, IsSpan, TrimmedPatch, edit_of, trimmed_edit}
+use Rattle.snippet_splice.proofs.Common.{◌≡◌, ◌<◌, ℕ, List, length, get_or, map, sym, ap, subst, ◌∙◌, arith, rules, take_all}
+use Rattle.snippet_splice.proofs.Common.{answers_always, All-permutation, IsSortedBy, IsStableBy, Patch, IsSpan, TrimmedPatch, edit_of}
 use Rattle.snippet_splice.proofs.Common.{in_order, edited_from}
 use Rattle.snippet_splice.proofs.EditLemmas.{edited_from-trimmed}
 use Rattle.snippet_splice.proofs.OrderLemmas.{pair-order, pair-tells}
@@ -14,15 +14,11 @@ loop-patch-preserved c =
     let t : TrimmedPatch = c.trim_patch.result in
     let within : i < length c.args.patches.now = c.loop-patch-test.true in
     let at : get_or c.args.patches.now i p ≡ p = sym c.patch-item.is in
-    let one : seen t ≡ seen_edit source (edit_of (get_or c.args.patches.now i p)) =
-    ap (λ e. (e, t.original_span.start, t.original_span.end)) c.trim_patch.ensures.edit
-    ∙ ap (λ (r : Range ℕ). (trimmed_edit source (edit_of p), r.start, r.end)) c.trim_patch.ensures.original
-    ∙ ap (λ q. seen_edit source (edit_of q)) c.patch-item.is in
+    let one : seen t ≡ seen_edit source (edit_of (get_or c.args.patches.now i p)) = cc in
     let given : IsSpan source p.span.start p.span.end = subst (λ (q : Patch). IsSpan source q.span.start q.span.end) at (c.requires.spans i p within) in
-    let original : IsSpan source t.original_span.start t.original_span.end = subst (λ (r : Range ℕ). IsSpan source r.start r.end)
-    (sym c.trim_patch.ensures.original) given in
-    subst (AreTrimmed source (take (i + 1) c.args.patches.now)) (sym {A = List TrimmedPatch} c.in_ok-push.ensures.items)
-    (AreTrimmed-more source c.args.patches.now c.loop-patch.trimmed.items i p t within c.loop-patch.invariant one c.trim_patch.ensures.span original)
+    let original = rw (← c.trim_patch.ensures.original) at given in
+    rw (← sym {A = List TrimmedPatch} c.in_ok-push.ensures.items) (AreTrimmed-more source c.args.patches.now c.loop-patch.trimmed.items i p t within
+    c.loop-patch.invariant one c.trim_patch.ensures.span original)
 
 pub returns : goal.returns
 returns c =

@@ -1,4 +1,4 @@
-use Rattle.snippet_splice.proofs.Common.{◌≡◌, ℕ, List, [], count_by, max, arith, drop_all, drop_more, IsSpanBorder, rules}
+use Rattle.snippet_splice.proofs.Common.{◌≡◌, ℕ, List, count_by, max, arith, drop_all, drop_more, IsSpanBorder, rules}
 use Rattle.snippet_splice.proofs.splice.source_lines_shown.Goals as goal
 
 border_max : (source : List ℕ) (a b m : ℕ) → m ≡ max a b → IsSpanBorder source a → IsSpanBorder source b → IsSpanBorder source m

@@ -1,7 +1,7 @@
-use Rattle.snippet_splice.proofs.Common.{◌≡◌, ◌≢◌, ◌++◌, ◌+◌, ◌<◌, ◌≤◌, ℕ, List, [], All, map, drop, min, length, sym, ap, subst, ◌∙◌, rules, slice_get}
-use Rattle.snippet_splice.proofs.Common.{string_bytes, lines_of, source_lines, Edit, edit_of, trimmed_edits, in_order, patched, IsSpanBorder, TrimmedPatch}
+use Rattle.snippet_splice.proofs.Common.{◌≡◌, ◌≢◌, ◌++◌, ℕ, List, [], All, map, drop, min, length, sym, ap, subst, ◌∙◌, rules, slice_get}
+use Rattle.snippet_splice.proofs.Common.{string_bytes, Edit, edit_of, trimmed_edits, in_order, IsSpanBorder, TrimmedPatch}
 use Rattle.snippet_splice.proofs.Common.{end_from, written_ranges, IsPlainSplice, first_start, shown_start, shown_rest, shown_text, closes_line}
-use Rattle.snippet_splice.proofs.Common.{without_final_line_feeds, capped, extents_from, extent_of, feeds_made, ranges_from, texts_of, AreFrom, shown_line}
+use Rattle.snippet_splice.proofs.Common.{extents_from, extent_of, ranges_from, shown_line}
 use Rattle.snippet_splice.proofs.Common.{original_bounds_of, trimmed_edit_of, AreApart, arith}
 use Rattle.snippet_splice.proofs.OverlapLemmas.{apart-in_order, ordered-spans}
 use Rattle.snippet_splice.proofs.PlaceLemmas.{replaced_are, stretches_are}
@@ -48,31 +48,19 @@ pub returns-clause-splice : goal.returns-clause-splice
 returns-clause-splice c =
     let source : List ℕ = c.args.source.now in
     let es : List Edit = map edit_of c.args.patches.now in
-    let edits : map trimmed_edit_of c.deref-2.result.now ≡ trimmed_edits source es = ap (map trimmed_edit_of) c.deref-2.ensures.value
-    ∙ c.in_ok-patches.ensures.edits in
+    let edits : map trimmed_edit_of c.deref-2.result.now ≡ trimmed_edits source es = cc (c.deref-2.ensures.value, c.in_ok-patches.ensures.edits) in
     let before = (goal.at.returns-clause-splice c).After-deref-2 in
     let first = first_is before in
-    let same : map trimmed_edit_of c.deref-3.result.now ≡ map trimmed_edit_of c.deref-2.result.now = ap (map trimmed_edit_of)
-    (c.deref-3.ensures.value ∙ sym c.deref-2.ensures.value) in
+    let same : map trimmed_edit_of c.deref-3.result.now ≡ map trimmed_edit_of c.deref-2.result.now = cc (c.deref-3.ensures.value, c.deref-2.ensures.value) in
     let closed : c.closes_line.result ≡ closes_line (map trimmed_edit_of c.deref-2.result.now) = c.closes_line.ensures.value ∙ ap closes_line same in
-    let rest : c.shown_rest-rest.result.now ≡ shown_rest c.args.fold c.closes_line.result
-    (drop (min c.in_ok-written.written.end (length source)) source) =
-    c.shown_rest-rest.ensures.value ∙ ap (shown_rest c.args.fold c.closes_line.result)
-    (c.range_from-after.ensures.value ∙ ap (λ n. drop n source) c.min.ensures) in
+    let rest : c.shown_rest-rest.result.now ≡ shown_rest c.args.fold c.closes_line.result (drop (min c.in_ok-written.written.end (length source)) source) = cc
+    (c.shown_rest-rest.ensures.value, c.range_from-after.ensures.value, c.min.ensures) in
     let value : string_bytes c.in_ok-complete.complete ≡ shown_text c.args.fold source es =
-    c.in_ok-complete.ensures.value ∙ shown-value c.args.fold source es (map trimmed_edit_of c.deref-2.result.now)
-    c.in-Some.first.now.original_span.start c.shown_start-start.result c.in_ok-written.written.end c.closes_line.result
-    (string_bytes c.in_ok-written.written.text)
-    c.shown_rest-rest.result.now edits first c.shown_start-start.ensures.value c.in_ok-written.ensures.text c.in_ok-written.ensures.end closed
-    rest in
-    let whole : string_bytes c.in_ok-complete.complete ≡ without_final_line_feeds
-    (string_bytes c.in_ok-written.written.text ++ c.shown_rest-rest.result.now) = c.in_ok-complete.ensures.value in
-    let begin : c.shown_start-start.result ≡ shown_start c.args.fold source (first_start (in_order es)) = c.shown_start-start.ensures.value
-    ∙ ap (shown_start c.args.fold source) first in
-    let written : c.in_ok-written.written.ranges.items ≡ written_ranges source 0 (shown_start c.args.fold source (first_start (in_order es)))
-    (trimmed_edits source es) = c.in_ok-written.ensures.ranges
-    ∙ ap (λ n. written_ranges source 0 n (map trimmed_edit_of c.deref-2.result.now)) begin
-    ∙ ap (written_ranges source 0 (shown_start c.args.fold source (first_start (in_order es)))) edits in
+    c.in_ok-complete.ensures.value ∙ shown-value _ _ _ _ _ _ _ _ _ _ edits first
+    c.shown_start-start.ensures.value c.in_ok-written.ensures.text c.in_ok-written.ensures.end closed rest in
+    let begin : c.shown_start-start.result ≡ shown_start c.args.fold source (first_start (in_order es)) = cc (c.shown_start-start.ensures.value, first) in
+    let written : c.in_ok-written.written.ranges.items ≡ written_ranges source 0 (shown_start c.args.fold source (first_start (in_order es))) (trimmed_edits
+    source es) = cc (c.in_ok-written.ensures.ranges, begin, edits) in
     let ts : List Edit = map trimmed_edit_of c.deref-4.result.now in
     let trimmed : ts ≡ trimmed_edits source es = ap (map trimmed_edit_of) c.deref-4.ensures.value ∙ c.in_ok-patches.ensures.edits in
     let places : map extent_of c.deref-6.result.now ≡ extents_from source c.shown_start-start.result c.shown_start-start.result ts = ap
@@ -90,15 +78,14 @@ returns-clause-splice c =
       original_spans = c.in_ok-patches.ensures.original_spans;
       law = c.in_ok-patches.ensures.law apart;
       value = value;
-      ended = ap without_final_line_feeds whole ∙ without_final-twice (string_bytes c.in_ok-written.written.text ++ c.shown_rest-rest.result.now) ∙ sym whole;
+      ended = rw c.in_ok-complete.ensures.value (without_final-twice (string_bytes c.in_ok-written.written.text ++ c.shown_rest-rest.result.now));
       written = written;
       stretches = λ k. c.in_ok-highlights.ensures.value k ∙ stretches_are c.args.fold source es ts c.shown_start-start.result k
           (map extent_of c.deref-6.result.now) begin trimmed places;
-      highlighted = c.in_ok-highlights.ensures.lines ∙ ap (λ n. capped
-          (feeds_made (map extent_of c.deref-6.result.now) + n + 1)) c.line_feed_count-more.ensures.value
-          ∙ num_shown c.args.fold source es ts c.shown_start-start.result c.in_ok-written.written.end c.closes_line.result c.shown_rest-rest.result.now
+      highlighted = rw (c.in_ok-highlights.ensures.lines, c.line_feed_count-more.ensures.value) (num_shown c.args.fold source es ts
+          c.shown_start-start.result c.in_ok-written.written.end c.closes_line.result c.shown_rest-rest.result.now
           (map extent_of c.deref-6.result.now) trimmed begin places
-          (c.in_ok-written.ensures.end ∙ ap (end_from c.shown_start-start.result) (edits ∙ sym trimmed)) (closed ∙ ap closes_line (edits ∙ sym trimmed)) rest;
+          (c.in_ok-written.ensures.end ∙ ap (end_from c.shown_start-start.result) (edits ∙ sym trimmed)) (closed ∙ ap closes_line (edits ∙ sym trimmed)) rest);
       replaced = λ k. c.in_ok-replaced_highlights.ensures.value k ∙ replaced_are c.args.fold source es ts c.shown_start-start.result k
           (map extent_of c.deref-7.result.now) begin trimmed (ap (map extent_of) c.deref-7.ensures.value ∙ c.in_ok-places.ensures.value);
       replaced_lines = c.in_ok-replaced_highlights.ensures.lines ∙ num_replaced c.args.fold source es ts c.shown_start-start.result
@@ -112,8 +99,7 @@ returns-clause-splice c =
       text = λ plain. value ∙ (part plain).text ∙ sym (part plain).spliced;
       ranges = λ plain. ap (ranges_from (shown_line c.args.fold source es)) written
           ∙ ranges_from-written_ranges c.args.fold source es plain.no_cr plain.before apart;
-      lines = λ plain texts_none. subst (λ t. AreFrom (shown_line c.args.fold source es) (texts_of (lines_of t)) (texts_of (source_lines (patched source es))))
-          (sym (value ∙ (part plain).text)) (AreFrom-shown c.args.fold source es plain.no_cr texts_none (part plain));
-      touched = λ plain j touched filled. subst (λ t. (shown_line c.args.fold source es ≤ j) × (j < shown_line c.args.fold source es + length (lines_of t)))
-          (sym (value ∙ (part plain).text)) (shown-touched c.args.fold source es plain.no_cr plain.before apart (part plain) j touched filled);
+      lines = λ plain texts_none. rw (value ∙ (part plain).text) (AreFrom-shown c.args.fold source es plain.no_cr texts_none (part plain));
+      touched = λ plain j touched filled. rw (value ∙ (part plain).text)
+          (shown-touched c.args.fold source es plain.no_cr plain.before apart (part plain) j touched filled);
     }

@@ -1,20 +1,12 @@
-use Rattle.snippet_splice.proofs.Common.{◌≡◌, ◌∙◌, ◌+◌, ◌<◌, ◌≤◌, ℕ, List, [], ◌∷◌, ◌++◌, ap, arith, count_by, drop}
-use Rattle.snippet_splice.proofs.Common.{get_or, length, map, subst, drop_more, is_lf, TrimmedPatch, Edit, Extent, characters_before, end_character}
-use Rattle.snippet_splice.proofs.Common.{extents_from, start_character, extent_of, AreApart, trimmed_edit_of}
+use Rattle.snippet_splice.proofs.Common.{◌≡◌, ◌∙◌, ◌+◌, ◌<◌, ◌≤◌, ℕ, List, [], ◌∷◌, ap, arith, count_by, drop}
+use Rattle.snippet_splice.proofs.Common.{get_or, length, map, subst, drop_more, is_lf, TrimmedPatch, Edit, characters_before, end_character}
+use Rattle.snippet_splice.proofs.Common.{start_character, AreApart, trimmed_edit_of}
 use Rattle.snippet_splice.proofs.PlaceLemmas.{between, empty_part_utf8, counted_more, extent_is, none_before, places_more, start_few, utf8_more}
+use Rattle.snippet_splice.proofs.Common.{common_steps}
 use Rattle.snippet_splice.proofs.stretches.patch_places.Goals as goal
 
 pub loop-patch-init : goal.loop-patch-init
-loop-patch-init c =
-    let a = c.args in
-    record {
-      border = c.requires.from;
-      after = omega arith;
-      utf8 = empty_part_utf8 a.source.now a.from;
-      counted = none_before a.source.now a.from;
-      apart = c.requires.apart;
-      whole = ap (λ ps. map extent_of ps ++ extents_from a.source.now a.from a.from (map trimmed_edit_of a.patches.now)) c.in_ok-places.ensures.items;
-    }
+loop-patch-init c = grind (arith, common_steps, empty_part_utf8, none_before)
 
 pub loop-patch-preserved : goal.loop-patch-preserved
 loop-patch-preserved c =
@@ -41,35 +33,20 @@ loop-patch-preserved c =
     let front = c.text_between-between.ensures.value inv.border span.from in
     let inside = c.text_between-inside.ensures.value span.from span.to in
     let utf8 = utf8_more source c.text_between-between.result.now from at e.start inv.after apart.0 front inv.utf8 c.text_between-between.utf8 in
-    let before : c.chars_after-text_start.result ≡ characters_before source from e.start = counted_more source c.text_between-between.result.now from at
-    e.start c.loop-patch.chars c.chars_after-text_start.result inv.after apart.0 front inv.utf8 inv.counted c.chars_after-text_start.ensures.value
-    (omega arith) in
+    let before = counted_more source c.text_between-between.result.now from at e.start c.loop-patch.chars c.chars_after-text_start.result inv.after apart.0
+    front inv.utf8 inv.counted c.chars_after-text_start.ensures.value (omega arith) in
     let counted : c.chars_after-chars.result ≡ characters_before source from e.end = counted_more source c.text_between-inside.result.now from e.start e.end
     c.chars_after-text_start.result c.chars_after-chars.result low apart.1 inside utf8 before c.chars_after-chars.ensures.value (omega arith) in
     let starts : c.saturating_add-start.result ≡ start_character source from e.start = omega
     (arith, c.saturating_add-start.ensures, before, c.steps_after_text.ensures.value, start_few source from e.start) in
     let ends : c.end_char.result ≡ end_character source from e = c.end_char.ensures.value from inside starts counted in
     let feeds : c.line_feed_count.result ≡ count_by is_lf (between source at e.start) = c.line_feed_count.ensures.value ∙ ap (count_by is_lf) front in
-    let x : Extent = record {
-      feeds = count_by is_lf (between source at e.start);
-      before = characters_before source from e.start;
-      start = start_character
-          source from e.start;
-      end = end_character source from e;
-      under = between source e.start e.end;
-      text = e.text;
-    } in
-    let all : List Extent = extents_from source from from (map trimmed_edit_of ps) in
-    let whole : map extent_of c.loop-patch.places.items ++ (x ∷ extents_from source from e.end es)
-    ≡ all = subst (λ rest. map extent_of c.loop-patch.places.items ++ extents_from source from at rest ≡ all) left inv.whole in
+    let whole = rw left at inv.whole in
     record {
       border = span.to;
       after = omega (arith, low, apart.1);
       utf8 = utf8_more source c.text_between-inside.result.now from e.start e.end low apart.1 inside utf8 c.text_between-inside.utf8;
       counted = counted;
       apart = apart.2;
-      whole = places_more x (extents_from source from e.end es)
-          c.loop-patch.places.items c.push.new.self.items _ all c.in_ok-push.ensures.items
-          (extent_is x c.line_feed_count.result c.chars_after-text_start.result c.saturating_add-start.result c.end_char.result
-          c.text_between-inside.result.now feeds before starts ends inside) whole;
+      whole = places_more _ _ _ _ _ _ c.in_ok-push.ensures.items (extent_is _ _ _ _ _ _ feeds before starts ends inside) whole;
     }

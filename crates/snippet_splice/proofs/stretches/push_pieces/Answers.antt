@@ -1,6 +1,6 @@
 use Rattle.snippet_splice.proofs.Common.{◌≡◌, ◌∙◌, ◌+◌, ℕ, List, [], ◌∷◌, ◌++◌, Some, None, ap, arith, if◌then◌else◌}
 use Rattle.snippet_splice.proofs.Common.{◌==◌, count_by, lit<, sym, append_assoc, is_lf, append-nil, split_parts, SubstitutionHighlight, capped, pieces_on}
-use Rattle.snippet_splice.proofs.Common.{stretch_width, line_stretches, slice_split}
+use Rattle.snippet_splice.proofs.Common.{stretch_width, slice_split}
 use Rattle.snippet_splice.proofs.StretchLemmas.{feeds_cut, feeds_whole, pieces_cut, pieces_whole}
 use Rattle.snippet_splice.proofs.WriteLemmas.{utf8-after}
 use Rattle.snippet_splice.proofs.stretches.push_pieces.Goals as goal
@@ -18,30 +18,15 @@ loop-piece-preserved c =
     let start : ℕ = c.loop-piece.start in
     let old = c.loop-piece.lines.items in
     let parts = split_parts 10 rest (Some (c.in-Some.piece, c.in-Some.after)) c.in-Some.ensures.cases (lit< tt) in
-    let end : c.saturating_add-end.result ≡ capped (start + stretch_width piece) = c.saturating_add-end.ensures
-    ∙ ap (λ n. capped (start + n)) c.stretch_width.ensures.value in
+    let end : c.saturating_add-end.result ≡ capped (start + stretch_width piece) = cc (c.saturating_add-end.ensures, c.stretch_width.ensures.value) in
+    let cuts = feeds_cut rest piece after parts.0 parts.1 in
     record {
       text = utf8-after rest piece after 10 c.loop-piece.invariant.text (lit< tt) parts.0;
       whole = λ k.
-          let later : List SubstitutionHighlight = pieces_on k (capped (line + 1)) 0 (slice_split is_lf after) in
-          let now : line_stretches c.push_stretch.new.lines.items k ≡ line_stretches old k
-          ++ added k line start (capped (start + stretch_width piece)) = c.in_ok-push_stretch.ensures.value k
-          ∙ ap (λ n. line_stretches old k ++ added k line start n) end in
-          let one : List SubstitutionHighlight = added k line start (capped (start + stretch_width piece)) in
-          let next : pieces_on k c.saturating_add-line.result 0 (slice_split is_lf after)
-          ≡ later = ap (λ n. pieces_on k n 0 (slice_split is_lf after)) c.saturating_add-line.ensures in
-          let left : one ++ later ≡ pieces_on k line start (slice_split is_lf rest) =
-          ap (pieces_on k line start) (sym (pieces_cut rest piece after parts.0 parts.1)) in
-          ap (λ ys. line_stretches c.push_stretch.new.lines.items k ++ ys) next ∙ ap (λ ys. ys ++ later) now ∙ append_assoc (line_stretches old k) one later
-          ∙ ap (λ ys. line_stretches old k ++ ys) left ∙ c.loop-piece.invariant.whole k;
-      lines = omega (
-        arith,
-        c.loop-piece.invariant.lines,
-        c.in_ok-push_stretch.ensures.lines,
-        c.saturating_add-line.ensures,
-        feeds_cut rest piece after parts.0
-            parts.1,
-      );
+          let left : added k line start (capped (start + stretch_width piece)) ++ pieces_on k (capped (line + 1)) 0 (slice_split is_lf after)
+          ≡ pieces_on k line start (slice_split is_lf rest) = ap (pieces_on k line start) (sym (pieces_cut rest piece after parts.0 parts.1)) in
+          rw (c.saturating_add-line.ensures, c.in_ok-push_stretch.ensures.value k, end, append_assoc, left) (c.loop-piece.invariant.whole k);
+      lines = omega (arith, c.loop-piece.invariant.lines, c.in_ok-push_stretch.ensures.lines, c.saturating_add-line.ensures);
       begun = λ none. absurd (omega (arith, none, ap (count_by is_lf) (c.loop-piece.invariant.begun none).1, feeds_cut rest piece after parts.0 parts.1));
     }
 
@@ -52,15 +37,9 @@ returns c =
     let start : ℕ = c.loop-piece.start in
     let old = c.loop-piece.lines.items in
     let none = split_parts 10 rest None c.in_default.ensures.cases (lit< tt) in
-    let end : c.saturating_add-end-2.result ≡ capped (start + stretch_width rest) = c.saturating_add-end-2.ensures
-    ∙ ap (λ n. capped (start + n)) c.stretch_width-2.ensures.value in
+    let end : c.saturating_add-end-2.result ≡ capped (start + stretch_width rest) = cc (c.saturating_add-end-2.ensures, c.stretch_width-2.ensures.value) in
     record {
-      value = λ k.
-          let one : List SubstitutionHighlight = added k line start (capped (start + stretch_width rest)) in
-          let left : one ≡ pieces_on k line start (slice_split is_lf rest) =
-          sym (append-nil one) ∙ ap (pieces_on k line start) (sym (pieces_whole rest none)) in
-          c.in_ok-push_stretch-2.ensures.value k ∙ ap (λ n. line_stretches old k ++ added k line start n) end ∙ ap (λ ys. line_stretches old k ++ ys) left
-          ∙ c.loop-piece.invariant.whole k;
+      value = λ k. rw (c.in_ok-push_stretch-2.ensures.value k, end) (rw (pieces_whole rest none, append-nil) at (c.loop-piece.invariant.whole k));
       lines = omega (arith, c.in_ok-push_stretch-2.ensures.lines, c.loop-piece.invariant.lines, feeds_whole rest none);
       end = λ one. let same = c.loop-piece.invariant.begun one in
           end ∙ ap (λ n. capped (n + stretch_width rest)) same.0 ∙ ap (λ t. capped (c.args.from + stretch_width t)) same.1;

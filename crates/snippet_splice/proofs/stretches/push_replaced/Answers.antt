@@ -1,6 +1,6 @@
 use Rattle.snippet_splice.proofs.Common.{◌≡◌, ◌∙◌, ◌+◌, ℕ, List, [], ◌∷◌, ◌++◌, Some, None, ap, arith, if◌then◌else◌}
 use Rattle.snippet_splice.proofs.Common.{◌==◌, length, lit<, sym, append_assoc, on_ok_weaker, split_parts, SubstitutionHighlight, capped, taken_on}
-use Rattle.snippet_splice.proofs.Common.{without_cr, line_stretches, slice_split, is_lf}
+use Rattle.snippet_splice.proofs.Common.{without_cr, slice_split, is_lf}
 use Rattle.std.proofs.Common.{chars}
 use Rattle.snippet_splice.proofs.StretchLemmas.{feeds_cut, feeds_whole, pieces_cut, pieces_whole, taken_cut}
 use Rattle.snippet_splice.proofs.WriteLemmas.{utf8-after}
@@ -22,29 +22,16 @@ loop-piece-preserved c =
     let old = c.loop-piece.lines.items in
     let parts = split_parts 10 rest (Some (c.in-Some.piece, c.in-Some.after)) c.in-Some.ensures.cases (lit< tt) in
     let to : ℕ = capped (before + length (chars (without_cr piece))) in
-    let end : c.saturating_add-end.result ≡ to = c.saturating_add-end.ensures
-    ∙ ap (λ n. capped (before + n)) (c.char_count.ensures.value ∙ ap (λ t. length (chars t)) c.without_return.ensures.value) in
+    let end : c.saturating_add-end.result ≡ to = cc (c.saturating_add-end.ensures, c.char_count.ensures.value, c.without_return.ensures.value) in
+    let cuts = feeds_cut rest piece after parts.0 parts.1 in
     record {
       text = utf8-after rest piece after 10 c.loop-piece.invariant.text (lit< tt) parts.0;
       whole = λ k.
-          let later : List SubstitutionHighlight = taken_on k (capped (line + 1)) 0 0 last (slice_split is_lf after) in
-          let one : List SubstitutionHighlight = added k line start to in
-          let now : line_stretches c.push_stretch.new.lines.items k ≡ line_stretches old k ++ one = c.in_ok-push_stretch.ensures.value k
-          ∙ ap (λ n. line_stretches old k ++ added k line start n) end in
-          let next : taken_on k c.saturating_add-line.result 0 0 last (slice_split is_lf after)
-          ≡ later = ap (λ n. taken_on k n 0 0 last (slice_split is_lf after)) c.saturating_add-line.ensures in
-          let left : one ++ later ≡ taken_on k line before start last (slice_split is_lf rest) = sym
+          let left : added k line start to ++ taken_on k (capped (line + 1)) 0 0 last (slice_split is_lf after)
+          ≡ taken_on k line before start last (slice_split is_lf rest) = sym
           (ap (taken_on k line before start last) (pieces_cut rest piece after parts.0 parts.1) ∙ taken_cut k line before start last piece after) in
-          ap (λ ys. line_stretches c.push_stretch.new.lines.items k ++ ys) next ∙ ap (λ ys. ys ++ later) now ∙ append_assoc (line_stretches old k) one later
-          ∙ ap (λ ys. line_stretches old k ++ ys) left ∙ c.loop-piece.invariant.whole k;
-      lines = omega (
-        arith,
-        c.loop-piece.invariant.lines,
-        c.in_ok-push_stretch.ensures.lines,
-        c.saturating_add-line.ensures,
-        feeds_cut rest piece after parts.0
-            parts.1,
-      );
+          rw (c.saturating_add-line.ensures, c.in_ok-push_stretch.ensures.value k, end, append_assoc, left) (c.loop-piece.invariant.whole k);
+      lines = omega (arith, c.loop-piece.invariant.lines, c.in_ok-push_stretch.ensures.lines, c.saturating_add-line.ensures);
     }
 
 pub returns : goal.returns
@@ -57,10 +44,8 @@ returns c =
     let old = c.loop-piece.lines.items in
     let none = split_parts 10 rest None c.in_default.ensures.cases (lit< tt) in
     record {
-      value = on_ok_weaker c.push_stretch-2.result (λ adds k.
-          let left : added k line start last ≡ taken_on k line before start last (slice_split is_lf rest) = ap (taken_on k line before start last)
-          (sym (pieces_whole rest none)) in
-          adds k ∙ ap (λ ys. line_stretches old k ++ ys) left ∙ c.loop-piece.invariant.whole k) c.push_stretch-2.ensures.value;
+      value = on_ok_weaker c.push_stretch-2.result (λ adds k. rw (adds k) (rw (pieces_whole rest none) at (c.loop-piece.invariant.whole k)))
+          c.push_stretch-2.ensures.value;
       lines = on_ok_weaker c.push_stretch-2.result (λ more. omega (arith, more, c.loop-piece.invariant.lines, feeds_whole rest none))
           c.push_stretch-2.ensures.lines;
     }

@@ -5,19 +5,15 @@ use Rattle.snippet_splice.proofs.trim.as_substr.Goals as goal
 
 pub returns-in-Some-clause-value : goal.returns-in-Some-clause-value
 returns-in-Some-clause-value c =
-    let r : List ℕ = c.args.replacement.now in
-    let o : List ℕ = c.args.original.now in
     let (n, found, is, fits) = c.in-Some.ensures.cases in
-    let e : r ≡ o ++ c.in-Some.middle.now = found.1 ∙ ap (λ l. o ++ l) (sym is) in
-    sym (sandwich-is o r _ _ _ (IsSandwich-begins o r c.in-Some.middle.now e))
+    let e : c.args.replacement.now ≡ c.args.original.now ++ c.in-Some.middle.now = cc in
+    sym (sandwich-is _ _ _ _ _ (IsSandwich-begins c.args.original.now c.args.replacement.now c.in-Some.middle.now e))
 
 pub returns-in-Some-strip_suffix-clause-value : goal.returns-in-Some-strip_suffix-clause-value
 returns-in-Some-strip_suffix-clause-value c =
-    let r : List ℕ = c.args.replacement.now in
-    let o : List ℕ = c.args.original.now in
     let (n, found, is, fits) = c.in-Some-strip_suffix.ensures.cases in
-    let e : r ≡ c.in-Some-strip_suffix.middle.now ++ o = found.1 ∙ ap (λ l. l ++ o) (sym is) in
-    sym (sandwich-is o r _ _ _ (IsSandwich-ends o r c.in-Some-strip_suffix.middle.now c.utf8.original e c.in_default.ensures.cases))
+    let e : c.args.replacement.now ≡ c.in-Some-strip_suffix.middle.now ++ c.args.original.now = cc in
+    sym (sandwich-is _ _ _ _ _ (IsSandwich-ends _ _ c.in-Some-strip_suffix.middle.now c.utf8.original e c.in_default.ensures.cases))
 
 pub returns-in-Some-strip_suffix-2 : goal.returns-in-Some-strip_suffix-2
 returns-in-Some-strip_suffix-2 c =
