@@ -14,6 +14,7 @@ use Rattle.snippet_strokes.proofs.CellLemmas.{with_parts, with_bar}
 use Rattle.snippet_strokes.proofs.DrawnCells.{BarsDrawn}
 use Rattle.snippet_strokes.proofs.LabelPlaces.{LabelsStand-kept, LabelsStand-none}
 use Rattle.snippet_strokes.proofs.DrawLemmas.{free_bar, written_cell}
+use Rattle.snippet_strokes.proofs.Common.{common_steps}
 use Rattle.snippet_strokes.proofs.SeenLabels.{IsLabelledAtEnd}
 
 -- each part of a bar is one of the glyphs that bars are drawn with, and not listed
@@ -170,32 +171,14 @@ AreStrokes-drawn layout room es closes old new is count drawn =
     }
   where
     kept : (r c : ℕ) → layout.code ≤ c → cell_at new r c ≡ cell_at old r c
-    kept r c right =
-        elim (cases_lt r (length old)) [
-          | inl some ↦ drawn_right layout (row_at old r) (row_at new r) (drawn r some) c right
-          | inr none ↦
-              let before : row_at old r ≡ [] = get_or_past old r [] none in
-              let later : row_at new r ≡ [] = get_or_past new r [] (omega (arith, none, count)) in
-              ap (λ cells. slice_index_or cells c SPACE) (later ∙ sym before)
-        ]
+    kept r c right = grind (arith, common_steps, drawn_right, get_or_past)
 
     short : (r : ℕ) → length (row_at new r) ≤ max (length (row_at old r)) layout.code
-    short r =
-        elim (cases_lt r (length old)) [
-          | inl some ↦ (drawn r some).short
-          | inr none ↦ omega (arith, ap (λ (row : List Cell). length row) (get_or_past new r [] (omega (arith, none, count))))
-        ]
+    short r = grind (arith, common_steps, get_or_past)
 
     marks : ShowsMarks layout layout.decor layout.code es (row_at old 0)
         → ShowsMarks layout layout.decor layout.code es (row_at new 0)
-    marks shows =
-        elim (cases_lt 0 (length old)) [
-          | inl some ↦ ShowsMarks-drawn layout es (row_at old 0) (row_at new 0) shows (drawn 0 some)
-          | inr none ↦
-              let before : row_at old 0 ≡ [] = get_or_past old 0 [] none in
-              let later : row_at new 0 ≡ [] = get_or_past new 0 [] (omega (arith, none, count)) in
-              subst (ShowsMarks layout layout.decor layout.code es) (before ∙ sym later) shows
-        ]
+    marks shows = grind (arith, common_steps, ShowsMarks-drawn, get_or_past)
 
 -- so are all rows of a line, where bars are drawn in each
 pub AreSeen-drawn : (layout : Layout) (room : ℕ) (es : List LineAnnotation) (closes : Bool) (plain : List Cell) (rows : List (List Cell))

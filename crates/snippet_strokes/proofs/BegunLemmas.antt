@@ -1,8 +1,8 @@
 -- The rows that strokes are drawn into: as they are begun, read from the left or the right, and cut where entries are wide.
 use Rattle.std.proofs.lemmas.Grind.{common_steps}
 use Rattle.snippet_strokes.proofs.Common.{◌≡◌, ℕ, ◌+◌, ◌-◌, ◌<◌, ◌≤◌, ◌==◌, ◌&&◌, cond, Bool, true, false, List, []}
-use Rattle.snippet_strokes.proofs.Common.{◌∷◌, ◌++◌, length, take, drop, replicate, get_or, refl, sym, ap, ◌∙◌, subst, arith, inl, inr, All}
-use Rattle.snippet_strokes.proofs.Common.{Contains, zero, suc, map, slice_index_or, IsPermutation, and_parts, cases_lt, cases_eq, nat_tests, places}
+use Rattle.snippet_strokes.proofs.Common.{◌∷◌, ◌++◌, length, take, drop, replicate, get_or, refl, sym, ap, ◌∙◌, subst, arith, All}
+use Rattle.snippet_strokes.proofs.Common.{Contains, zero, suc, map, slice_index_or, IsPermutation, and_parts, cases_lt, nat_tests, places}
 use Rattle.snippet_strokes.proofs.Common.{length-append, length-replicate, get_or_append_left, get_or_push, length_push, get_or-drop, get_or_past}
 use Rattle.snippet_strokes.proofs.Common.{get_or-replicate, ext_get_or, append-nil, append_assoc, take-append-drop, drop_all, get_or-take, replicate_more}
 use Rattle.snippet_strokes.proofs.Common.{and-false, and-true, drop-append_seam, Contains-permutation, IsPermutation-map, IsPermutation-trans}
@@ -52,30 +52,13 @@ covered_painted e p plain painted = (painted.0, omega (arith, painted.1, mark_en
 pub begun_row : (layout : Layout) (closes : Bool) (old begun : List (List Cell)) (count k : ℕ)
     → begun ≡ old ++ replicate (count - 1) (separator_row layout.decor layout.gutter) ++ bare_row layout.decor layout.gutter closes ∷ [] → k < count
     → row_at begun (length old + k) ≡ bare_row layout.decor layout.gutter (closes && k + 1 == count)
-begun_row layout closes old begun count k begins within =
-    ap (λ rows. row_at rows (length old + k)) begins ∙ elim (cases_eq (k + 1) count) [
-      | inl here ↦
-          last (bare_row layout.decor layout.gutter closes) (separator_row layout.decor layout.gutter) here
-          ∙ ap (bare_row layout.decor layout.gutter) (sym (ap (λ b. closes && b) (is_last here) ∙ and-true closes))
-      | inr other ↦
-          after (bare_row layout.decor layout.gutter closes) (separator_row layout.decor layout.gutter) (omega (arith, within, other))
-          ∙ ap (bare_row layout.decor layout.gutter) (sym (ap (λ b. closes && b) (not_last other) ∙ and-false closes))
-    ]
+begun_row layout closes old begun count k begins within = grind (arith, common_steps, last, and-true, after, not_last, and-false)
   where
     last : (end sep : List Cell) → k + 1 ≡ count → row_at (old ++ replicate (count - 1) sep ++ end ∷ []) (length old + k) ≡ end
-    last end sep here =
-        let same : length old + (count - 1) ≡ length old + k = omega (arith, here) in
-        get_or_push (old ++ replicate (count - 1) sep) end [] (length old + k)
-        (length-append old (replicate (count - 1) sep) ∙ ap (λ n. length old + n) (length-replicate (count - 1) sep) ∙ same)
+    last end sep here = grind (arith, common_steps, get_or_push, length-append, length-replicate)
 
     after : (end sep : List Cell) → k < count - 1 → row_at (old ++ replicate (count - 1) sep ++ end ∷ []) (length old + k) ≡ sep
-    after end sep before =
-        let inner : row_at (old ++ replicate (count - 1) sep) (length old + k) ≡ sep = grind (arith, places, get_or-replicate (count - 1) k sep [] before) in
-        get_or_append_left (old ++ replicate (count - 1) sep) (end ∷ []) [] (length old + k)
-        (omega (arith, length-append old (replicate (count - 1) sep), length-replicate (count - 1) sep, before)) ∙ inner
-
-    is_last : k + 1 ≡ count → (k + 1 == count) ≡ true
-    is_last here = grind (arith, nat_tests, here)
+    after end sep before = grind (arith, common_steps, get_or-replicate, get_or_append_left, length-append, length-replicate)
 
     not_last : (k + 1 ≡ count → ⊥) → (k + 1 == count) ≡ false
     not_last other = grind (arith, nat_tests, other)

@@ -55,11 +55,7 @@ put_text above mid new cells row r code k (b ∷ bs) role utf8 ends before last 
     some : (cs : List ℕ) → 0 < length cs → new ≡ cells_written mid r (code + k) (text_cells role cs)
         → new ≡ above ++ with_cells code (put k cells (text_cells role cs)) row ∷ []
     some [] none is = absurd (omega arith)
-    some (c ∷ cs) more is =
-        is ∙ ap (λ rows. cells_written rows r (code + k) (text_cells role (c ∷ cs))) before
-        ∙ ap (λ i. cells_written (above ++ with_cells code cells row ∷ []) i (code + k) (text_cells role (c ∷ cs))) last
-        ∙ cells_written_last above (with_cells code cells row) (code + k) (text_cells role (c ∷ cs))
-        ∙ ap (λ r. above ++ r ∷ []) (put_more code k cells row _ _ ends)
+    some (c ∷ cs) more is = grind (arith, common_steps, cells_written_last, put_more)
 
 -- the cells of a text that begins a window
 pub put_alone : (role : ElementStyle) (cs : List ℕ) → put 0 [] (text_cells role cs) ≡ text_cells role cs

@@ -4,7 +4,7 @@ use Rattle.snippet_strokes.proofs.Common.{◌≡◌, ℕ, zero, suc, ◌+◌, �
 use Rattle.snippet_strokes.proofs.Common.{map, take, drop, get_or, replicate, All, inl, inr, refl, sym, ap, ◌∙◌, arith, append_assoc, append-nil}
 use Rattle.snippet_strokes.proofs.Common.{length-append, length-map, length-replicate, map-append, map-set, places, same_lists, drop-map, take-map, get_or-map}
 use Rattle.snippet_strokes.proofs.Common.{get_or-replicate, length-drop, replicate-append-replicate, set_split, take_all, All-head, All-tail, Vec}
-use Rattle.snippet_strokes.proofs.Common.{cells_written, row_at, cell_of, cells_of, StyledChar, Cell, SPACE, written}
+use Rattle.snippet_strokes.proofs.Common.{cells_written, cell_of, cells_of, StyledChar, Cell, SPACE, written}
 use Rattle.std.proofs.Math.ListN.{set}
 
 -- ---- writes into a row
@@ -120,19 +120,7 @@ drop_padded rows n = same_lists _ _ (grind (arith, places)) (λ k d h. grind (ar
 pub row_set : (rows made : List (List Cell)) (row at : ℕ) (cells : List Cell) → made ≡ rows ++ replicate (row + 1 - length rows) []
     → set made row (written SPACE (get_or made row []) at cells) ≡ cells_written rows row at cells
 unfolding written
-row_set rows made row at cells is =
-    let same : get_or made row [] ≡ row_at rows row = ap (λ rs. get_or rs row []) is ∙ filled row in
-    let within : row < length made = omega (
-      arith,
-      ap length is,
-      length-append rows (replicate (row + 1 - length rows) []),
-      length-replicate {A = List Cell}
-          (row + 1 - length rows) [],
-    ) in
-    let new : List Cell = written SPACE (row_at rows row) at cells in
-    ap (λ r. set made row (written SPACE r at cells)) same ∙ set_split made row new within
-    ∙ ap (λ rs. take row rs ++ new ∷ drop (suc row) rs) is ∙ parts new
-    ∙ sym (append_assoc (take row (rows ++ replicate (row - length rows) [])) (new ∷ []) (drop (row + 1) rows))
+row_set rows made row at cells is = grind (arith, common_steps, filled, length-append, length-replicate, set, set_split, parts, append_assoc)
   where
     filled : (k : ℕ) → get_or (rows ++ replicate (row + 1 - length rows) []) k [] ≡ get_or rows k []
     filled k = grind (arith, places)

@@ -1,14 +1,13 @@
 -- Laws of the bars of spans that begin or end on a line: they stand in its rows from their corner on, or down to it.
-use Rattle.snippet_strokes.proofs.Common.{◌≡◌, ◌≢◌, ◌⊎◌, ℕ, zero, suc, ◌+◌, ◌<◌, ◌==◌, ◌||◌, ◌&&◌, Bool, true, false, not, Some, List, [], ◌∷◌, All}
-use Rattle.snippet_strokes.proofs.Common.{Contains, map, length, get_or, take, refl, sym, ap, ◌∙◌, arith, inl, inr, is_whitespace, list_all, list_any}
+use Rattle.snippet_strokes.proofs.Common.{◌≡◌, ◌≢◌, ◌⊎◌, ℕ, zero, suc, ◌+◌, ◌<◌, Bool, true, false, Some, List, [], ◌∷◌, All}
+use Rattle.snippet_strokes.proofs.Common.{Contains, map, length, get_or, take, refl, sym, ap, ◌∙◌, arith, inl, inr, list_any}
 use Rattle.snippet_strokes.proofs.Common.{both_ways, cases_Bool, eq-eqb, eqb-true, false_from_ne_true, not-true, list_any_at, get_or-map, get_or-take}
 use Rattle.snippet_strokes.proofs.Common.{length-map, All-contains, All-head, All-map, All-tail, All-weaker, filter_passes, list_any-IsPermutation, Cell}
 use Rattle.snippet_strokes.proofs.Common.{SPACE, cell_at, row_at, is_primary, LineAnnotation, LineAnnotationType, Singleline, MultilineStart, MultilineEnd}
-use Rattle.snippet_strokes.proofs.Common.{MultilineLine, is_bar, Among, all_among, all_pass, among_filter_map, any_among, list_any-map, Layout, PlacedEntry}
-use Rattle.snippet_strokes.proofs.Common.{shifted, is_start_part, painting_order, painted, entries_all, BarStroke, Dotted, Solid, Top, Bar, bar_at}
-use Rattle.snippet_strokes.proofs.Common.{bars_apart, ends_of_bars, is_beside, HasOwnDepth, bar_of, has_depth, is_whole_line, bar_cell_part, row_count}
+use Rattle.snippet_strokes.proofs.Common.{MultilineLine, Among, all_among, all_pass, among_filter_map, any_among, list_any-map, Layout, PlacedEntry}
+use Rattle.snippet_strokes.proofs.Common.{shifted, painting_order, painted, entries_all, BarStroke, Dotted, Solid, Top, Bar, bar_at}
+use Rattle.snippet_strokes.proofs.Common.{bars_apart, ends_of_bars, HasOwnDepth, bar_of, is_whole_line, bar_cell_part, row_count}
 use Rattle.snippet_strokes.proofs.Common.{HasRows, BarEnds}
-use Rattle.std.specs.List.{filter}
 use Rattle.snippet_strokes.proofs.CellLemmas.{with_bar, with_parts, begun_rows, corner_by, drawn_strokes}
 use Rattle.snippet_strokes.proofs.BarFacts.{BarBegins, BeginsBelow}
 use Rattle.snippet_strokes.proofs.WriteLaws.{AreLineRows, StrokesPainted}
@@ -18,6 +17,7 @@ use Rattle.snippet_strokes.proofs.BarRows.{bar_stands, drawn_beside}
 use Rattle.snippet_strokes.proofs.PieceWrites.{labels_some}
 use Rattle.snippet_strokes.proofs.PositionLemmas.{HasRows-row_count}
 use Rattle.snippet_strokes.proofs.EachStroke.{is_at}
+use Rattle.snippet_strokes.proofs.Common.{common_steps}
 use Rattle.snippet_strokes.proofs.EntryBarLaws.{end_drawn, last_passing, last_stands, start_drawn}
 
 -- ---- the rows of a line
@@ -163,14 +163,7 @@ module _ (layout : Layout) (bar : Bar) (room : layout.gutter + 2 + bar.depth < l
 
     -- the bars that run past have other depths
     pub past_apart : (open_bars : List Bar) → All (λ b. b.depth ≢ bar.depth) (bars_apart open_bars (ends_of_bars es))
-    past_apart open_bars =
-        let ends : List Bar = ends_of_bars es in
-        let test : Bar → Bool = λ b. not (has_depth ends b.depth) in
-        let there : has_depth ends bar.depth ≡ true = list_any_at (λ (b : Bar). b.depth == bar.depth) ends among.0 bar among.1
-        (ap (λ (b : Bar). b.depth == bar.depth) among.2 ∙ eq-eqb bar.depth bar.depth refl) in
-        All-weaker (λ b. test b ≡ true) (λ b. b.depth ≢ bar.depth) (λ b passes same.
-        both_ways (has_depth ends bar.depth) (ap (has_depth ends) (sym same) ∙ not-true (has_depth ends b.depth) passes) there) (filter test open_bars)
-        (filter_passes test open_bars)
+    past_apart open_bars = grind (arith, common_steps, list_any_at, eq-eqb, All-weaker, both_ways, not-true, filter_passes)
 
     -- each that has its depth is of its kind
     kind_of : (e : LineAnnotation) → Among es e → (b : Bar) → bar_of e ≡ Some b → b.depth ≡ bar.depth → b ≡ bar
@@ -267,10 +260,7 @@ module _ (layout : Layout) (bar : Bar) (room : layout.gutter + 2 + bar.depth < l
           not_whole : (e : LineAnnotation) → e.annotation_type ≡ MultilineEnd bar.depth → (xs : List LineAnnotation) → Among xs e → is_whole_line text xs ≡ true
               → ⊥
           not_whole e part [] here whole = here
-          not_whole e part (x ∷ xs) here whole =
-              let beside : is_beside text e ≡ true = all_pass (is_beside text) (x ∷ xs) e whole here in
-              let blank : Bool = list_all is_whitespace (take e.start.display text) in
-              no_end (sym (ap (λ t. is_bar t || is_start_part t && blank) part) ∙ beside)
+          not_whole e part (x ∷ xs) here whole = grind (arith, common_steps, all_pass, no_end)
             where
               no_end : false ≡ true → ⊥
               no_end wrong = cc wrong

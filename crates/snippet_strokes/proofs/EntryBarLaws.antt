@@ -87,10 +87,7 @@ column_stands start (suc n) cell glyph role rows r from to =
 
     one_glyph : (w : Write) (old : List (List Cell)) (at c : ℕ) → w.row ≡ at → w.cell ≡ c → w.text ≡ glyph ∷ []
         → cell_at (written_by old w) at c ≡ unlinked_cell w.role glyph
-    one_glyph w old at c row is text =
-        let zero_at : c - w.cell ≡ 0 = omega (arith, is) in
-        cell-written w old at c (record { row = row; from = omega (arith, is); to = omega (arith, is, ap length text) })
-        ∙ ap (λ n. unlinked_cell w.role (get_or w.text n 0)) zero_at ∙ ap (λ t. unlinked_cell w.role (get_or t 0 0)) text
+    one_glyph w old at c row is text = grind (arith, common_steps, cell-written)
 
 -- ---- the bars of a line's entries
 

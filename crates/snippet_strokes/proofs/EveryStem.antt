@@ -1,7 +1,6 @@
 -- The stem of an entry that the next one's covers leaves nothing of its own: to draw all stems is to draw those that none covers.
-use Rattle.std.proofs.lemmas.Grind.{common_steps}
 use Rattle.snippet_strokes.proofs.Common.{◌≡◌, ℕ, zero, suc, ◌+◌, ◌-◌, ◌<◌, ◌≤◌, ◌==◌, ◌&&◌, nat_le, cond, true, List, []}
-use Rattle.snippet_strokes.proofs.Common.{◌∷◌, ◌++◌, map, inl, inr, refl, sym, ap, ◌∙◌, arith, All, flat_map, range_with_len, and_parts}
+use Rattle.snippet_strokes.proofs.Common.{◌∷◌, map, inl, inr, refl, sym, ap, ◌∙◌, arith, All, flat_map, range_with_len, and_parts}
 use Rattle.snippet_strokes.proofs.Common.{cases_Bool, eqb-true, leb-true, All-cons, All-nil, row_at-cells_written_same, cells_written, Layout, code_cell}
 use Rattle.snippet_strokes.proofs.Common.{PlacedEntry, has_stem, is_primary, Cell, text_cells, strokes_of, ElementStyle, is_stem_covered, stems_of, stem_of}
 use Rattle.snippet_strokes.proofs.Common.{foot_glyph, stroke_role, Write, glyph_at, painted, rules}
@@ -111,11 +110,4 @@ pub stems_painted : (layout : Layout) (row : ℕ) (es : List PlacedEntry) (rows 
     → painted (flat_map (stem_of layout row) es) rows ≡ painted (stems_of layout row es) rows
 stems_painted layout row [] rows = refl
 stems_painted layout row (e ∷ later) rows =
-    let own : List Write = stem_of layout row e in
-    let all : List Write = flat_map (stem_of layout row) later in
-    let drawn : List Write = stems_of layout row later in
-    painted-append own all rows ∙ elim (cases_Bool (is_stem_covered e later)) [
-      | inl covered ↦ hidden layout row e later rows covered ∙ stems_painted layout row later rows
-          ∙ ap (λ b. painted (cond b [] own ++ drawn) rows) (sym covered)
-      | inr seen ↦ grind (arith, common_steps, stems_painted layout row later (painted own rows), own, painted-append, drawn)
-    ]
+    grind (arith, painted-append, hidden, stems_painted layout row later rows, stems_painted layout row later (painted (stem_of layout row e) rows))

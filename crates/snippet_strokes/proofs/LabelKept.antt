@@ -11,8 +11,8 @@ use Rattle.snippet_strokes.proofs.PieceWrites.{labels_some_at}
 use Rattle.snippet_strokes.proofs.Common.{label_at}
 use Rattle.snippet_labels.specs.Positions.{pieces_of}
 use Rattle.snippet_strokes.proofs.Common.{◌==◌}
-use Rattle.snippet_labels.specs.Positions.{blocks}
 use Rattle.snippet_strokes.proofs.Common.{false≢true, takes_space}
+use Rattle.snippet_strokes.proofs.Common.{common_steps}
 use Rattle.std.proofs.lemmas.List.{get_or_default}
 
 -- a position is no lower than the one reached, and so no lower than those before it
@@ -25,12 +25,7 @@ after_least q e others = search rules
 pub positions_from : (p : ℕ) (es : List PlacedEntry) → All (λ q. p ≤ q) (positions p es)
 positions_from p [] = All-nil (λ q. p ≤ q)
 positions_from p (e ∷ others) =
-    let q = position_at p e others in
-    let here : p ≤ q = at_least p e others in
-    let after : q ≤ position_after q e others = after_least q e others in
-    All-cons (λ n. p ≤ n) q (positions (position_after q e others) others) here
-    (All-weaker (λ n. position_after q e others ≤ n) (λ n. p ≤ n) (λ n is.
-    omega (arith, here, after, is)) (positions (position_after q e others) others) (positions_from (position_after q e others) others))
+    grind (arith, common_steps, at_least, after_least, All-cons, All-weaker, positions_from (position_after (position_at p e others) e others) others)
 
 -- a test that no element passes
 pub any_false : {X : Type 0} (p : X → Bool) (xs : List X) → list_any p xs ≡ false → All (λ x. p x ≡ false) xs
@@ -126,10 +121,7 @@ clear_left : (e f : PlacedEntry) → crosses e f ≡ false → HasPlace e.entry 
 clear_left e f uncrossed place left = search rules
 
 clear_right : (e f : PlacedEntry) → crowds 0 f e ≡ false → has_label e ≡ true → e.entry.start.display ≤ f.entry.start.display → IsClear e f
-clear_right e f uncrowded has left = record {
-  clear = by_parts (blocks f e) (has_label e) e.label.last (has_label f) f.entry.start.display f.entry.end.display e.entry.start.display e.entry.end.display
-      e.entry.end.char f.entry.end.char (label_width e.label + 2) uncrowded has left;
-}
+clear_right e f uncrowded has left = grind (arith, common_steps, by_parts)
   where
     by_parts : (block own last other : Bool) (fs fe es ee ec fc more : ℕ)
         → (block || ((own && (last || ((nat_le fs es && nat_lt es fe) || (nat_le es fs && nat_lt fs (ee + more)))))

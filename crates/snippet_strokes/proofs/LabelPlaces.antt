@@ -116,12 +116,7 @@ reached layout e r c is =
 -- and such a cell is one of the label's
 has_cell : (layout : Layout) (row r c n : ℕ) (e : PlacedEntry) → Reaches (row + r) c (label_write layout row e n)
     → is_cell_of r c (placed_label layout e) ≡ true
-has_cell layout row r c n e there =
-    let first : ℕ = (label_place e).0 in
-    let same : r - first ≡ n = omega (arith, there.row) in
-    let long : length (get_or (pieces_of e) n []) ≡ length (get_or (pieces_of e) (r - first) []) = ap (λ k. length (get_or (pieces_of e) k [])) (sym same) in
-    in_cell first (layout.code + (label_place e).1) (length (get_or (pieces_of e) (r - first) [])) (omega (arith, there.row)) there.from
-    (omega (arith, there.to, long))
+has_cell layout row r c n e there = grind (arith, common_steps, in_cell)
   where
     in_cell : (row cell n : ℕ) → row ≤ r → cell ≤ c → c < cell + n → (nat_le row r && (nat_le cell c && nat_lt c (cell + n))) ≡ true
     in_cell row cell n below from to = grind (arith, nat_tests, below, from, to)
@@ -280,10 +275,7 @@ LabelsStand-kept layout es old new is same short = record {
   where
     right : (l : PlacedLabel) → ((l.row ≡ 0) × (l.cell ≡ layout.code + max l.entry.end.display 1 + 1))
         ⊎ ((0 < l.row) × (l.cell ≡ layout.code + l.entry.start.display)) → (n : ℕ) → layout.code ≤ l.cell + n
-    right l place n = elim place [
-      | inl at ↦ omega (arith, at.1)
-      | inr at ↦ omega (arith, at.1)
-    ]
+    right l place n = grind (arith, common_steps)
 
 -- The rows of a line with no entries.
 -- a line with no entries has no strokes, but a row that closes the window where it closes there

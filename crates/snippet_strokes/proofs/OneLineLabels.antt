@@ -1,19 +1,19 @@
 -- Labels of one line are drawn as they are where labels aren't cut.
 use Rattle.snippet_strokes.proofs.Common.{◌≡◌, ℕ, ◌-◌, ◌==◌, Bool, true, false, List, [], ◌∷◌, refl, ap, ◌∙◌, arith, All, All-head, All-tail, All-permutation}
-use Rattle.snippet_strokes.proofs.Common.{map, zip, Layout, LineAnnotation, PlacedEntry, Cell, placed_of, line_positions, look_counts, shifted, code_cell}
+use Rattle.snippet_strokes.proofs.Common.{map, zip, Layout, LineAnnotation, PlacedEntry, Cell, placed_of, line_positions, look_counts, shifted}
 use Rattle.snippet_strokes.proofs.PaintOrder.{IsPermutation-ordered_by}
 use Rattle.snippet_strokes.proofs.Common.{◌+◌, ◌++◌, All-map, bare_row, bars_apart, cut_middle, drop, ends_of_bars, fold, if◌then◌else◌, is_beside, list_all}
-use Rattle.snippet_strokes.proofs.Common.{painted, painting_order, replicate, row_count, separator_row, take, with_bars, ◌&&◌, nat_lt, list_any, sym}
-use Rattle.snippet_text.specs.Width.{char_width}
+use Rattle.snippet_strokes.proofs.Common.{painted, painting_order, replicate, row_count, separator_row, take, with_bars}
 use Rattle.std.proofs.Math.Bool.{and-false}
 use Rattle.snippet_strokes.specs.Strokes.{cut_pairs, line_strokes, stroke_rows}
 use Rattle.snippet_strokes.specs.LineRows.{line_rows, own_rows}
 use Rattle.snippet_strokes.specs.declared.bars.OpenBar.{OpenBar}
 use Rattle.snippet_labels.proofs.PieceLemmas.{LabelPieces-is}
-use Rattle.snippet_labels.specs.Pieces.{LabelPieces, beside_column, broken_in, label_of_entry, label_pieces, text_pieces}
+use Rattle.snippet_labels.specs.Pieces.{LabelPieces, broken_in, label_of_entry, label_pieces, text_pieces}
 use Rattle.snippet_labels.specs.Positions.{is_placed_before}
 use Rattle.snippet_lines.specs.OrderedBy.{ordered_by}
 use Rattle.snippet_text.specs.Normalized.{normalized_chars}
+use Rattle.snippet_strokes.proofs.Common.{common_steps}
 use Rattle.std.proofs.lemmas.List.Splits.{slice_split_none}
 
 -- the layout, where labels are cut or aren't
@@ -37,13 +37,7 @@ module _ (layout : Layout) (none : layout.label_end ≡ 0) (cut : Bool) where
       by_cut false = refl
 
   label_same : (e : LineAnnotation) → IsPlainEntry e → label_of_entry (with_cut cut layout) e ≡ label_of_entry (with_cut false layout) e
-  label_same e plain =
-      let text : List ℕ = normalized_chars e.label in
-      let unbroken : nat_lt 0 layout.label_end ≡ false = ap (nat_lt 0) none in
-      let last : (b : Bool) → (b && (nat_lt 0 layout.label_end && list_any (λ c. nat_lt 1 (char_width c)) text)) ≡ false = λ b.
-      ap (λ long. b && (long && list_any (λ c. nat_lt 1 (char_width c)) text)) unbroken ∙ and-false b in
-      LabelPieces-is (label_of_entry (with_cut cut layout) e) (label_of_entry (with_cut false layout) e)
-      (piece_sole (code_cell layout (beside_column e)) text plain) (piece_sole (code_cell layout e.start.display) text plain) (last cut ∙ sym (last false))
+  label_same e plain = grind (arith, common_steps, and-false, LabelPieces-is, piece_sole)
 
   abbrev bare : Bool → LineAnnotation → PlacedEntry
   bare b e = record { entry = e; label = label_of_entry (with_cut b layout) e; position = 0; looked = 0 }

@@ -7,23 +7,19 @@ use Rattle.snippet_strokes.proofs.Common.{has_label, label_of, label_place, piec
 use Rattle.snippet_strokes.proofs.Common.{LineAnnotation, is_listed, label_text, pieces_of, rules, if◌then◌else◌}
 use Rattle.snippet_labels.proofs.PieceLemmas.{broken-all, pieces_are}
 use Rattle.snippet_labels.specs.Pieces.{beside_column, broken, label_at, label_of_entry, label_pieces, label_width, text_pieces}
-use Rattle.std.proofs.Common.{encode_utf8_all}
 use Rattle.std.proofs.lemmas.List.Splits.{length-slice_split, slice_split-cons_no, slice_split-cons_yes}
 use Rattle.std.proofs.lemmas.List.Sums.{count_by-le-length}
 use Rattle.std.proofs.lemmas.Str.{length-le-encodes}
 use Rattle.std.specs.List.{onto_first, slice_split}
 use Rattle.snippet_parts.proofs.RawDepthLemmas.{greatest-cons}
+use Rattle.snippet_strokes.proofs.Common.{common_steps}
 use Rattle.snippet_strokes.proofs.TextLemmas.{free_label_text}
 
 -- pieces after others
 pub pieces_at-append : (row cell : ℕ) (role : ElementStyle) (ps qs : List (List ℕ))
     → pieces_at row cell role (ps ++ qs) ≡ pieces_at row cell role ps ++ pieces_at (row + length ps) cell role qs
 pieces_at-append row cell role [] qs = ap (λ r. pieces_at r cell role qs) (omega arith)
-pieces_at-append row cell role (p ∷ ps) qs =
-    let next : row + 1 + length ps ≡ row + suc (length ps) = omega arith in
-    ap (λ ws. piece_at row cell role p ++ ws) (pieces_at-append (row + 1) cell role ps qs
-    ∙ ap (λ r. pieces_at (row + 1) cell role ps ++ pieces_at r cell role qs) next)
-    ∙ sym (append_assoc (piece_at row cell role p) (pieces_at (row + 1) cell role ps) (pieces_at (row + suc (length ps)) cell role qs))
+pieces_at-append row cell role (p ∷ ps) qs = grind (arith, common_steps, append_assoc, pieces_at-append (row + 1) cell role ps qs)
 
 -- one piece more
 pub pieces_at-push : (row cell : ℕ) (role : ElementStyle) (ps : List (List ℕ)) (piece : List ℕ)
@@ -65,11 +61,7 @@ label_write layout row e n =
 pub label_as_pieces : (layout : Layout) (row : ℕ) (e : PlacedEntry) (place : ℕ × ℕ) (cell : ℕ) (role : ElementStyle) (pieces : List (List ℕ))
     → place ≡ label_place e → cell ≡ code_cell layout place.1 → role ≡ label_role e.entry.kind → pieces ≡ pieces_of e
     → pieces_at (row + place.0) cell role pieces ≡ label_of layout row e
-label_as_pieces layout row e place cell role pieces is_place is_cell is_role are =
-    ap (λ c. pieces_at (row + place.0) c role pieces) is_cell
-    ∙ ap (λ (p : ℕ × ℕ). pieces_at (row + p.0) (code_cell layout p.1) role pieces) is_place
-    ∙ ap (λ r. pieces_at (row + (label_place e).0) (code_cell layout (label_place e).1) r pieces) is_role
-    ∙ ap (λ ps. pieces_at (row + (label_place e).0) (code_cell layout (label_place e).1) (label_role e.entry.kind) ps) are
+label_as_pieces layout row e place cell role pieces is_place is_cell is_role are = grind (arith, common_steps)
 
 -- what holds of the writes of the pieces of a label holds of those of all
 pub All-label_of : (P : Write → Type 0) (layout : Layout) (row : ℕ) (e : PlacedEntry)
@@ -114,12 +106,7 @@ label_of-none layout row e none = nothing (row + (label_place e).0) (pieces_of e
     nothing : (r : ℕ) (ps : List (List ℕ)) → shows_any ps ≡ false
         → pieces_at r (code_cell layout (label_place e).1) (label_role e.entry.kind) ps ≡ []
     nothing r [] empty = refl
-    nothing r (p ∷ ps) empty =
-        let cell : ℕ = code_cell layout (label_place e).1 in
-        let role : ElementStyle = label_role e.entry.kind in
-        let parts = both (length p == 0) (shows_any ps) empty in
-        ap (λ b. cond b [] (record { row = r; cell = cell; text = p; role = role } ∷ []) ++ pieces_at (r + 1) cell role ps) parts.0
-        ∙ nothing (r + 1) ps parts.1
+    nothing r (p ∷ ps) empty = grind (arith, common_steps, both, nothing (r + 1) ps (both (length p == 0) (shows_any ps) empty).1)
       where
         both : (a b : Bool) → (not a || b) ≡ false → (a ≡ true) × (b ≡ false)
         both true b is = (refl, is)
@@ -156,16 +143,8 @@ piece_within (p ∷ ps) (suc n) some = omega (arith, piece_within ps n some)
 -- a piece has no more characters than the longest has bytes
 pub piece_chars_le : (ps : List (List ℕ)) (n : ℕ) → length (get_or ps n []) ≤ pieces_width ps
 piece_chars_le [] n = omega arith
-piece_chars_le (p ∷ ps) zero = omega (
-  arith,
-  greatest-cons (length (encode_utf8_all p)) (map (λ (q : List ℕ). length (encode_utf8_all q)) ps),
-  length-le-encodes p,
-)
-piece_chars_le (p ∷ ps) (suc n) = omega (
-  arith,
-  greatest-cons (length (encode_utf8_all p)) (map (λ (q : List ℕ). length (encode_utf8_all q)) ps),
-  piece_chars_le ps n,
-)
+piece_chars_le (p ∷ ps) zero = grind (arith, common_steps, greatest-cons, length-le-encodes)
+piece_chars_le (p ∷ ps) (suc n) = grind (arith, common_steps, greatest-cons, piece_chars_le ps n)
 
 -- nor more than the label is long
 pub label_chars_le : (e : PlacedEntry) (n : ℕ) → length (get_or (pieces_of e) n []) ≤ label_width e.label
@@ -188,10 +167,7 @@ short_more c cs short = step (c == 10) refl
         omega (arith, all (suc k) d (omega (arith, within))))
 
     step : (b : Bool) → (c == 10) ≡ b → All (λ p. length p ≤ length (c ∷ cs)) (slice_split (λ c. c == 10) (c ∷ cs))
-    step true is =
-        subst (All (λ p. length p ≤ length (c ∷ cs))) (sym (slice_split-cons_yes (λ c. c == 10) c cs is))
-        (All-cons (λ (p : List ℕ). length p ≤ length (c ∷ cs)) [] (slice_split (λ c. c == 10) cs) (omega arith) (λ k d within.
-        omega (arith, short k d within)))
+    step true is = grind (arith, common_steps, slice_split-cons_yes, All-cons)
     step false is =
         subst (All (λ p. length p ≤ length (c ∷ cs))) (sym (slice_split-cons_no (λ c. c == 10) c cs is)) (onto (slice_split (λ c. c == 10) cs) short)
 
@@ -291,10 +267,7 @@ labels_free layout es placed is k d within =
 pub pieces_at-lowered : (n row cell : ℕ) (role : ElementStyle) (ps : List (List ℕ))
     → pieces_at (n + row) cell role ps ≡ map (λ (w : Write). record w { row = n + w.row }) (pieces_at row cell role ps)
 pieces_at-lowered n row cell role [] = refl
-pieces_at-lowered n row cell role (p ∷ ps) =
-    let next : n + row + 1 ≡ n + (row + 1) = omega arith in
-    ap (λ r. piece_at (n + row) cell role p ++ pieces_at r cell role ps) next
-    ∙ ap (λ ws. piece_at (n + row) cell role p ++ ws) (pieces_at-lowered n (row + 1) cell role ps) ∙ own (length p == 0)
+pieces_at-lowered n row cell role (p ∷ ps) = grind (arith, common_steps, pieces_at-lowered n (row + 1) cell role ps)
   where
     own : (b : Bool) → cond b [] (record { row = n + row; cell = cell; text = p; role = role } ∷ [])
         ++ map (λ (w : Write). record w { row = n + w.row }) (pieces_at (row + 1) cell role ps)

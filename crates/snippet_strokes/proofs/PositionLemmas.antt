@@ -1,13 +1,14 @@
 -- The positions of labels.
 use Rattle.snippet_strokes.proofs.Common.{◌≡◌, ℕ, suc, ◌+◌, ◌<◌, ◌≤◌, ◌^◌, ◌==◌, ◌&&◌, ◌||◌, cond, nat_lt}
 use Rattle.snippet_strokes.proofs.Common.{Bool, true, false, List, [], ◌∷◌, length, map, get_or, refl, sym, ap, ◌∙◌, subst, arith, All}
-use Rattle.snippet_strokes.proofs.Common.{list_any, cases_Bool, ltb-true, length-map, get_or-map, All-cons, All-nil, All-head, All-tail}
-use Rattle.snippet_strokes.proofs.Common.{list_any_none, AllPass-from_list_all, LineAnnotation, PlacedEntry, has_label, takes_space, has_stem, are_starts}
+use Rattle.snippet_strokes.proofs.Common.{list_any, ltb-true, length-map, get_or-map, All-cons, All-nil, All-head, All-tail}
+use Rattle.snippet_strokes.proofs.Common.{list_any_none, AllPass-from_list_all, LineAnnotation, PlacedEntry, has_label, takes_space, has_stem}
 use Rattle.snippet_strokes.proofs.Common.{crosses, position_at, position_after, positions, line_positions, label_place, look_counts, row_count, HasRows}
-use Rattle.snippet_strokes.proofs.Common.{greatest, rows_below, is_start, is_start_part, cases_lt, inl, inr, nat_tests, not, false≢true, ArePlaced, HasPlace}
+use Rattle.snippet_strokes.proofs.Common.{greatest, rows_below, is_start, is_start_part, nat_tests, not, false≢true, ArePlaced, HasPlace}
 use Rattle.snippet_strokes.proofs.Common.{◌-◌, crowds, if◌then◌else◌, max, rules}
 use Rattle.snippet_parts.proofs.RawDepthLemmas.{greatest-cons}
 use Rattle.snippet_strokes.proofs.Common.{Layout, label_at}
+use Rattle.snippet_strokes.proofs.Common.{common_steps}
 use Rattle.snippet_labels.specs.Positions.{pieces_of}
 
 -- there are as many positions as entries
@@ -89,19 +90,7 @@ stemless_beside e beside = ap (λ n. nat_lt 0 n && (has_label e || takes_space e
 
 -- the rows down to the last piece of each label are among those that are begun
 pub HasRows-row_count : (row n : ℕ) (es : List PlacedEntry) → All (λ e. 0 < length (pieces_of e)) es → n ≡ row + row_count es → All (HasRows row n) es
-HasRows-row_count row n es some is k d within =
-    let e : PlacedEntry = get_or es k d in
-    let needs = rows_at_most (are_starts es) es k d within in
-    elim (cases_Bool (are_starts es)) [
-      | inl starts ↦
-          let low = ap (λ b. rows_below b e) starts in
-          let none : has_label e ≡ false = bare e (AllPass-from_list_all is_start es starts k d within) in
-          record { mark = omega (arith, is, needs, low); label = λ has. absurd (false≢true (sym none ∙ has)) }
-      | inr others ↦
-          let low = ap (λ b. rows_below b e) others in
-          let here = deep e (some k d within) in
-          record { mark = omega (arith, is, needs, low, here.0); label = λ has. omega (arith, is, needs, low, here.1) }
-    ]
+HasRows-row_count row n es some is k d within = grind (arith, common_steps, rows_at_most, AllPass-from_list_all, is_start, false≢true, deep)
   where
     bare : (e : PlacedEntry) → is_start e ≡ true → has_label e ≡ false
     bare e is = not_true (is_start_part e.entry.annotation_type) (has_label e) is
@@ -113,21 +102,14 @@ HasRows-row_count row n es some is k d within =
 
     deep : (e : PlacedEntry) → 0 < length (pieces_of e)
         → (e.position ≤ rows_below false e) × ((label_place e).0 + length (pieces_of e) ≤ rows_below false e + 1)
-    deep e some = elim (cases_lt 0 e.position) [
-      | inl hangs ↦ grind (arith, nat_tests, hangs, label_place)
-      | inr beside ↦ grind (arith, nat_tests, beside, some, label_place)
-    ]
+    deep e some = grind (arith, common_steps)
 
 -- where each label has one piece as many rows are needed as the greatest position, and one more for labels that hang
 pub rows_of_whole : (starts : Bool) (es : List PlacedEntry) → All (λ e. length (pieces_of e) ≡ 1) es
     → greatest (map (rows_below starts) es) ≡ (let lowest = greatest (map (λ e. e.position) es) in if lowest == 0 || starts then lowest else lowest + 1)
 rows_of_whole starts [] whole = refl
 rows_of_whole starts (e ∷ es) whole =
-    let One : PlacedEntry → Type 0 = λ x. length (pieces_of x) ≡ 1 in
-    greatest-cons (rows_below starts e) (map (rows_below starts) es) ∙ ap (max (rows_below starts e)) (rows_of_whole starts es (All-tail One e es whole))
-    ∙ step starts e.position (length (pieces_of e)) (greatest (map (λ (x : PlacedEntry). x.position) es)) (All-head One e es whole)
-    ∙ sym (ap (λ lowest. if lowest == 0 || starts then lowest else lowest + 1)
-    (greatest-cons e.position (map (λ (x : PlacedEntry). x.position) es)))
+    grind (arith, common_steps, greatest-cons, All-tail, step, All-head, rows_of_whole starts es (All-tail (λ x. length (pieces_of x) ≡ 1) e es whole))
   where
     step : (starts : Bool) (p h g : ℕ) → h ≡ 1
         → max (if starts then p else (if p == 0 then h - 1 else p + h)) (if g == 0 || starts then g else g + 1)
@@ -138,14 +120,7 @@ rows_of_whole starts (e ∷ es) whole =
 -- the greatest of low positions is low
 pub positions_low : (es : List PlacedEntry) → All (λ e. e.position < 2 ^ 60) es → greatest (map (λ e. e.position) es) < 2 ^ 60
 positions_low [] low = omega arith
-positions_low (e ∷ es) low =
-    let Low : PlacedEntry → Type 0 = λ x. x.position < 2 ^ 60 in
-    omega (
-      arith,
-      greatest-cons e.position (map (λ (x : PlacedEntry). x.position) es),
-      All-head Low e es low,
-      positions_low es (All-tail Low e es low),
-    )
+positions_low (e ∷ es) low = grind (arith, common_steps, greatest-cons, All-head, All-tail, positions_low es (All-tail (λ x. x.position < 2 ^ 60) e es low))
 
 -- a line's strokes have at least one row
 pub row_count_some : (es : List PlacedEntry) → 0 < row_count es

@@ -74,11 +74,7 @@ module _ (layout : Layout) where
       by_part : (part : LineAnnotationType) → fold top_written row (corner_by layout 0 count e part) ≡ fold top_written row (top_by layout 0 e part)
       by_part Singleline = refl
       by_part (MultilineLine depth) = refl
-      by_part (MultilineStart depth) =
-          let n = 0 + 1 + e.position in
-          let top : Write = glyph_at n (layout.gutter + 2 + depth) (strokes_of layout.decor (is_primary e.entry.kind)).bar_top (stroke_role e) in
-          let lower : List Write = bar_writes layout e depth (n + 1) count in
-          top_kept (top ∷ lower) row (All-cons IsBelow top lower (let low : 0 < n = omega arith in low) (below depth (n + 1) count (omega arith)))
+      by_part (MultilineStart depth) = grind (arith, common_steps, top_kept, All-cons, below)
       by_part (MultilineEnd depth) =
           let n = 0 + 1 + e.position in
           let f : ℕ → Write = λ r. glyph_at r (layout.gutter + 2 + depth) glyph (stroke_role e) in
@@ -95,11 +91,7 @@ module _ (layout : Layout) where
       → fold top_written row (corners_of layout 0 count es) ≡ fold top_written row (tops_of layout 0 es)
   corners_top count [] row = refl
   corners_top count (e ∷ es) row =
-      let corner : List Write = corner_of layout 0 count e in
-      let top : List Write = top_of layout 0 e in
-      ap (fold top_written row) (flat_map-cons (corner_of layout 0 count) e es) ∙ fold-append top_written row corner (corners_of layout 0 count es)
-      ∙ ap (λ r. fold top_written r (corners_of layout 0 count es)) (corner_top count e row) ∙ corners_top count es (fold top_written row top)
-      ∙ sym (ap (fold top_written row) (flat_map-cons (top_of layout 0) e es) ∙ fold-append top_written row top (tops_of layout 0 es))
+      grind (arith, common_steps, flat_map-cons, fold-append, corner_top, corners_top count es (fold top_written row (top_of layout 0 e)))
 
   -- all else stands below it
   connectors_below : (es : List PlacedEntry) → All IsBelow (connectors_of layout 1 es)

@@ -69,31 +69,7 @@ pub labels_apart : (layout : Layout) (row : ℕ) (e f : PlacedEntry) (n m : ℕ)
     → (f.position < e.position + length (pieces_of e) → crowds e.position e f ≡ false) → (r c : ℕ)
     → Reaches r c (label_write layout row e n) → Reaches r c (label_write layout row f m) → ⊥
 labels_apart layout row e f n m place_e place_f within has_e has_f left below clear r c there_e there_f =
-    let few : length (get_or (pieces_of f) m []) ≤ label_width f.label = label_chars_le f m in
-    elim (cases_lt f.position (e.position + length (pieces_of e))) [
-      | inl close ↦
-          let apart = uncrowded_apart e.position e f (clear close) has_e has_f left in
-          elim (label_parts e) [
-            | inl at_e ↦ elim (label_parts f) [
-              | inl at_f ↦ omega (arith, apart, few, at_e.from, at_f.to, there_e.from, there_f.to, place_e.ordered)
-              | inr at_f ↦ omega (arith, apart, few, at_e.from, at_f.column, there_e.from, there_f.to, place_e.ordered, place_f.ordered)
-            ]
-            | inr at_e ↦ elim (label_parts f) [
-              | inl at_f ↦ omega (arith, below, at_e.position, at_f.position)
-              | inr at_f ↦ omega (arith, apart, few, at_e.column, at_f.column, there_e.from, there_f.to, place_f.ordered)
-            ]
-          ]
-      | inr far ↦ elim (label_parts e) [
-        | inl at_e ↦ elim (label_parts f) [
-          | inl at_f ↦ omega (arith, far, within, at_f.position)
-          | inr at_f ↦ omega (arith, far, within, at_e.row, at_e.position, at_f.row, there_e.row, there_f.row)
-        ]
-        | inr at_e ↦ elim (label_parts f) [
-          | inl at_f ↦ omega (arith, below, at_e.position, at_f.position)
-          | inr at_f ↦ omega (arith, far, within, at_e.row, at_f.row, there_e.row, there_f.row)
-        ]
-      ]
-    ]
+    grind (arith, common_steps, label_chars_le, uncrowded_apart, label_parts)
 
 -- the labels of two entries of a line share no cell
 pub placed_apart : (layout : Layout) (row : ℕ) (given : List LineAnnotation) (es : List PlacedEntry) (i j : ℕ) (d d2 : PlacedEntry)

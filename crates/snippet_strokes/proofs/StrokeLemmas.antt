@@ -387,13 +387,7 @@ module _ (layout : Layout) (room : ℕ) (closes : Bool) (es : List LineAnnotatio
     by_strokes : (r edge : ℕ)
         → length (row_at (painted (drawn_strokes layout (length above_rows) (length begun) placed (painting_order placed)) begun) (row + r)) ≤ edge
         → length (row_at (marks_now ∷ lower) r) ≤ edge
-    by_strokes r edge short =
-        omega (
-          arith,
-          ap (λ (cells : List Cell). length cells) (same_row r),
-          ap (λ (rows : List (List Cell)). length (row_at rows (row + r))) new_is,
-          short,
-        )
+    by_strokes r edge short = grind (arith, common_steps, same_row, new_is)
 
     rows_end : EndRows layout es placed (marks_now ∷ lower)
     rows_end = record {

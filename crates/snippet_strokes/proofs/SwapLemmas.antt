@@ -1,8 +1,9 @@
 -- Cells written one after another: over one another the last stand, and apart they may change places.
 use Rattle.snippet_strokes.proofs.Common.{◌≡◌, ◌≢◌, ℕ, ◌+◌, ◌-◌, ◌<◌, ◌≤◌, ◌&&◌, cond, nat_le, nat_lt, List, [], ◌∷◌}
 use Rattle.snippet_strokes.proofs.Common.{length, refl, ap, ◌∙◌, arith, nat_tests, places, All, All-head, All-tail, ext_get_or, length-written}
-use Rattle.snippet_strokes.proofs.Common.{slice_index_or, Cell, text_cells, row_at-cells_written_same, row_at-cells_written_other, cells_written, written}
+use Rattle.snippet_strokes.proofs.Common.{slice_index_or, Cell, row_at-cells_written_same, row_at-cells_written_other, cells_written, written}
 use Rattle.snippet_strokes.proofs.Common.{Write, painted}
+use Rattle.snippet_strokes.proofs.Common.{common_steps}
 use Rattle.snippet_strokes.proofs.CellLemmas.{written_by}
 
 -- what stands at a place after a write
@@ -42,9 +43,7 @@ move_row : (n : ℕ) (w : Write) (vs : List Write) (rows : List (List Cell)) →
     → painted vs (written_by rows w) ≡ written_by (painted vs rows) w
 move_row n w [] rows low here = refl
 move_row n w (v ∷ vs) rows low here =
-    let at : v.row ≡ n = All-head (λ (v : Write). v.row ≡ n) v vs here in
-    ap (painted vs) (rows-swap rows w.row v.row w.cell v.cell (text_cells w.role w.text) (text_cells v.role v.text) (λ same. omega (arith, same, at, low)))
-    ∙ move_row n w vs (written_by rows v) low (All-tail (λ (v : Write). v.row ≡ n) v vs here)
+    grind (arith, common_steps, All-head, rows-swap, All-tail, move_row n w vs (written_by rows v) low (All-tail (λ (v : Write). v.row ≡ n) v vs here))
 
 -- writes of a row may come before those of rows below it
 pub move_rows : (n : ℕ) (ws vs : List Write) (rows : List (List Cell)) → All (λ w. n < w.row) ws → All (λ v. v.row ≡ n) vs

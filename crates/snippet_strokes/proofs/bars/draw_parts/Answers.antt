@@ -1,23 +1,13 @@
-use Rattle.snippet_strokes.proofs.Common.{◌≡◌, ◌∙◌, ◌+◌, ◌<◌, ℕ, ap, arith, length, replicate, length-replicate, Layout, cells_written}
+use Rattle.snippet_strokes.proofs.Common.{◌≡◌, ◌∙◌, ◌+◌, ◌<◌, ℕ, ap, arith, length, replicate, length-replicate, cells_written}
 use Rattle.snippet_strokes.proofs.Common.{bar_glyph, bar_cell_part, text_cells, unlinked_cell, Strokes}
 use Rattle.std.specs.Str.{chars}
 use Rattle.snippet_strokes.proofs.BarRows.{ChangesRows-next, ChangesRows-none, changed-is}
 use Rattle.snippet_strokes.proofs.LineLemmas.{text_cells-replicate, some_bytes}
+use Rattle.snippet_strokes.proofs.Common.{common_steps}
 use Rattle.snippet_strokes.proofs.bars.draw_parts.Goals as goal
 
 pub puts-requires-clause-end : goal.puts-requires-clause-end
-puts-requires-clause-end c =
-    omega (
-      arith,
-      ap length c.requires.part,
-      length-replicate c.args.side.count (bar_glyph c.args.side.stroke c.args.layout.decor c.args.side.first.primary),
-      c.requires.side.room,
-      ap (λ (l : Layout). l.gutter) c.layout.view_is,
-      ap
-          (λ (l : Layout). l.code) c.layout.view_is,
-      c.layout.invariant.2,
-      c.bar_cell-cell.ensures.value,
-    )
+puts-requires-clause-end c = grind (arith, common_steps, length-replicate)
 
 pub loop-r-preserved : goal.loop-r-preserved
 loop-r-preserved c =

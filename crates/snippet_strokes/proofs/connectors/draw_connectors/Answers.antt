@@ -1,7 +1,8 @@
-use Rattle.snippet_strokes.proofs.Common.{◌≡◌, ◌∙◌, List, ℕ, ap, sym, subst, arith, length, take, All, take_all, All-take, Cell, Layout}
-use Rattle.snippet_strokes.proofs.Common.{PlacedEntry, HasPlaceAmong, HasRows, connector_of, connectors_of, painted}
+use Rattle.snippet_strokes.proofs.Common.{◌≡◌, ◌∙◌, List, ℕ, ap, arith, length, take, All, take_all, All-take, Cell, Layout}
+use Rattle.snippet_strokes.proofs.Common.{PlacedEntry, HasRows, connector_of, connectors_of, painted}
 use Rattle.snippet_strokes.proofs.BarWrites.{DrawsFrom-connectors}
 use Rattle.snippet_strokes.proofs.WriteLaws.{painted_more}
+use Rattle.snippet_strokes.proofs.Common.{common_steps}
 use Rattle.snippet_strokes.proofs.connectors.draw_connectors.Goals as goal
 
 -- lines to bars add no row
@@ -11,13 +12,7 @@ count_kept layout row i es old mid so_far rows =
     ap length so_far ∙ (DrawsFrom-connectors layout row (take i es) old (All-take (HasRows row (length old)) i es rows)).count
 
 pub draw_connector-requires-clause-place : goal.draw_connector-requires-clause-place
-draw_connector-requires-clause-place g c =
-    let count = count_kept c.args.layout c.args.row c.loop-entry.entry-index c.args.placed.now (g.C.Canvas.rows c.args.buffer.now)
-    (g.C.Canvas.rows c.loop-entry.buffer) c.loop-entry.invariant
-    (λ k d within. (c.requires.places k d within).rows) in
-    subst (λ n. HasPlaceAmong c.args.row n c.entry-item.result) (sym count)
-    (subst (HasPlaceAmong c.args.row (length (g.C.Canvas.rows c.args.buffer.now))) (sym c.entry-item.is)
-    (c.requires.places c.loop-entry.entry-index c.entry-item.result c.loop-entry-test.true))
+draw_connector-requires-clause-place g c = grind (arith, common_steps, count_kept)
 
 pub loop-entry-preserved : goal.loop-entry-preserved
 loop-entry-preserved g c =
@@ -25,8 +20,4 @@ loop-entry-preserved g c =
     c.entry-item.result (g.C.Canvas.rows c.args.buffer.now) (g.C.Canvas.rows c.loop-entry.buffer) c.loop-entry-test.true c.entry-item.is c.loop-entry.invariant
 
 pub returns : goal.returns
-returns g c =
-    record {
-      painted = c.loop-entry.invariant ∙ ap (λ xs. painted (connectors_of c.args.layout c.args.row xs) (g.C.Canvas.rows c.args.buffer.now))
-          (take_all c.loop-entry.entry-index c.args.placed.now (omega (arith, c.loop-entry-test.false)));
-    }
+returns g c = grind (arith, common_steps, take_all)

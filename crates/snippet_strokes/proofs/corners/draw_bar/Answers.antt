@@ -1,16 +1,13 @@
 use Rattle.snippet_strokes.proofs.Common.{arith}
 use Rattle.snippet_strokes.proofs.EntryBarLaws.{column_of-none, column_painted}
+use Rattle.snippet_strokes.proofs.Common.{common_steps}
 use Rattle.snippet_strokes.proofs.corners.draw_bar.Goals as goal
 
 pub loop-row-init : goal.loop-row-init
 loop-row-init g c = grind (arith, column_of-none, c.args.bar, g.C.Canvas.rows, c.args.buffer.now, c.args.start)
 
 pub loop-row-preserved : goal.loop-row-preserved
-loop-row-preserved g c =
-    let bar = c.args.bar in
-    column_painted c.args.start c.loop-row.row bar.cell bar.strokes.bar bar.strokes.style (g.C.Canvas.rows c.args.buffer.now)
-    (g.C.Canvas.rows c.loop-row.buffer) (g.C.Canvas.rows c.putc.new.self)
-    (omega arith) c.loop-row.invariant c.in_ok-putc.ensures.ok
+loop-row-preserved g c = grind (arith, common_steps, column_painted)
 
 pub returns : goal.returns
 returns g c =

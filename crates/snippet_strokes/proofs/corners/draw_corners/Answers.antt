@@ -1,7 +1,8 @@
-use Rattle.snippet_strokes.proofs.Common.{◌≡◌, ◌∙◌, ◌+◌, List, ℕ, ap, sym, subst, arith, length, take, All, take_all, All-take, Cell, Layout}
-use Rattle.snippet_strokes.proofs.Common.{PlacedEntry, HasRows, corner_of, corners_of, HasBarCell, painted}
+use Rattle.snippet_strokes.proofs.Common.{◌≡◌, ◌∙◌, ◌+◌, List, ℕ, ap, arith, length, take, All, take_all, All-take, Cell, Layout}
+use Rattle.snippet_strokes.proofs.Common.{PlacedEntry, HasRows, corners_of, HasBarCell, painted}
 use Rattle.snippet_strokes.proofs.BarWrites.{DrawsBarCells-corners}
 use Rattle.snippet_strokes.proofs.WriteLaws.{painted_more}
+use Rattle.snippet_strokes.proofs.Common.{common_steps}
 use Rattle.snippet_strokes.proofs.corners.draw_corners.Goals as goal
 
 -- bars add no row
@@ -14,38 +15,13 @@ count_kept layout row i es old mid so_far bar_cells rows =
     (All-take (HasRows (row + 1) n) i es rows)).draws.count
 
 pub draw_corner-requires-clause-small : goal.draw_corner-requires-clause-small
-draw_corner-requires-clause-small g c =
-    omega (
-      arith,
-      count_kept c.args.layout c.args.row c.loop-entry.entry-index c.args.placed.now (g.C.Canvas.rows c.args.buffer.now)
-          (g.C.Canvas.rows c.loop-entry.buffer) c.loop-entry.invariant
-          c.requires.bar_cells c.requires.rows,
-      c.requires.small,
-    )
+draw_corner-requires-clause-small g c = grind (arith, common_steps, count_kept)
 
 pub draw_corner-requires-clause-rows : goal.draw_corner-requires-clause-rows
-draw_corner-requires-clause-rows g c =
-    subst (λ n. HasRows (c.args.row + 1) n c.entry-item.result)
-    (sym (count_kept c.args.layout c.args.row c.loop-entry.entry-index c.args.placed.now (g.C.Canvas.rows c.args.buffer.now)
-    (g.C.Canvas.rows c.loop-entry.buffer)
-    c.loop-entry.invariant c.requires.bar_cells c.requires.rows))
-    (subst (HasRows (c.args.row + 1) (length (g.C.Canvas.rows c.args.buffer.now))) (sym c.entry-item.is)
-    (c.requires.rows c.loop-entry.entry-index c.entry-item.result c.loop-entry-test.true))
+draw_corner-requires-clause-rows g c = grind (arith, common_steps, count_kept)
 
 pub loop-entry-preserved : goal.loop-entry-preserved
-loop-entry-preserved g c =
-    let old = (g.C.Canvas.rows c.args.buffer.now) in
-    let mid = (g.C.Canvas.rows c.loop-entry.buffer) in
-    let kept = count_kept c.args.layout c.args.row c.loop-entry.entry-index c.args.placed.now old mid c.loop-entry.invariant c.requires.bar_cells
-    c.requires.rows in
-    c.in_ok-draw_corner.ensures.painted ∙ ap (λ n. painted (corner_of c.args.layout c.args.row n c.entry-item.result) mid) kept
-    ∙ painted_more (corner_of c.args.layout c.args.row (length old))
-    c.args.placed.now c.loop-entry.entry-index c.entry-item.result old mid c.loop-entry-test.true c.entry-item.is c.loop-entry.invariant
+loop-entry-preserved g c = grind (arith, common_steps, count_kept, painted_more)
 
 pub returns : goal.returns
-returns g c =
-    let old = (g.C.Canvas.rows c.args.buffer.now) in
-    record {
-      painted = c.loop-entry.invariant ∙ ap (λ xs. painted (corners_of c.args.layout c.args.row (length old) xs) old)
-          (take_all c.loop-entry.entry-index c.args.placed.now (omega (arith, c.loop-entry-test.false)));
-    }
+returns g c = grind (arith, common_steps, take_all)

@@ -2,6 +2,7 @@ use Rattle.snippet_strokes.proofs.Common.{◌∙◌, ◌+◌, ◌<◌, List, fal
 use Rattle.snippet_strokes.proofs.CutWords.{Stretch, cut_of, cut_rows, cuts_of}
 use Rattle.snippet_strokes.proofs.CutLemmas.{cut_rows-append, cuts_of-more, cuts_of-none}
 use Rattle.snippet_strokes.proofs.CutPairs.{entries_cut, entry_cut}
+use Rattle.snippet_strokes.proofs.Common.{common_steps}
 use Rattle.snippet_strokes.proofs.cuts.cut_wide.Goals as goal
 
 pub loop-k-preserved : goal.loop-k-preserved
@@ -25,10 +26,4 @@ loop-k-preserved c =
     ∙ c.loop-k.invariant
 
 pub returns : goal.returns
-returns c =
-    let layout = c.args.layout in
-    let none = cuts_of-none layout c.args.room c.loop-k.k c.args.placed.now c.args.overlapped.now (omega (arith, c.loop-k-test.false)) in
-    record {
-      value = sym (ap (λ cuts. cut_rows layout.decor c.args.row cuts c.loop-k.buffer) none) ∙ c.loop-k.invariant
-          ∙ entries_cut layout c.args.room c.args.row c.args.placed.now c.args.overlapped.now c.args.buffer.now;
-    }
+returns c = grind (arith, common_steps, cuts_of-none, entries_cut)

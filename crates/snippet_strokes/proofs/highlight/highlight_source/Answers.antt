@@ -1,5 +1,5 @@
 use Rattle.std.proofs.lemmas.Grind.{common_steps}
-use Rattle.snippet_strokes.proofs.Common.{◌≡◌, ◌∙◌, ap, arith, length, take, take_all, row_at}
+use Rattle.snippet_strokes.proofs.Common.{◌∙◌, arith, take_all}
 use Rattle.snippet_strokes.proofs.HighlightLaws.{lit_by-asked, lit_by-end, lit_by-none, lit_by-unasked, lit_by-width}
 use Rattle.snippet_strokes.proofs.highlight.highlight_source.Goals as goal
 use Rattle.snippet_strokes.proofs.highlight.highlight_source.Goals.{then-entry+then-not-is_end_part+in_ok-highlight_entry, else-entry}
@@ -9,14 +9,7 @@ pub loop-entry-init : goal.loop-entry-init
 loop-entry-init c = lit_by-none c.args.layout.code c.args.dropped c.args.row c.args.buffer.now c.args.entries.now
 
 pub highlight_entry-requires-clause-short : goal.highlight_entry-requires-clause-short
-highlight_entry-requires-clause-short c =
-    let row = c.args.row in
-    omega (
-      arith,
-      c.requires.short,
-      ap (λ rows. length (row_at rows row)) c.loop-entry.invariant,
-      lit_by-width c.args.layout.code c.args.dropped row c.args.buffer.now c.args.entries.now c.loop-entry.entry-index,
-    )
+highlight_entry-requires-clause-short c = grind (arith, common_steps, lit_by-width)
 
 pub loop-entry-preserved : goal.loop-entry-preserved
 loop-entry-preserved c =
@@ -39,10 +32,4 @@ loop-entry-preserved c =
     ]
 
 pub returns : goal.returns
-returns c =
-    let es = c.args.entries.now in
-    let row = c.args.row in
-    let all : take c.loop-entry.entry-index es ≡ es = take_all c.loop-entry.entry-index es (omega (arith, c.loop-entry-test.false)) in
-    record {
-      value = grind (arith, common_steps, row, all, c.loop-entry.invariant, c.args.layout.code, c.args.dropped, c.args.buffer.now);
-    }
+returns c = grind (arith, common_steps, take_all)

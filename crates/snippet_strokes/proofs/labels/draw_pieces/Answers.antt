@@ -1,4 +1,4 @@
-use Rattle.snippet_strokes.proofs.Common.{◌≡◌, ◌∙◌, ◌+◌, ◌++◌, [], ℕ, List, ap, arith, length, map, painted, piece_at, pieces_at, sym, length-map}
+use Rattle.snippet_strokes.proofs.Common.{◌∙◌, [], ℕ, List, ap, arith, length, map, painted, pieces_at, sym, length-map}
 use Rattle.snippet_strokes.proofs.Common.{length_push, get_or, get_or-map}
 use Rattle.std.proofs.Common.{chars, lit<}
 use Rattle.std.proofs.lemmas.Iterator.Consumers.{YieldsList-end, YieldsList-turn}
@@ -9,6 +9,7 @@ use Rattle.std.specs.Borrow.{Bor}
 use Rattle.snippet_text.proofs.SplitLemmas.{lines_at, lines_at-chars}
 use Rattle.snippet_strokes.proofs.PieceWrites.{pieces_at-push}
 use Rattle.snippet_strokes.proofs.WriteLaws.{painted-append}
+use Rattle.snippet_strokes.proofs.Common.{common_steps}
 use Rattle.snippet_strokes.proofs.labels.draw_pieces.Goals as goal
 
 pub draw_piece-requires-clause-end : goal.draw_piece-requires-clause-end
@@ -22,23 +23,7 @@ draw_piece-requires-clause-end g c =
     omega (arith, ap length same, c.requires.ends k [] (omega (arith, turn.0, length-map (lines_at bytes) chars, ap length cut)))
 
 pub loop-piece-preserved : goal.loop-piece-preserved
-loop-piece-preserved g c =
-    let spelled : Bor (List ℕ) → List ℕ = λ x. chars x.now in
-    let a = c.args in
-    let old = (g.C.Canvas.rows a.buffer.now) in
-    let done = c.loop-piece.yielded in
-    let piece = c.in-Some.piece in
-    let ps : List (List ℕ) = map spelled done in
-    let long : a.row + length ps ≡ c.loop-piece.below = omega (arith, length-map done spelled, c.loop-piece.invariant.below) in
-    record {
-      rows = c.in_ok-draw_piece.ensures.painted
-          ∙ ap (λ rows. painted (piece_at c.loop-piece.below a.cell a.role (chars piece.now)) rows) c.loop-piece.invariant.rows
-          ∙ sym (painted-append (pieces_at a.row a.cell a.role ps) (piece_at c.loop-piece.below a.cell a.role (chars piece.now)) old)
-          ∙ ap (λ r. painted (pieces_at a.row a.cell a.role ps ++ piece_at r a.cell a.role (chars piece.now)) old) (sym long)
-          ∙ sym (ap (λ ws. painted ws old) (pieces_at-push a.row a.cell a.role ps (chars piece.now)))
-          ∙ sym (ap (λ xs. painted (pieces_at a.row a.cell a.role xs) old) (map_push spelled done piece));
-      below = omega (arith, c.loop-piece.invariant.below, length_push done piece);
-    }
+loop-piece-preserved g c = grind (arith, common_steps, length-map, painted-append, pieces_at-push, map_push, length_push)
 
 pub returns : goal.returns
 returns g c =

@@ -1,15 +1,10 @@
-use Rattle.snippet_strokes.proofs.Common.{◌+◌, ◌∷◌, ◌∙◌, ap, sym, subst, drop, arith, drop_all, drop_more}
-use Rattle.snippet_strokes.proofs.PaintOrder.{Widens, reversed_order}
+use Rattle.snippet_strokes.proofs.Common.{arith, drop_all, drop_more}
+use Rattle.snippet_strokes.proofs.PaintOrder.{reversed_order}
+use Rattle.snippet_strokes.proofs.Common.{common_steps}
 use Rattle.snippet_strokes.proofs.marks.is_order_reversed.Goals as goal
 
 pub loop-entry-preserved : goal.loop-entry-preserved
-loop-entry-preserved c rest =
-    let placed = c.args.placed.now in
-    let i = c.loop-entry.entry-index in
-    let from = drop_more placed i c.entry-item.result c.loop-entry-test.true ∙ ap (λ x. x ∷ drop (i + 1) placed) (sym c.entry-item.is) in
-    let width = c.entry_width-width.ensures.value in
-    c.loop-entry.invariant (subst (Widens c.loop-entry.widest) (sym from)
-    (omega (arith, c.if-width-widest.false, width), subst (λ w. Widens w (drop (i + 1) placed)) width rest))
+loop-entry-preserved c rest = grind (arith, common_steps, drop_more)
 
 pub returns : goal.returns
 returns c =

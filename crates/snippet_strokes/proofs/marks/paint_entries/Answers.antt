@@ -1,5 +1,6 @@
-use Rattle.snippet_strokes.proofs.Common.{◌∙◌, ap, arith, flat_map, take_all, mark_of, painted}
+use Rattle.snippet_strokes.proofs.Common.{◌∙◌, arith, take_all, mark_of}
 use Rattle.snippet_strokes.proofs.WriteLaws.{painted_more}
+use Rattle.snippet_strokes.proofs.Common.{common_steps}
 use Rattle.snippet_strokes.proofs.marks.paint_entries.Goals as goal
 
 pub loop-entry-preserved : goal.loop-entry-preserved
@@ -8,8 +9,4 @@ loop-entry-preserved g c =
     (g.C.Canvas.rows c.args.buffer.now) (g.C.Canvas.rows c.loop-entry.buffer) c.loop-entry-test.true c.entry-item.is c.loop-entry.invariant
 
 pub returns : goal.returns
-returns g c =
-    record {
-      painted = c.loop-entry.invariant ∙ ap (λ xs. painted (flat_map (mark_of c.args.layout c.args.row) xs) (g.C.Canvas.rows c.args.buffer.now))
-          (take_all c.loop-entry.entry-index c.args.placed.now (omega (arith, c.loop-entry-test.false)));
-    }
+returns g c = grind (arith, common_steps, take_all)

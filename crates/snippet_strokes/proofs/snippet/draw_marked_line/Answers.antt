@@ -1,44 +1,19 @@
-use Rattle.snippet_strokes.proofs.Common.{◌≡◌, ◌∙◌, ◌+◌, ◌++◌, ◌∷◌, [], List, ap, arith, length, length_push, on_ok_weaker}
-use Rattle.snippet_strokes.proofs.Common.{changed_within, length-changed_within, LineAnnotation, Cell, norm, is_whole_line, own_rows, shown_number, source_row}
-use Rattle.snippet_strokes.proofs.Common.{window_cells, highlighted_row}
+use Rattle.snippet_strokes.proofs.Common.{◌≡◌, ◌∙◌, ◌+◌, ◌++◌, ◌∷◌, [], List, ap, arith, length_push, on_ok_weaker}
+use Rattle.snippet_strokes.proofs.Common.{changed_within, length-changed_within, LineAnnotation, Cell, norm, is_whole_line, own_rows}
+use Rattle.snippet_strokes.proofs.Common.{highlighted_row}
 use Rattle.std.proofs.Common.{chars}
 use Rattle.snippet_strokes.proofs.HighlightLaws.{asking}
 use Rattle.snippet_strokes.proofs.LineAdded.{marked_added, row_added}
 use Rattle.snippet_strokes.proofs.SourceRowLemmas.{source_row_short}
+use Rattle.snippet_strokes.proofs.Common.{common_steps}
 use Rattle.snippet_strokes.proofs.snippet.draw_marked_line.Goals as goal
 
 pub highlight_source-requires-clause-short : goal.highlight_source-requires-clause-short
-highlight_source-requires-clause-short c =
-    let layout = c.args.layout in
-    let info = c.args.line.now.info in
-    let shown = shown_number c.args.view.numbers layout.gutter info.line_index in
-    let cells = window_cells layout.decor c.args.view.margin (norm (chars info.line.now)) in
-    let drawn = c.in_ok-row.ensures in
-    omega (
-      arith,
-      ap length (row_added c.args.buffer.now c.draw_source_row.new.buffer (source_row layout shown cells) c.in_ok-row.row drawn.row drawn.added),
-      source_row_short layout shown cells c.requires.drawable.number,
-      drawn.short,
-    )
+highlight_source-requires-clause-short c = grind (arith, common_steps, row_added, source_row_short)
 
 -- no row comes or goes as the source row is highlighted
 pub draw_strokes-requires-clause-last : goal.draw_strokes-requires-clause-last
-draw_strokes-requires-clause-last c =
-    let drawn = c.in_ok-row.ensures in
-    let row = c.in_ok-row.row in
-    let mid = c.draw_source_row.new.buffer in
-    let view = c.args.view in
-    let info = c.args.line.now.info in
-    let cells = window_cells c.args.layout.decor view.margin (norm (chars info.line.now)) in
-    let lit = highlighted_row c.args.layout.code c.in_ok-row.dropped (asking c.deref.result.now) in
-    omega (
-      arith,
-      ap length c.in_ok-highlight_source.ensures.value,
-      length-changed_within lit row (row + 1) mid,
-      ap length drawn.added,
-      length_push c.args.buffer.now (source_row c.args.layout (shown_number view.numbers c.args.layout.gutter info.line_index) cells),
-      drawn.row,
-    )
+draw_strokes-requires-clause-last c = grind (arith, common_steps, length-changed_within, length_push)
 
 pub returns : goal.returns
 returns c =

@@ -1,5 +1,5 @@
 use Rattle.std.proofs.lemmas.Grind.{common_steps}
-use Rattle.snippet_strokes.proofs.Common.{◌≡◌, ◌∙◌, ◌+◌, ◌-◌, ◌++◌, take, ◌==◌, ◌&&◌, [], All, sym, ap, subst, arith, length}
+use Rattle.snippet_strokes.proofs.Common.{◌≡◌, ◌∙◌, ◌+◌, ◌-◌, ◌++◌, take, ◌==◌, ◌&&◌, All, sym, ap, subst, arith, length}
 use Rattle.snippet_strokes.proofs.Common.{drop, append-nil, drop_all, take_rest, All-nil, All-same, ShownLine, infos_of, infos_of-at, infos_of-drop}
 use Rattle.snippet_strokes.proofs.Common.{infos_of-length, gap_rows, HasBarRoom, HasBarCell}
 use Rattle.snippet_strokes.proofs.LineAdded.{next_added}
@@ -55,10 +55,4 @@ loop-i-preserved c =
 
 -- no line is left
 pub returns : goal.returns
-returns c =
-    let infos = infos_of c.args.lines.now in
-    let i = c.loop-i.i in
-    let none : drop i infos ≡ [] = drop_all i infos (omega (arith, c.loop-i-test.false, c.loop-i.auto.i-end, infos_of-length c.args.lines.now)) in
-    record {
-      added = grind (arith, common_steps, append-nil, none, c.loop-i.buffer, c.args.layout, c.args.view, c.loop-i.bars.open_bars.items, c.loop-i.invariant.1);
-    }
+returns c = grind (arith, common_steps, drop_all, infos_of-length, append-nil)

@@ -1,9 +1,10 @@
-use Rattle.snippet_strokes.proofs.Common.{◌≡◌, ◌++◌, ◌∷◌, [], ℕ, List, refl, ap, sym, subst, ◌∙◌, ◌+◌, ◌≤◌, ◌<◌, ◌^◌}
-use Rattle.snippet_strokes.proofs.Common.{arith, length, Layout, layout_of, source_row, window_cells, begun_cells, ended_cells, Cell, DecorStyle, Solid, Top}
-use Rattle.snippet_strokes.proofs.Common.{part_of_norm, norm, width_of-chars, shown_number, chars-shown_number, norm_short, nat_tests, on_ok_weaker}
-use Rattle.snippet_strokes.proofs.Common.{cow_str_bytes, if_ok_weaker, width_of, dropped_part, rules}
+use Rattle.snippet_strokes.proofs.Common.{◌≡◌, ◌++◌, ◌∷◌, [], List, refl, ap, sym, subst, ◌∙◌, ◌+◌, ◌<◌, ◌^◌}
+use Rattle.snippet_strokes.proofs.Common.{arith, length, Layout, layout_of, source_row, begun_cells, ended_cells, Cell, DecorStyle, Solid, Top}
+use Rattle.snippet_strokes.proofs.Common.{part_of_norm, norm, width_of-chars, shown_number, chars-shown_number, norm_short, on_ok_weaker}
+use Rattle.snippet_strokes.proofs.Common.{if_ok_weaker, rules}
 use Rattle.std.proofs.Common.{chars}
 use Rattle.snippet_strokes.proofs.CellLemmas.{with_parts, cells_are, no_window, nothing_shown, part_few}
+use Rattle.snippet_strokes.proofs.Common.{common_steps}
 use Rattle.snippet_strokes.proofs.source_row.draw_source_row.Goals as goal
 
 pub near_part-near-requires-clause-narrow : goal.near_part-near-requires-clause-narrow
@@ -15,24 +16,10 @@ window_of-window-requires-clause-narrow c =
     omega (arith, c.args.line.now.measured, width_of-chars c.args.line.now.info.line.now, c.requires.text)
 
 pub window_of-window-requires-clause-short : goal.window_of-window-requires-clause-short
-window_of-window-requires-clause-short c =
-    omega (
-      arith,
-      ap length (ap chars c.as_str.ensures.value ∙ c.in_ok-text.ensures.value),
-      norm_short c.near_part-near.result.text.now
-          (omega (arith, c.near_part-near.ensures.short, c.requires.text)),
-    )
+window_of-window-requires-clause-short c = grind (arith, common_steps, norm_short)
 
 pub write_source_row-requires-clause-number : goal.write_source_row-requires-clause-number
-write_source_row-requires-clause-number c =
-    let short = subst (λ (l : Layout). length (shown_number c.args.view.numbers l.gutter c.args.line.now.info.line_index) ≤ l.gutter + 1)
-    (sym c.layout.view_is) c.requires.number in
-    rw (← c.layout.view_is) (omega (
-      arith,
-      short,
-      ap length (ap chars (c.as_str-2.ensures.value ∙ c.in_ok-number.ensures.text)
-          ∙ chars-shown_number c.args.view.numbers c.layout.inside.gutter c.args.line.now.info.line_index (omega arith)),
-    ))
+write_source_row-requires-clause-number c = grind (arith, common_steps, chars-shown_number)
 
 pub write_source_row-requires-clause-text : goal.write_source_row-requires-clause-text
 write_source_row-requires-clause-text c =
@@ -81,37 +68,7 @@ returns c =
     }
 
 pub draw_empty_row-requires-clause-number : goal.draw_empty_row-requires-clause-number
-draw_empty_row-requires-clause-number c =
-    let short = subst (λ (l : Layout). length (shown_number c.args.view.numbers l.gutter c.args.line.now.info.line_index) ≤ l.gutter + 1)
-    (sym c.layout.view_is) c.requires.number in
-    rw (← c.layout.view_is) (omega (
-      arith,
-      short,
-      ap length (ap chars c.in_ok-number.ensures.text
-          ∙ chars-shown_number c.args.view.numbers c.layout.inside.gutter c.args.line.now.info.line_index (omega arith)),
-    ))
+draw_empty_row-requires-clause-number c = grind (arith, common_steps, chars-shown_number)
 
 pub returns-then-not-was_cut_left : goal.returns-then-not-was_cut_left
-returns-then-not-was_cut_left c =
-    let args = c.args in
-    let layout = layout_of c.layout.inside in
-    let margin = args.view.margin in
-    let shown = shown_number args.view.numbers layout.gutter args.line.now.info.line_index in
-    let number = ap chars c.in_ok-number.ensures.text
-    ∙ chars-shown_number args.view.numbers layout.gutter args.line.now.info.line_index (omega arith) in
-    let none = nothing_shown args.line.now.info.line.now (grind arith) in
-    let cells = ap (window_cells layout.decor margin) none ∙ no_window layout.decor margin (grind (arith, nat_tests)) in
-    let old = args.buffer.now in
-    let sides : Layout → List ℕ → List Cell → List (List Cell) = λ l digits cs.
-    old ++ with_parts l Solid args.beside.past.now (with_parts l Top args.beside.tops.now (source_row l digits cs)) ∷ [] in
-    let digits = chars (cow_str_bytes c.in_ok-number.number) in
-    record {
-      added = on_ok_weaker c.draw_empty_row.result (λ added. rw (← c.layout.view_is)
-          (subst (λ (l : Layout). c.draw_empty_row.new.buffer ≡ sides l digits []) (sym c.layout.view_is) added
-          ∙ ap (λ (ds : List ℕ). sides layout ds []) number ∙ ap (sides layout shown) (sym cells))) c.draw_empty_row.ensures.added;
-      short = on_ok_weaker c.draw_empty_row.result (λ _. rw (← c.layout.view_is) (omega (arith, ap length cells))) c.draw_empty_row.ensures.added;
-      row = c.draw_empty_row.ensures.row;
-      dropped = if_ok_weaker c.draw_empty_row.result (λ at is. is ∙ sym (ap (λ (text : List ℕ). width_of (dropped_part margin.computed_left text)) none))
-          c.draw_empty_row.ensures.dropped;
-      few = if_ok_weaker c.draw_empty_row.result (λ at is. omega (arith, is)) c.draw_empty_row.ensures.dropped;
-    }
+returns-then-not-was_cut_left c = grind (arith, common_steps, chars-shown_number, nothing_shown, no_window, on_ok_weaker, if_ok_weaker)

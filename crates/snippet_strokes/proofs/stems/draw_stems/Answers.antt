@@ -1,18 +1,13 @@
 use Rattle.std.proofs.lemmas.Grind.{common_steps}
 use Rattle.snippet_strokes.proofs.Common.{◌≡◌, ◌∙◌, ◌+◌, ◌-◌, ◌∷◌, ap, sym, subst, arith, drop, length, take, drop_more, drop_all}
-use Rattle.snippet_strokes.proofs.Common.{length-drop, take_all, HasPlaceAmong, HasRows, is_stem_covered, stems_of, painted}
+use Rattle.snippet_strokes.proofs.Common.{length-drop, take_all, HasRows, is_stem_covered, stems_of, painted}
 use Rattle.snippet_strokes.proofs.EveryStem.{stems_painted}
 use Rattle.snippet_strokes.proofs.BarWrites.{stem_count, stems_next, stems_skip}
 use Rattle.snippet_strokes.proofs.stems.draw_stems.Goals.{then-not-is_stem_covered+in_ok-draw_stem, else-not-is_stem_covered}
 use Rattle.snippet_strokes.proofs.stems.draw_stems.Goals as goal
 
 pub draw_stem-requires : goal.draw_stem-requires
-draw_stem-requires g c =
-    record {
-      place = subst (λ n. HasPlaceAmong c.args.row n c.index-placed-i.result) (sym c.loop-i.invariant.1)
-          (subst (HasPlaceAmong c.args.row (length (g.C.Canvas.rows c.args.buffer.now))) (sym c.index-placed-i.is)
-          (c.requires.places c.loop-i.i c.index-placed-i.result c.loop-i-test.true));
-    }
+draw_stem-requires g c = grind (arith, common_steps)
 
 pub loop-i-preserved : goal.loop-i-preserved
 loop-i-preserved g c =
@@ -37,11 +32,4 @@ loop-i-preserved g c =
     ]
 
 pub returns : goal.returns
-returns g c =
-    let layout = c.args.layout in
-    let row = c.args.row in
-    let none = drop_all c.loop-i.i c.args.placed.now (omega (arith, c.loop-i-test.false)) in
-    record {
-      painted = sym (ap (λ xs. painted (stems_of layout row xs) (g.C.Canvas.rows c.loop-i.buffer)) none) ∙ c.loop-i.invariant.0
-          ∙ sym (stems_painted layout row c.args.placed.now (g.C.Canvas.rows c.args.buffer.now));
-    }
+returns g c = grind (arith, common_steps, drop_all, stems_painted)

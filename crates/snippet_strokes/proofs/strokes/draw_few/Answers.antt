@@ -1,31 +1,17 @@
 use Rattle.snippet_strokes.proofs.Common.{◌≡◌, ◌+◌, ◌^◌, ◌≤◌, ◌∙◌, ap, arith, length, subst, sym, on_ok_weaker, on_ok_two, flat_map}
-use Rattle.snippet_strokes.proofs.Common.{separator_row, AreEnough, mark_of, painting_order, bare_row, line_strokes, strokes_under_marks, painted}
+use Rattle.snippet_strokes.proofs.Common.{separator_row, mark_of, painting_order, bare_row, line_strokes, strokes_under_marks, painted}
 use Rattle.snippet_strokes.proofs.CellLemmas.{marks_of}
 use Rattle.snippet_strokes.proofs.EveryMark.{every_mark, strokes_painted, under_marks_painted}
 use Rattle.snippet_strokes.proofs.SplitRows.{begun_enough, begun_long, count_marks, enough_after}
 use Rattle.snippet_strokes.proofs.EntryBarLaws.{marks_painted}
+use Rattle.snippet_strokes.proofs.Common.{common_steps}
 use Rattle.snippet_strokes.proofs.strokes.draw_few.Goals as goal
 
 pub draw_under_marks-requires : goal.draw_under_marks-requires
-draw_under_marks-requires c =
-    let layout = c.args.layout in
-    record {
-      enough = subst (AreEnough layout c.args.place.row (length c.begin_rows.new.buffer)) (sym c.deref.ensures.value)
-          (begun_enough layout c.args.place.row c.args.count c.args.placed.now.items c.args.buffer.now c.begin_rows.new.buffer
-          (separator_row layout.decor layout.gutter) (bare_row layout.decor layout.gutter c.args.place.closes) c.requires.some c.requires.last
-          c.requires.rows c.in_ok-begin_rows.ensures.added c.requires.ready c.in_ok-begin_rows.ensures.small);
-    }
+draw_under_marks-requires c = grind (arith, common_steps, begun_enough)
 
 pub draw_marks-requires : goal.draw_marks-requires
-draw_marks-requires c =
-    let layout = c.args.layout in
-    let long = begun_long layout c.args.place.row c.args.count c.args.placed.now.items c.args.buffer.now c.begin_rows.new.buffer
-    (separator_row layout.decor layout.gutter) (bare_row layout.decor layout.gutter c.args.place.closes) c.requires.some c.requires.last c.requires.rows
-    c.in_ok-begin_rows.ensures.added in
-    record {
-      row = omega (arith, long, c.requires.last, c.requires.some, c.in_ok-begin_rows.ensures.small);
-      columns = λ k d within. (c.requires.ready k d within).columns.near;
-    }
+draw_marks-requires c = grind (arith, common_steps, begun_long)
 
 pub returns : goal.returns
 returns c =

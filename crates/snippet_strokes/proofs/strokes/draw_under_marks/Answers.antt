@@ -6,24 +6,17 @@ use Rattle.snippet_strokes.proofs.ReadyLemmas.{ready_bar_cells, ready_texts}
 use Rattle.snippet_strokes.proofs.SplitRows.{after_connectors, after_corners, after_stems, count_connectors, count_corners, count_labels, count_stems}
 use Rattle.snippet_strokes.proofs.SplitRows.{places_among}
 use Rattle.snippet_strokes.proofs.EntryBarLaws.{under_painted}
+use Rattle.snippet_strokes.proofs.Common.{common_steps}
 use Rattle.snippet_strokes.proofs.strokes.draw_under_marks.Goals as goal
 
 pub draw_connectors-requires : goal.draw_connectors-requires
 draw_connectors-requires g c = grind (arith, places_among, ready_bar_cells, c.requires.enough, c.args.layout, c.args.placed.now)
 
 pub draw_corners-requires : goal.draw_corners-requires
-draw_corners-requires g c =
-    let enough = after_connectors (g.C.Canvas.rows c.args.buffer.now)
-    (g.C.Canvas.rows c.draw_connectors.new.buffer) c.requires.enough c.in_ok-draw_connectors.ensures.painted in
-    record { bar_cells = ready_bar_cells c.args.layout c.args.placed.now enough.ready; small = enough.small; rows = enough.rows }
+draw_corners-requires g c = grind (arith, common_steps, after_connectors, ready_bar_cells)
 
 pub draw_stems-requires : goal.draw_stems-requires
-draw_stems-requires g c =
-    let joined = after_connectors (g.C.Canvas.rows c.args.buffer.now)
-    (g.C.Canvas.rows c.draw_connectors.new.buffer) c.requires.enough c.in_ok-draw_connectors.ensures.painted in
-    let enough = after_corners (g.C.Canvas.rows c.draw_connectors.new.buffer)
-    (g.C.Canvas.rows c.draw_corners.new.buffer) joined c.in_ok-draw_corners.ensures.painted in
-    record { places = places_among enough }
+draw_stems-requires g c = grind (arith, common_steps, after_connectors, after_corners, places_among)
 
 pub draw_labels-requires : goal.draw_labels-requires
 draw_labels-requires g c =
