@@ -1,5 +1,6 @@
 -- What comes after some words in a text.
-use Rattle.std.proofs.Common.{◌≡◌, ◌≢◌, ℕ, suc, zero, ◌+◌, ◌-◌, ◌<◌, ◌≤◌, false, List, [], ◌∷◌, ◌++◌, Option, Some, None, drop, take, eqb, length}
+use Rattle.std.proofs.lemmas.Grind.{common_steps}
+use Rattle.std.proofs.Common.{◌≡◌, ◌≢◌, ℕ, suc, zero, ◌+◌, ◌<◌, ◌≤◌, false, List, [], ◌∷◌, ◌++◌, Option, Some, None, drop, take, eqb, length}
 use Rattle.std.proofs.Common.{refl, sym, ap, ◌∙◌, arith, if◌then◌else◌, ⊎_elim}
 use Rattle.std.specs.List.{ends_with, starts_with}
 use Rattle.std.specs.Option.{MatchOption, option_or}
@@ -25,9 +26,7 @@ after-begun n s rest e = ap (λ t. if t then Some (drop (length n) s) else None)
 -- what `strip_prefix` leaves
 pub stripped : (n s : List ℕ) (r : Option (Bor (List ℕ)))
     → MatchOption r (FindsTextPrefix n s None) (λ x. StripsPrefix (FindsTextPrefix n) s x.now) → lent r ≡ after n s
-stripped n s None h = sym (after-lacking n s h)
-stripped n s (Some x) h =
-    ap Some (h.2 ∙ ap (λ k. drop k s) h.1.0) ∙ sym (after-begun n s _ h.1.1)
+stripped n s r h = grind (arith, common_steps, after-lacking, after-begun)
 
 -- words that don't end a text
 lacks_end : (n s : List ℕ) → ((front : List ℕ) → s ≢ front ++ n) → ends_with eqb s n ≡ false
@@ -36,10 +35,7 @@ lacks_end n s h = ⊎_elim (λ e. absurd (h _ ((ends_is Decides-eqb s n _ refl).
 -- what `strip_suffix` leaves
 pub cut : (n s : List ℕ) (r : Option (Bor (List ℕ)))
     → MatchOption r (FindsTextSuffix n s None) (λ x. StripsSuffix (FindsTextSuffix n) s x.now) → lent r ≡ before n s
-cut n s None h = sym (ap (λ t. if t then Some (take (length s - length n) s) else None) (lacks_end n s h))
-cut n s (Some x) h =
-    ap Some (h.2 ∙ ap (λ k. take (length s - k) s) h.1.0)
-    ∙ sym (ap (λ t. if t then Some (take (length s - length n) s) else None) ((ends_is Decides-eqb s n _ refl).1 _ h.1.1))
+cut n s r h = grind (arith, common_steps, lacks_end, ends_is, Decides-eqb)
 
 -- where the words stand first, what comes after them there is what is asked
 first-found : (n s : List ℕ) (i j : ℕ) → ((k : ℕ) → k < i → LacksTextAt n s k) → drop i s ≡ n ++ drop j s → j ≡ i + length n

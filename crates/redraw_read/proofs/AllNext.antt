@@ -1,5 +1,6 @@
 -- A relation of two lists, place by place, as one of them is walked along.
-use Rattle.std.proofs.Common.{◌≡◌, ℕ, suc, ◌+◌, ◌<◌, List, [], ◌∷◌, ◌++◌, length, take, ap, subst, sym, ◌∙◌, arith, take-suc}
+use Rattle.std.proofs.lemmas.Grind.{common_steps}
+use Rattle.std.proofs.Common.{◌≡◌, ℕ, ◌+◌, ◌<◌, List, [], ◌∷◌, ◌++◌, length, take, arith, take-suc}
 use Rattle.std.specs.List.{AllZip, slice_index_or}
 
 -- of one element more of each
@@ -13,9 +14,4 @@ all_push R (a ∷ xs) (b ∷ ys) x y h r = (h.0, all_push R xs ys x y h.1 r)
 -- of a list as far as it has been walked along, and its next element
 pub all-next : {A B : Type 0} (R : A → B → Type 0) (xs : List A) (ys zs : List B) (i : ℕ) (x : A) (y : B)
     → i < length xs → x ≡ slice_index_or xs i x → zs ≡ ys ++ y ∷ [] → AllZip R (take i xs) ys → R x y → AllZip R (take (i + 1) xs) zs
-all-next {A} {B} R xs ys zs i x y within is grown h r =
-    let count : i + 1 ≡ suc i = omega arith in
-    let taken : take (i + 1) xs ≡ take i xs ++ x ∷ [] =
-    ap (λ n. take n xs) count ∙ take-suc xs i x within ∙ ap (λ (e : A). take i xs ++ e ∷ []) (sym is) in
-    subst (λ (l : List A). AllZip R l zs) (sym taken)
-    (subst (λ (l : List B). AllZip R (take i xs ++ x ∷ []) l) (sym grown) (all_push R (take i xs) ys x y h r))
+all-next {A} {B} R xs ys zs i x y within is grown h r = grind (arith, common_steps, take-suc, all_push)

@@ -1,5 +1,6 @@
 -- Texts in order: those that begin with some words follow one another.
-use Rattle.std.proofs.Common.{◌≡◌, ◌∙◌, ◌&&◌, ℕ, Bool, true, false, List, [], ◌∷◌, ◌++◌, Some, None, String}
+use Rattle.std.proofs.lemmas.Grind.{common_steps}
+use Rattle.std.proofs.Common.{◌≡◌, ◌∙◌, ◌&&◌, ℕ, Bool, true, false, List, [], ◌∷◌, ◌++◌, None, String}
 use Rattle.std.proofs.Common.{ap, arith, cond, eqb, refl, sym, string_bytes}
 use Rattle.std.specs.Cmp.Lexicographic.{slice_cmp}
 use Rattle.std.specs.Global.{Global}
@@ -49,13 +50,7 @@ begins-after [] [] begins = refl
 begins-after [] (d ∷ t) begins = refl
 begins-after (c ∷ m) [] begins = absurd (cc begins)
 begins-after (c ∷ m) (d ∷ t) begins =
-    let parts = both_hold (eqb c d) (starts_with eqb t m) begins in
-    step (nat_cmp c d) refl ((Decides-eqb c d).0 parts.0) (begins-after m t parts.1)
-  where
-    step : (o : Ordering) → o ≡ nat_cmp c d → c ≡ d → is_gt (slice_cmp nat_cmp m t) ≡ false → is_gt (ordering_then o (slice_cmp nat_cmp m t)) ≡ false
-    step Less is same rest = refl
-    step Equal is same rest = rest
-    step Greater is same rest = absurd (omega (arith, ranked c d Greater is, same))
+    grind (arith, common_steps, begins-after m t (both_hold (eqb c d) (starts_with eqb t m) begins).1, both_hold, Decides-eqb, ranked)
 
 -- whether a key is this text
 abbrev pub is_key : List ℕ → String Global → Bool
@@ -75,12 +70,7 @@ kept-after : {X : Type 0} (p : String Global → Bool) (k : String Global) (es :
     → AllByRecursion (λ q. string_cmp k q ≡ Less) (keys_of es)
     → AllByRecursion (λ q. string_cmp k q ≡ Less) (keys_of (filter (λ e. p e.0) es))
 kept-after p k [] all = tt
-kept-after {X} p k (e ∷ es) all = by (p e.0) (kept-after p k es all.1)
-  where
-    by : (b : Bool) → AllByRecursion (λ q. string_cmp k q ≡ Less) (keys_of (filter (λ d. p d.0) es))
-        → AllByRecursion (λ q. string_cmp k q ≡ Less) (keys_of (cond b (e ∷ filter (λ d. p d.0) es) (filter (λ d. p d.0) es)))
-    by true later = (all.0, later)
-    by false later = later
+kept-after {X} p k (e ∷ es) all = grind (arith, common_steps, kept-after p k es all.1, e.0, all.1, all.0)
 
 -- entries that are kept stay in order
 pub kept-sorted : {X : Type 0} (p : String Global → Bool) (es : List (String Global × X)) → IsStrictlySortedBy string_cmp (keys_of es)
@@ -97,36 +87,18 @@ kept-sorted {X} p (e ∷ es) s = by (p e.0) (kept-sorted p es s.1)
 -- a look-up goes on where the first entries don't have the key
 pub lookup-further : {K X : Type 0} (test : K → Bool) (xs ys : List (K × X)) → lookup test (xs ++ ys) ≡ option_or (lookup test xs) (lookup test ys)
 lookup-further test [] ys = refl
-lookup-further {K} {X} test (x ∷ xs) ys = by (test x.0) (lookup-further test xs ys)
-  where
-    by : (b : Bool) → lookup test (xs ++ ys) ≡ option_or (lookup test xs) (lookup test ys)
-        → cond b (Some x.1) (lookup test (xs ++ ys)) ≡ option_or (cond b (Some x.1) (lookup test xs)) (lookup test ys)
-    by true later = refl
-    by false later = later
+lookup-further {K} {X} test (x ∷ xs) ys = grind (arith, common_steps, lookup-further test xs ys, x.0, x.1)
 
 none-later : {X : Type 0} (m t : List ℕ) (k : String Global) (es : List (String Global × X)) → is_gt (slice_cmp nat_cmp m (string_bytes k)) ≡ false
     → starts_with eqb (string_bytes k) m ≡ false → starts_with eqb t m ≡ true → AllByRecursion (λ q. string_cmp k q ≡ Less) (keys_of es)
     → lookup (is_key t) es ≡ None
 none-later m t k [] from not begins all = refl
-none-later {X} m t k (e ∷ es) from not begins all = by (is_key t e.0) refl (none-later m t k es from not begins all.1)
-  where
-    by : (b : Bool) → is_key t e.0 ≡ b → lookup (is_key t) es ≡ None → lookup (is_key t) (e ∷ es) ≡ None
-    by true is later =
-        let same : t ≡ string_bytes e.0 = key_is t e.0 is in
-        let after : starts_with eqb (string_bytes e.0) m ≡ true = ap (λ l. starts_with eqb l m) (sym same) ∙ begins in
-        let first : starts_with eqb (string_bytes k) m ≡ true = begins-between m (string_bytes k) (string_bytes e.0) from (ap is_gt all.0) after in
-        absurd (cc (first, not))
-    by false is later = ap (λ b. cond b (Some e.1) (lookup (is_key t) es)) is ∙ later
+none-later {X} m t k (e ∷ es) from not begins all =
+    grind (arith, common_steps, none-later m t k es from not begins all.1, key_is, begins-between, e.0, all.1, all.0, e.1)
 
 -- from the first text on that doesn't begin with the words, none does
 pub none-from : {X : Type 0} (m t : List ℕ) (e : String Global × X) (es : List (String Global × X)) → is_gt (slice_cmp nat_cmp m (string_bytes e.0)) ≡ false
     → starts_with eqb (string_bytes e.0) m ≡ false → starts_with eqb t m ≡ true → IsStrictlySortedBy string_cmp (keys_of (e ∷ es))
     → lookup (is_key t) (e ∷ es) ≡ None
 unfolding IsStrictlySortedBy
-none-from {X} m t e es from not begins s = by (is_key t e.0) refl (none-later m t e.0 es from not begins s.0)
-  where
-    by : (b : Bool) → is_key t e.0 ≡ b → lookup (is_key t) es ≡ None → lookup (is_key t) (e ∷ es) ≡ None
-    by true is later =
-        let same : t ≡ string_bytes e.0 = key_is t e.0 is in
-        absurd (cc (ap (λ l. starts_with eqb l m) (sym same) ∙ begins, not))
-    by false is later = ap (λ b. cond b (Some e.1) (lookup (is_key t) es)) is ∙ later
+none-from {X} m t e es from not begins s = grind (arith, common_steps, none-later, key_is, e.0, s.0, e.1)

@@ -1,5 +1,6 @@
 -- How roles are given to places one after another.
-use Rattle.std.proofs.Common.{◌≡◌, ◌∙◌, ℕ, suc, ◌<◌, ◌&&◌, ◌||◌, Bool, true, false, List, [], ◌∷◌, ◌++◌, ap, arith, get_or, length}
+use Rattle.std.proofs.lemmas.Grind.{common_steps}
+use Rattle.std.proofs.Common.{◌≡◌, ℕ, suc, ◌<◌, ◌&&◌, ◌||◌, Bool, true, false, List, [], ◌∷◌, ◌++◌, ap, arith, get_or, length}
 use Rattle.std.proofs.Common.{map, refl, string_bytes, sym}
 use Rattle.std.proofs.lemmas.Slice.Eq.{bytes_eq-Decides}
 use Rattle.redraw_report.specs.contracts.diagnostic.RegionEq.TheImpl.Laws.{laws-law}
@@ -22,11 +23,7 @@ length-with_roles (is ∷ roles) (t ∷ spans) = ap (λ n. suc n) (length-with_r
 pub given-next : (roles : List Bool) (spans found new : List FileSpan) (s t : FileSpan) (n : ℕ) (is : Bool) → found ≡ with_roles roles spans
     → n ≡ length found → is ≡ get_or roles n false → t ≡ record s { is_primary = is } → new ≡ found ++ t ∷ []
     → new ≡ with_roles roles (spans ++ s ∷ [])
-given-next roles spans found new s t n is before count role same added =
-    let at : n ≡ length spans = count ∙ ap length before ∙ length-with_roles roles spans in
-    added ∙ ap (λ (l : List FileSpan). l ++ t ∷ []) before
-    ∙ ap (λ (u : FileSpan). with_roles roles spans ++ u ∷ []) (same ∙ ap (λ (b : Bool). record s { is_primary = b }) (role ∙ ap (λ k. get_or roles k false) at))
-    ∙ sym (with_roles-push roles spans s)
+given-next roles spans found new s t n is before count role same added = grind (arith, common_steps, length-with_roles, with_roles-push)
 
 pub with_roles-map : (role : FileSpan → Bool) (spans : List FileSpan)
     → with_roles (map role spans) spans ≡ map (λ (s : FileSpan). record s { is_primary = role s }) spans

@@ -1,6 +1,7 @@
 -- Files, and where they stand by their names.
-use Rattle.std.proofs.Common.{◌≡◌, ℕ, suc, ◌&&◌, ◌||◌, Bool, true, false, List, [], ◌∷◌, ◌++◌, length}
-use Rattle.std.proofs.Common.{Option, Some, None, is_some, string_bytes, refl, sym, ap, ◌∙◌, if◌then◌else◌}
+use Rattle.std.proofs.lemmas.Grind.{common_steps}
+use Rattle.std.proofs.Common.{◌≡◌, ℕ, suc, ◌&&◌, Bool, true, false, List, [], ◌∷◌, ◌++◌, length}
+use Rattle.std.proofs.Common.{Option, Some, None, is_some, string_bytes, refl, sym, ap, ◌∙◌, if◌then◌else◌, arith}
 use Rattle.std.specs.List.{find, list_any, slice_get}
 use Rattle.std.specs.Option.{option_and_then, option_map}
 use Rattle.std.specs.Str.{bytes_eq}
@@ -14,31 +15,12 @@ use Rattle.redraw_read.specs.declared.sources.File.{File}
 pub file_found : (files : List File) (name home : List ℕ)
     → option_and_then (slice_get files) (place_among files name home) ≡ find (is_named name home) files
 file_found [] name home = refl
-file_found (f ∷ files) name home = found (file_found files name home) (is_named name home f)
-  where
-    further : (p : Option ℕ) → option_and_then (slice_get (f ∷ files)) (option_map suc p) ≡ option_and_then (slice_get files) p
-    further None = refl
-    further (Some i) = refl
-
-    found : option_and_then (slice_get files) (place_among files name home) ≡ find (is_named name home) files
-        → (b : Bool) → option_and_then (slice_get (f ∷ files)) (if b then Some 0 else option_map suc (place_among files name home))
-        ≡ (if b then Some f else find (is_named name home) files)
-    found later true = refl
-    found later false = further (place_among files name home) ∙ later
+file_found (f ∷ files) name home = grind (arith, common_steps, file_found files name home)
 
 -- a name has a place where a file has it
 pub is_placed : (files : List File) (name home : List ℕ) → is_some (place_among files name home) ≡ list_any (is_named name home) files
 is_placed [] name home = refl
-is_placed (f ∷ files) name home = placed (is_placed files name home) (is_named name home f)
-  where
-    further : (p : Option ℕ) → is_some (option_map suc p) ≡ is_some p
-    further None = refl
-    further (Some i) = refl
-
-    placed : is_some (place_among files name home) ≡ list_any (is_named name home) files
-        → (b : Bool) → is_some (if b then Some 0 else option_map suc (place_among files name home)) ≡ (b || list_any (is_named name home) files)
-    placed later true = refl
-    placed later false = further (place_among files name home) ∙ later
+is_placed (f ∷ files) name home = grind (arith, common_steps, is_placed files name home)
 
 is_none : (p : Option ℕ) → is_some p ≡ false → p ≡ None
 is_none None is = refl
@@ -51,9 +33,7 @@ last_place None b k = if b then Some k else None
 
 last_further : (p : Option ℕ) (b : Bool) (k : ℕ) → option_map suc (last_place p b k) ≡ last_place (option_map suc p) b (suc k)
 unfolding last_place
-last_further (Some i) b k = refl
-last_further None true k = refl
-last_further None false k = refl
+last_further p b k = grind (arith, common_steps)
 
 place_push : (files : List File) (f : File) (name home : List ℕ)
     → place_among (files ++ f ∷ []) name home ≡ last_place (place_among files name home) (is_named name home f) (length files)

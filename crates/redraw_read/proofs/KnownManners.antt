@@ -1,10 +1,11 @@
 -- Messages that were looked for in a text, and how it shows them.
-use Rattle.std.proofs.Common.{◌≡◌, ◌∙◌, ℕ, Bool, true, false, List, Option, Some, String, ap, cond, refl, string_bytes, sym}
+use Rattle.std.proofs.lemmas.Grind.{common_steps}
+use Rattle.std.proofs.Common.{◌≡◌, ◌∙◌, ℕ, List, Some, String, ap, cond, string_bytes, sym, arith}
 use Rattle.std.specs.BTreeMap.{BTreeMap, get_by_text, is_at}
 use Rattle.std.specs.Global.{Global}
 use Rattle.std.specs.Cmp.Lexicographic.{slice_cmp}
 use Rattle.std.specs.Map.{lookup}
-use Rattle.std.specs.Option.{ForSome, unwrap_or}
+use Rattle.std.specs.Option.{ForSome}
 use Rattle.std.specs.Ordering.{nat_cmp}
 use Rattle.std.specs.Str.{bytes_eq}
 use Rattle.std.proofs.lemmas.Slice.Eq.{bytes_eq-Decides}
@@ -16,13 +17,7 @@ pub known_push : (text : List ℕ) (old new : BTreeMap (String Global) Manner) (
     → ((m : List ℕ) → ForSome (get_by_text old m) (λ x. way_of x ≡ way m text))
     → ((m : List ℕ) → get_by_text new m ≡ cond (bytes_eq message m) (Some manner) (get_by_text old m))
     → (m : List ℕ) (x : Manner) → get_by_text new m ≡ Some x → way_of x ≡ way m text
-known_push text old new message manner shown before updates m x is = by (bytes_eq message m) refl
-  where
-    by : (b : Bool) → bytes_eq message m ≡ b → way_of x ≡ way m text
-    by true same =
-        let found : Some manner ≡ Some x = sym (ap (λ b. cond b (Some manner) (get_by_text old m)) same) ∙ sym (updates m) ∙ is in
-        sym (ap (λ (o : Option Manner). way_of (unwrap_or o x)) found) ∙ shown ∙ ap (λ l. way l text) ((bytes_eq-Decides message m).0 same)
-    by false other = before m x (sym (ap (λ b. cond b (Some manner) (get_by_text old m)) other) ∙ sym (updates m) ∙ is)
+known_push text old new message manner shown before updates m x is = grind (arith, common_steps, bytes_eq-Decides, updates m)
 
 -- the same entries are known as well
 pub known_kept : (text : List ℕ) (old new : BTreeMap (String Global) Manner) → new.entries ≡ old.entries

@@ -1,41 +1,33 @@
 -- The least number by a text that is a message's, among texts in order.
-use Rattle.std.proofs.Common.{◌≡◌, ◌∙◌, ◌≤◌, ◌⊎◌, ⊎_elim, ℕ, Bool, true, false, List, [], ◌∷◌, ◌++◌, Option, Some, None, String}
-use Rattle.std.proofs.Common.{ap, arith, cond, drop, eqb, length, refl, string_bytes, subst, sym, if◌then◌else◌}
+use Rattle.std.proofs.lemmas.Grind.{common_steps}
+use Rattle.std.proofs.Common.{◌≡◌, ◌∙◌, ◌≤◌, ◌⊎◌, ℕ, Bool, true, false, List, [], ◌∷◌, ◌++◌, Option, Some, None, String}
+use Rattle.std.proofs.Common.{ap, arith, cond, eqb, refl, string_bytes, subst, sym}
 use Rattle.std.specs.Global.{Global}
 use Rattle.std.specs.BTreeMap.{BTreeMap}
 use Rattle.std.specs.BTreeMap.Range.{entries_between, range_contains}
 use Rattle.std.specs.Cmp.Lexicographic.{slice_cmp}
 use Rattle.std.specs.List.{starts_with}
 use Rattle.std.specs.Map.{lookup}
-use Rattle.std.specs.Option.{IfSome, IsSomeAnd, option_map_or, option_or}
+use Rattle.std.specs.Option.{IfSome, IsSomeAnd, option_or}
 use Rattle.std.specs.Ordering.{is_gt, nat_cmp}
 use Rattle.std.specs.String.{string_cmp, string_cmp_total}
 use Rattle.std.specs.declared.ops.Bound.TheVariants.{Included, Unbounded}
 use Rattle.std.proofs.lemmas.Map.Entries.{lookup-filter-keys}
 use Rattle.std.proofs.lemmas.Map.Views.{range_contains-from_IsInRange}
 use Rattle.redraw_read.proofs.Begins.{begins-after, is_key, key_is, lookup-further}
-use Rattle.redraw_read.specs.Rendered.{ends, is_of}
+use Rattle.redraw_read.specs.Rendered.{is_of}
 use Rattle.redraw_read.specs.ShownLines.{number_of}
 use Rattle.redraw_read.specs.declared.rendered.Stand.{Stand}
 
 -- a text that is a message's begins with it
 of-starts : (place : Stand) (m t : List ℕ) → is_of place m t ≡ true → starts_with eqb t m ≡ true
-of-starts place m t of = by (starts_with eqb t m) refl
-  where
-    by : (b : Bool) → starts_with eqb t m ≡ b → starts_with eqb t m ≡ true
-    by true is = is
-    by false is =
-        absurd (cc (sym of, ap (λ (c : Bool). option_map_or (ends place) (if c then Some (drop (length m) t) else None) false) is))
+of-starts place m t of = grind (arith, common_steps)
 
 -- some P holds of the lesser of two numbers that it holds of
 pub step-is : (P : ℕ → Type 0) (least new : Option ℕ) (number : ℕ) (counts : Bool)
     → (counts ≡ true → IfSome new (λ n. (n ≡ number) ⊎ (least ≡ Some n))) → (counts ≡ false → new ≡ least)
     → IfSome least P → (counts ≡ true → P number) → IfSome new P
-step-is P least new number true of kept before here = among new (of refl)
-  where
-    among : (o : Option ℕ) → IfSome o (λ n. (n ≡ number) ⊎ (least ≡ Some n)) → IfSome o P
-    among None is = tt
-    among (Some n) is = ⊎_elim (λ e. subst P (sym e) (here refl)) (λ e. subst (λ o. IfSome o P) e before) is
+step-is P least new number true of kept before here = grind (arith, common_steps, here, of refl)
 step-is P least new number false of kept before here = subst (λ o. IfSome o P) (sym (kept refl)) before
 
 -- the lesser is no greater than any of them

@@ -1,5 +1,6 @@
 -- The numbers of lines by what stands there: how they are made, and what the least of them by a message shows.
-use Rattle.std.proofs.Common.{◌≡◌, ◌∙◌, ◌||◌, ℕ, suc, ◌≤◌, ◌<◌, Bool, true, false, List, [], ◌∷◌, ◌++◌, Option, Some, None}
+use Rattle.std.proofs.lemmas.Grind.{common_steps}
+use Rattle.std.proofs.Common.{◌≡◌, ◌∙◌, ℕ, suc, ◌≤◌, ◌<◌, Bool, true, false, List, [], ◌∷◌, ◌++◌, Option, Some, None}
 use Rattle.std.proofs.Common.{ap, arith, cond, get_or, is_some, length, refl, sym, if◌then◌else◌}
 use Rattle.std.specs.List.{list_any}
 use Rattle.std.specs.Option.{option_and_then, option_map, option_map_or, option_or}
@@ -10,21 +11,13 @@ use Rattle.redraw_read.specs.ShownLines.{first_of, is_there, number_among}
 use Rattle.redraw_read.specs.declared.rendered.Stand.{Stand}
 
 first_further : (p : Option ℕ) (b : Bool) (k : ℕ) → option_map suc (first_of p b k) ≡ first_of (option_map suc p) b (suc k)
-first_further (Some i) b k = refl
-first_further None true k = refl
-first_further None false k = refl
+first_further p b k = grind (arith, common_steps)
 
 -- by one more line
 pub number_push : (place : Stand) (t line : List ℕ) (lines : List (List ℕ))
     → number_among place t (lines ++ line ∷ []) ≡ first_of (number_among place t lines) (is_there place t line) (length lines)
 number_push place t line [] = refl
-number_push place t line (l ∷ lines) = placed (number_push place t line lines) (is_there place t l)
-  where
-    placed : number_among place t (lines ++ line ∷ []) ≡ first_of (number_among place t lines) (is_there place t line) (length lines)
-        → (b : Bool) → (if b then Some 0 else option_map suc (number_among place t (lines ++ line ∷ [])))
-        ≡ first_of (if b then Some 0 else option_map suc (number_among place t lines)) (is_there place t line) (suc (length lines))
-    placed later true = refl
-    placed later false = ap (option_map suc) later ∙ first_further (number_among place t lines) (is_there place t line) (length lines)
+number_push place t line (l ∷ lines) = grind (arith, common_steps, number_push place t line lines, first_further)
 
 -- a line where nothing stands so changes none
 pub none_first : (p : Option ℕ) (k : ℕ) → first_of p false k ≡ p
@@ -120,16 +113,7 @@ least-shown place m t (l ∷ lines) n at starts least = by (is_there place t l) 
 -- there is a number by a text where one of the lines has it there
 pub has_number : (place : Stand) (t : List ℕ) (lines : List (List ℕ)) → is_some (number_among place t lines) ≡ list_any (is_there place t) lines
 has_number place t [] = refl
-has_number place t (l ∷ lines) = by (is_there place t l) (has_number place t lines)
-  where
-    mapped : (o : Option ℕ) → is_some (option_map suc o) ≡ is_some o
-    mapped None = refl
-    mapped (Some k) = refl
-
-    by : (b : Bool) → is_some (number_among place t lines) ≡ list_any (is_there place t) lines
-        → is_some (if b then Some 0 else option_map suc (number_among place t lines)) ≡ (b || list_any (is_there place t) lines)
-    by true later = refl
-    by false later = mapped (number_among place t lines) ∙ later
+has_number place t (l ∷ lines) = grind (arith, common_steps, has_number place t lines)
 
 -- a number that is put where there was none is the first by its text
 pub put_first : (old : Option ℕ) (b : Bool) (k : ℕ) → (b ≡ true → old ≡ None) → cond b (Some k) old ≡ first_of old b k

@@ -1,5 +1,6 @@
 -- Files that are asked for one after the other.
-use Rattle.std.proofs.Common.{◌≡◌, ℕ, ◌+◌, ◌<◌, suc, ◌||◌, ◌&&◌, string_bytes, Bool, true, false, List, [], ◌∷◌, ◌++◌, refl, ap, sym, ◌∙◌, subst, append_assoc}
+use Rattle.std.proofs.lemmas.Grind.{common_steps}
+use Rattle.std.proofs.Common.{◌≡◌, ℕ, ◌+◌, ◌<◌, ◌||◌, ◌&&◌, string_bytes, Bool, true, false, List, [], ◌∷◌, ◌++◌, refl, ap, sym, ◌∙◌, subst, append_assoc}
 use Rattle.std.proofs.Common.{append-nil, map}
 use Rattle.std.proofs.Common.{take}
 use Rattle.std.proofs.Common.{take-suc, length, arith}
@@ -35,48 +36,21 @@ loads_none home files unread = record { asked = All-nil (IsAskedFor files home);
 pub loads_then : {home : List ℕ} {ns ms : List (List ℕ)} {a b c : List File} {u v w : List (List ℕ)} → Loads home ns a b u v → Loads home ms b c v w
     → Loads home (ns ++ ms) a c u w
 loads_then {home} {ns} {ms} {a} {b} {c} {u} {v} {w} p q =
-    record {
-      asked = All-append (IsAskedFor c home) ns ms
-          (subst (λ files. All (IsAskedFor files home) ns) (sym q.kept) (all_asked_more b q.more home ns p.asked)) q.asked;
-      more = p.more ++ q.more;
-      kept = q.kept ∙ ap (λ l. l ++ q.more) p.kept ∙ append_assoc a p.more q.more;
-      noted =
-          q.noted ∙ ap (λ l. l ++ flat_map unread_name q.more) p.noted
-          ∙ append_assoc u (flat_map unread_name p.more) (flat_map unread_name q.more)
-          ∙ ap (λ l. u ++ l) (sym (flat_map-append unread_name p.more q.more));
-    }
+    grind (arith, common_steps, All-append, all_asked_more, append_assoc, flat_map-append, q.kept, q.more, p.asked, q.asked, p.more, p.kept, q.noted, p.noted)
 
 -- a file that is there already
 pub loads_there : (home name : List ℕ) (files : List File) (unread : List (List ℕ)) → IsAskedFor files home name
     → Loads home (name ∷ []) files files unread unread
-loads_there home name files unread there =
-    record {
-      asked = All-cons (IsAskedFor files home) name [] there (All-nil (IsAskedFor files home));
-      more = [];
-      kept = sym (append-nil files);
-      noted = sym (append-nil unread);
-    }
+loads_there home name files unread there = grind (arith, common_steps, All-cons, All-nil, append-nil)
 
 -- the names that one more of a list has, after those of the elements so far
 pub next_names : {X : Type 0} (f : X → List (List ℕ)) (xs : List X) (i : ℕ) (x : X) → i < length xs → x ≡ slice_index_or xs i x
     → flat_map f (take (i + 1) xs) ≡ flat_map f (take i xs) ++ f x
-next_names {X} f xs i x within is =
-    let count : i + 1 ≡ suc i = omega arith in
-    let taken : take (i + 1) xs ≡ take i xs ++ x ∷ [] =
-    ap (λ n. take n xs) count ∙ take-suc xs i x within ∙ ap (λ (e : X). take i xs ++ e ∷ []) (sym is) in
-    ap (flat_map f) taken ∙ flat_map-append f (take i xs) (x ∷ []) ∙ ap (λ l. flat_map f (take i xs) ++ l) (append-nil (f x))
+next_names {X} f xs i x within is = grind (arith, common_steps, take-suc, flat_map-append, append-nil)
 
 pub next_name : {X : Type 0} (f : X → List ℕ) (xs : List X) (i : ℕ) (x : X) → i < length xs → x ≡ slice_index_or xs i x
     → map f (take (i + 1) xs) ≡ map f (take i xs) ++ f x ∷ []
-next_name {X} f xs i x within is =
-    let count : i + 1 ≡ suc i = omega arith in
-    let taken : take (i + 1) xs ≡ take i xs ++ x ∷ [] =
-    ap (λ n. take n xs) count ∙ take-suc xs i x within ∙ ap (λ (e : X). take i xs ++ e ∷ []) (sym is) in
-    ap (map f) taken ∙ map_both (take i xs) (x ∷ [])
-  where
-    map_both : (ys zs : List X) → map f (ys ++ zs) ≡ map f ys ++ map f zs
-    map_both [] zs = refl
-    map_both (y ∷ ys) zs = ap (λ l. f y ∷ l) (map_both ys zs)
+next_name {X} f xs i x within is = grind (arith, common_steps, take-suc)
 
 -- files that are asked for by these names, which may be written otherwise
 pub loads_named : {home there : List ℕ} {ns ms : List (List ℕ)} {a b : List File} {u v : List (List ℕ)} → Loads home ns a b u v → home ≡ there → ns ≡ ms
@@ -107,17 +81,7 @@ or_true_after false b is = is
 pub loads_new : (home name : List ℕ) (files new : List File) (file : File) (unread still : List (List ℕ)) → new ≡ files ++ file ∷ []
     → is_named name home file ≡ true → still ≡ unread ++ unread_name file → Loads home (name ∷ []) files new unread still
 loads_new home name files new file unread still kept named noted =
-    record {
-      asked = All-cons (IsAskedFor new home) name [] (subst (λ fs. IsAskedFor fs home name) (sym kept) there) (All-nil (IsAskedFor new home));
-      more = file ∷ [];
-      kept = kept;
-      noted = noted ∙ ap (λ l. unread ++ l) (sym (append-nil (unread_name file)));
-    }
-  where
-    there : IsAskedFor (files ++ file ∷ []) home name
-    there =
-        list_any-append (is_named name home) files (file ∷ [])
-        ∙ or_true_after (list_any (is_named name home) files) _ (or_true (is_named name home file) false named)
+    grind (arith, common_steps, All-cons, All-nil, append-nil, list_any-append, or_true_after, or_true)
 
 same_texts : (xs ys : List ℕ) → xs ≡ ys → bytes_eq xs ys ≡ true
 same_texts xs ys is = (bytes_eq-Decides xs ys).1 is

@@ -1,6 +1,7 @@
 -- Places by a file of their project, and there by their names.
+use Rattle.std.proofs.lemmas.Grind.{common_steps}
 use Rattle.std.proofs.Common.{◌≡◌, ℕ, ◌&&◌, Bool, true, false, cond, List, []}
-use Rattle.std.proofs.Common.{Option, Some, None, String, BTreeMap, string_bytes, refl, ap, ◌∙◌, if◌then◌else◌}
+use Rattle.std.proofs.Common.{Option, Some, None, String, BTreeMap, string_bytes, refl, ap, if◌then◌else◌, arith}
 use Rattle.std.specs.Prelude.{Result, Ok, Err, OnErr}
 use Rattle.std.specs.Global.{Global}
 use Rattle.std.specs.BTreeMap.{get_by_text}
@@ -45,19 +46,8 @@ module _ (old new : BTreeMap (String Global) Places) (places : Places) (home : L
   pub one_more : (name : List ℕ) (place : ℕ)
       → get_by_text places n ≡ (if bytes_eq name n then Some place else by_name n (get_by_text old home)) → (h : List ℕ)
       → by_name n (get_by_text new h) ≡ (if bytes_eq name n && bytes_eq home h then Some place else by_name n (get_by_text old h))
-  one_more name place added h = ap (by_name n) (set h) ∙ by_home (bytes_eq home h) refl
-    where
-      by_home : (b : Bool) → bytes_eq home h ≡ b → by_name n (cond b (Some places) (get_by_text old h))
-          ≡ (if bytes_eq name n && b then Some place else by_name n (get_by_text old h))
-      by_home true e =
-          added ∙ ap (λ (t : List ℕ). if bytes_eq name n then Some place else by_name n (get_by_text old t)) ((bytes_eq-Decides home h).0 e)
-          ∙ ap (λ (b : Bool). if b then Some place else by_name n (get_by_text old h)) (and_true (bytes_eq name n))
-      by_home false e = ap (λ (b : Bool). if b then Some place else by_name n (get_by_text old h)) (and_false (bytes_eq name n))
+  one_more name place added h = grind (arith, common_steps, bytes_eq-Decides, and_true, and_false)
 
   -- places that stay as they were
   pub none_more : get_by_text places n ≡ by_name n (get_by_text old home) → (h : List ℕ) → by_name n (get_by_text new h) ≡ by_name n (get_by_text old h)
-  none_more same h = ap (by_name n) (set h) ∙ by_home (bytes_eq home h) refl
-    where
-      by_home : (b : Bool) → bytes_eq home h ≡ b → by_name n (cond b (Some places) (get_by_text old h)) ≡ by_name n (get_by_text old h)
-      by_home true e = same ∙ ap (λ (t : List ℕ). by_name n (get_by_text old t)) ((bytes_eq-Decides home h).0 e)
-      by_home false e = refl
+  none_more same h = grind (arith, common_steps, bytes_eq-Decides)

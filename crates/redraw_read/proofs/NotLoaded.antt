@@ -1,8 +1,9 @@
 -- What isn't loaded: what wrong bodies leave of small files contradicts what is said of loading them.
-use Rattle.std.proofs.Common.{◌≡◌, ◌||◌, ◌∙◌, ℕ, Bool, false, eqb, List, [], ◌∷◌, ◌++◌, ap, arith, codes, is_some, length, string_bytes, sym, if◌then◌else◌}
-use Rattle.std.specs.List.{flat_map, starts_with}
+use Rattle.std.proofs.lemmas.Grind.{common_steps}
+use Rattle.std.proofs.Common.{◌≡◌, ◌||◌, ℕ, false, eqb, List, [], ◌∷◌, arith, codes, is_some, string_bytes}
+use Rattle.std.specs.List.{starts_with}
 use Rattle.std.proofs.lemmas.List.Elements.{All-head}
-use Rattle.redraw_read.specs.Loaded.{IsAskedFor, Loads, unread_name}
+use Rattle.redraw_read.specs.Loaded.{IsAskedFor, Loads}
 use Rattle.redraw_read.specs.declared.sources.File.{File}
 
 -- no file asked for, where one is named
@@ -14,9 +15,4 @@ nothing_loaded home name names unread still loads =
 -- a file that couldn't be read, and isn't noted
 pub unread_not_noted : (home : List ℕ) (names : List (List ℕ)) (f : File)
     → (is_some f.source || starts_with eqb (string_bytes f.name) (codes "/rustc/")) ≡ false → Loads home names [] (f ∷ []) [] [] → ⊥
-unread_not_noted home names f untold loads =
-    let kept : f ∷ [] ≡ loads.more = loads.kept in
-    let noted : [] ≡ unread_name f ++ [] = loads.noted ∙ ap (flat_map unread_name) (sym kept) in
-    let named : unread_name f ≡ string_bytes f.name ∷ [] = ap (λ (b : Bool). if b then [] else string_bytes f.name ∷ []) untold in
-    let one : [] ≡ string_bytes f.name ∷ [] = noted ∙ ap (λ (l : List (List ℕ)). l ++ []) named in
-    absurd (omega (arith, ap length one))
+unread_not_noted home names f untold loads = grind (arith, common_steps, loads.more, loads.kept, loads.noted)

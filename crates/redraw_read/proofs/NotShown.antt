@@ -1,4 +1,5 @@
 -- What isn't as rustc's text shows it: what wrong bodies leave of small diagnostics contradicts what is said of showing them.
+use Rattle.std.proofs.lemmas.Grind.{common_steps}
 use Rattle.std.proofs.Common.{◌≡◌, ◌∙◌, ℕ, Bool, true, false, List, [], ◌∷◌, None, Option, Some, ap, arith, codes, get_or}
 use Rattle.std.proofs.Common.{length, refl, string_bytes, unwrap_or}
 use Rattle.std.specs.Fmt.{digits}
@@ -8,7 +9,7 @@ use Rattle.redraw_report.specs.declared.diagnostic.Child.{Child}
 use Rattle.redraw_report.specs.declared.diagnostic.Diagnostic.{Diagnostic}
 use Rattle.redraw_report.specs.declared.diagnostic.SuggestedEdit.{SuggestedEdit}
 use Rattle.redraw_report.specs.declared.diagnostic.FileSpan.{FileSpan}
-use Rattle.redraw_read.specs.AsShown.{ChildSeen, IsAsShown, are_one, child_seen, child_shown, column_shown, message_line, names_place, settled}
+use Rattle.redraw_read.specs.AsShown.{ChildSeen, IsAsShown, are_one, child_shown, column_shown, message_line, names_place, settled}
 use Rattle.redraw_read.specs.AsShown.{shown_with, suggestion_shown}
 use Rattle.redraw_read.specs.Labels.{after_replacement, labelled, own_place, takes, with_labels, without_carets}
 use Rattle.redraw_read.specs.Rendered.{Nowhere, way}
@@ -23,10 +24,7 @@ none_left text c edits more has nowhere = ap (λ (a : List (Vec SuggestedEdit)).
 pub suggestion_kept : (text : List ℕ) (first : Bool) (old : Diagnostic) (c : Child) (edits : Vec SuggestedEdit) (more : List (Vec SuggestedEdit))
     → old.children.items ≡ c ∷ [] → c.alternatives.items ≡ edits ∷ more → way (message_line (string_bytes c.message)) text ≡ Nowhere
     → IsAsShown text first old old → ⊥
-suggestion_kept text first old c edits more one has nowhere shown =
-    let all = rw one at shown.children in
-    let none = none_left text (child_seen c) edits more has nowhere in
-    absurd (omega (arith, ap length (rw none at all)))
+suggestion_kept text first old c edits more one has nowhere shown = grind (arith, common_steps, none_left, shown.children)
 
 -- a line names the place that stands after its arrow, and none whose file is only the end of that one's
 pub place_named : names_place (codes " --> x/a:2:3\n") (codes "x/a") 2 3 ≡ true
@@ -51,10 +49,7 @@ role_kept a b primary one other same =
 
 -- the label of a suggestion is lost, where a primary place lies without one
 pub label_lost : (l : EditLabel) (s : FileSpan) → takes l s ≡ true → s.label ≡ None → s ∷ [] ≡ with_labels false (l ∷ []) (s ∷ []) → ⊥
-label_lost l s taken bare same =
-    let put : s ∷ [] ≡ labelled l s ∷ [] = rw taken at same in
-    let is : s.label ≡ Some l.label = ap (λ (spans : List FileSpan). (get_or spans 0 s).label) put in
-    absurd (cc (bare, is))
+label_lost l s taken bare same = grind (arith, common_steps)
 
 -- it stands at a place that isn't where its edit is
 pub label_elsewhere : (l : EditLabel) (s : FileSpan) → takes l s ≡ false → labelled l s ∷ [] ≡ with_labels false (l ∷ []) (s ∷ []) → ⊥

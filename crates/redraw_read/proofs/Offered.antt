@@ -1,4 +1,5 @@
 -- Edits at spots, one after another, and the line around a spot.
+use Rattle.std.proofs.lemmas.Grind.{common_steps}
 use Rattle.std.proofs.Common.{◌≡◌, ◌≢◌, ◌⊎◌, ℕ, zero, suc, ◌+◌, ◌-◌, ◌<◌, ◌≤◌, List, [], ◌∷◌, ◌++◌, Option, Some, None, drop, take, get_or, get_or-drop, length}
 use Rattle.std.proofs.Common.{length-append, length-drop, slice_get, refl, sym, ap, subst, ◌∙◌, arith, inl, inr}
 use Rattle.std.specs.Borrow.{Bor}
@@ -31,12 +32,7 @@ edits-cons (s ∷ spots) (suc i) e es = edits-cons spots i e es
 -- the edits that are left are the next and those after it
 pub edits-next : (spots : List Spot) (edits : List SuggestedEdit) (i : ℕ) (e : SuggestedEdit) → i < length edits → e ≡ get_or edits i e
     → edits_at (drop i spots) (drop i edits) ≡ edit_at (slice_get spots i) e ++ edits_at (drop (i + 1) spots) (drop (i + 1) edits)
-edits-next spots edits i e within is =
-    let count : suc i ≡ i + 1 = omega arith in
-    at_drop_more (edits_at (drop i spots)) edits i e within
-    ∙ ap (λ (x : SuggestedEdit). edits_at (drop i spots) (x ∷ drop (i + 1) edits)) (sym is)
-    ∙ edits-cons spots i e (drop (i + 1) edits)
-    ∙ ap (λ n. edit_at (slice_get spots i) e ++ edits_at (drop n spots) (drop (i + 1) edits)) count
+edits-next spots edits i e within is = grind (arith, common_steps, at_drop_more, edits-cons)
 
 -- what is looked up at an index is the element there
 pub looked-up : (spots : List Spot) (i : ℕ) (r : Option (Bor Spot))
@@ -103,12 +99,7 @@ no_earlier text a b p q less = by_start q.starts
         (get_or-drop a text (length front - a) 0 ∙ ap (λ n. get_or text n 0) place ∙ feed)
 
 pub one_start : (text : List ℕ) (a b : ℕ) → IsLastStart text a → IsLastStart text b → a ≡ b
-one_start text a b p q = by_order (cases_lt a b) (cases_lt b a)
-  where
-    by_order : (a < b) ⊎ (b ≤ a) → (b < a) ⊎ (a ≤ b) → a ≡ b
-    by_order (inl less) other = absurd (no_earlier text a b p q less)
-    by_order (inr more) (inl less) = absurd (no_earlier text b a q p less)
-    by_order (inr more) (inr most) = omega (arith, more, most)
+one_start text a b p q = grind (arith, common_steps, cases_lt, no_earlier)
 
 -- where the last line starts of a text up to some byte, a character begins: it is the text's start, or a line feed stands before it
 pub start_border : (text : List ℕ) (at start : ℕ) → IsUtf8 text → at ≤ length text → IsLastStart (take at text) start → IsCharBoundary text start

@@ -1,11 +1,11 @@
 -- How labels find the places that they go to, one after another.
-use Rattle.std.proofs.Common.{◌≡◌, ◌∙◌, ℕ, zero, suc, ◌+◌, ◌<◌, ◌≤◌, ◌&&◌, Bool, true, false, cond, List, [], ◌∷◌, ◌++◌, Option, Some, None}
+use Rattle.std.proofs.lemmas.Grind.{common_steps}
+use Rattle.std.proofs.Common.{◌≡◌, ◌∙◌, ℕ, zero, suc, ◌+◌, ◌<◌, ◌≤◌, ◌&&◌, Bool, true, false, List, [], ◌∷◌, ◌++◌, Option, Some, None}
 use Rattle.std.proofs.Common.{ap, append-nil, append_assoc, arith, drop, get_or, if◌then◌else◌, length, refl, slice_set, string_bytes, sym, take, take-suc}
-use Rattle.std.specs.BTreeMap.{BTreeMap, Updates, UpdatesBy, get}
+use Rattle.std.specs.BTreeMap.{BTreeMap, Updates, UpdatesBy}
 use Rattle.std.specs.Global.{Global}
 use Rattle.std.specs.List.{last_or}
-use Rattle.std.specs.Option.{IsSome, option_map, option_map_or, option_to_list}
-use Rattle.std.specs.Ordering.{is_eq}
+use Rattle.std.specs.Option.{IsSome, option_map, option_to_list}
 use Rattle.std.specs.Str.{bytes_eq}
 use Rattle.std.specs.declared.collections.VecDeque.{VecDeque}
 use Rattle.std.proofs.lemmas.Slice.Eq.{bytes_eq-Decides}
@@ -72,12 +72,7 @@ indices-one : (n : ℕ) (test : FileSpan → Bool) (spans : List FileSpan) (s : 
     → indices_of n test (spans ++ s ∷ []) ≡ indices_of n test spans ++ one (n + length spans) (test s)
 unfolding one
 indices-one n test [] s = ap (λ k. if test s then k ∷ [] else []) (let e : n ≡ n + 0 = omega arith in e)
-indices-one n test (t ∷ spans) s =
-    joins (test t) n (indices_of (suc n) test (spans ++ s ∷ []))
-    ∙ ap (λ (r : List ℕ). one n (test t) ++ r) (indices-one (suc n) test spans s)
-    ∙ sym (append_assoc (one n (test t)) (indices_of (suc n) test spans) (one (suc n + length spans) (test s)))
-    ∙ ap (λ (r : List ℕ). r ++ one (suc n + length spans) (test s)) (sym (joins (test t) n (indices_of (suc n) test spans)))
-    ∙ ap (λ k. indices_of n test (t ∷ spans) ++ one k (test s)) (let e : suc n + length spans ≡ n + length (t ∷ spans) = omega arith in e)
+indices-one n test (t ∷ spans) s = grind (arith, common_steps, indices-one (suc n) test spans s, joins, one, append_assoc)
 
 -- one more place
 pub indices-push : (test : FileSpan → Bool) (spans : List FileSpan) (s : FileSpan)
@@ -136,11 +131,7 @@ taken-next : (is : Bool) (n : ℕ) (l : EditLabel) (s : FileSpan) (spans : List 
     → indices_of (suc n) (takes l) (with_label l spans) ≡ drop 1 (indices_of (suc n) (takes l) spans)
     → indices_of n (takes l) (if is then labelled l s ∷ spans else s ∷ with_label l spans)
     ≡ drop 1 (if is then n ∷ indices_of (suc n) (takes l) spans else indices_of (suc n) (takes l) spans)
-taken-next true n l s spans e rest =
-    ap (λ (b : Bool). if b then n ∷ indices_of (suc n) (takes l) spans else indices_of (suc n) (takes l) spans)
-    (none_taken l.edit.region (string_bytes l.edit.file) l s)
-taken-next false n l s spans e rest =
-    ap (λ (b : Bool). if b then n ∷ indices_of (suc n) (takes l) (with_label l spans) else indices_of (suc n) (takes l) (with_label l spans)) e ∙ rest
+taken-next is n l s spans e rest = grind (arith, common_steps, none_taken)
 
 -- the first that took it doesn't any more
 taken-first : (n : ℕ) (l : EditLabel) (spans : List FileSpan) → indices_of n (takes l) (with_label l spans) ≡ drop 1 (indices_of n (takes l) spans)
@@ -151,9 +142,7 @@ other-next : (is : Bool) (n : ℕ) (region : Region) (file : List ℕ) (l : Edit
     → ((t : FileSpan) → takes l t ≡ true → is_bare_at region file t ≡ false)
     → indices_of (suc n) (is_bare_at region file) (with_label l spans) ≡ indices_of (suc n) (is_bare_at region file) spans
     → indices_of n (is_bare_at region file) (if is then labelled l s ∷ spans else s ∷ with_label l spans) ≡ indices_of n (is_bare_at region file) (s ∷ spans)
-other-next true n region file l s spans e apart rest =
-    indices-by _ _ (none_taken region file l s ∙ sym (apart s e)) n _ _ refl
-other-next false n region file l s spans e apart rest = indices-by _ _ refl n _ _ rest
+other-next is n region file l s spans e apart rest = grind (arith, common_steps, indices-by, none_taken)
 
 -- at another part of a file the same are bare
 other-same : (n : ℕ) (region : Region) (file : List ℕ) (l : EditLabel) (spans : List FileSpan)
@@ -169,19 +158,14 @@ abbrev are_parts : FilePart → FilePart → Bool
 are_parts k q = (equality.ghosts).eq k.0 q.0 && bytes_eq k.1.now q.1.now
 
 both : (a b : Bool) → (a && b) ≡ true → (a ≡ true) × (b ≡ true)
-both true true e = (refl, refl)
-both true false e = absurd (cc e)
-both false b e = absurd (cc e)
+both a b e = grind (arith, common_steps)
 
 same_region : (a k q : Region) → (equality.ghosts).eq k q ≡ true → (equality.ghosts).eq a k ≡ (equality.ghosts).eq a q
 same_region a k q e = laws-law.symm a k ∙ laws-law.congr k q a e ∙ laws-law.symm q a
 
 -- one part has the bare places of the other
 at_same : (k q : FilePart) → are_parts k q ≡ true → (s : FileSpan) → is_bare_at k.0 k.1.now s ≡ is_bare_at q.0 q.1.now s
-at_same k q e s =
-    let two = both ((equality.ghosts).eq k.0 q.0) (bytes_eq k.1.now q.1.now) e in
-    ap (λ (b : Bool). is_bare s && (b && bytes_eq (string_bytes s.file) k.1.now)) (same_region s.region k.0 q.0 two.0)
-    ∙ ap (λ (f : List ℕ). is_bare s && ((equality.ghosts).eq s.region q.0 && bytes_eq (string_bytes s.file) f)) ((bytes_eq-Decides k.1.now q.1.now).0 two.1)
+at_same k q e s = grind (arith, common_steps, both, same_region, bytes_eq-Decides)
 
 never : (a b : Bool) → b ≡ false → (a && b) ≡ false
 never true b e = e
@@ -189,27 +173,12 @@ never false b e = refl
 
 -- a place that is bare at one part isn't at another
 at_other : (k q : FilePart) → are_parts k q ≡ false → (s : FileSpan) → is_bare_at k.0 k.1.now s ≡ true → is_bare_at q.0 q.1.now s ≡ false
-at_other k q e s is =
-    let here = both (is_bare s) ((equality.ghosts).eq s.region k.0 && bytes_eq (string_bytes s.file) k.1.now) is in
-    let two = both ((equality.ghosts).eq s.region k.0) (bytes_eq (string_bytes s.file) k.1.now) here.1 in
-    never (is_bare s) _
-    (ap (λ (b : Bool). b && bytes_eq (string_bytes s.file) q.1.now) (laws-law.congr s.region k.0 q.0 two.0)
-    ∙ ap (λ (f : List ℕ). (equality.ghosts).eq k.0 q.0 && bytes_eq f q.1.now) ((bytes_eq-Decides (string_bytes s.file) k.1.now).0 two.1) ∙ e)
-
--- what is kept, where something is
-abbrev items_of : Option (VecDeque ℕ Global) → List ℕ
-items_of o = option_map_or (λ (v : VecDeque ℕ Global). v.items) o []
+at_other k q e s is = grind (arith, common_steps, both, never, laws-law.congr, bytes_eq-Decides)
 
 -- what is kept by a part, once it was taken out and put in again
 kept_once : (old mid new : BTreeMap FilePart (VecDeque ℕ Global)) (k : FilePart) (w : VecDeque ℕ Global) → UpdatesBy part_cmp (part_cmp k) old mid None
     → Updates part_cmp mid new k (Some w) → (q : FilePart) → kept_by new q ≡ (if are_parts k q then w.items else kept_by old q)
-kept_once old mid new k w out in_again q =
-    ap items_of (in_again.0 q ∙ ap (λ (o : Option (VecDeque ℕ Global)). cond (is_eq (part_cmp k q)) (Some w) o) (out.0 q))
-    ∙ by (is_eq (part_cmp k q)) ∙ ap (λ (b : Bool). if b then w.items else kept_by old q) (equal_parts k q)
-  where
-    by : (b : Bool) → items_of (cond b (Some w) (cond b None (get part_cmp old q))) ≡ (if b then w.items else kept_by old q)
-    by true = refl
-    by false = refl
+kept_once old mid new k w out in_again q = grind (arith, common_steps, equal_parts, in_again.0, out.0)
 
 -- a place more: it is kept by its part if it is bare
 pub bare-more : (old mid new : BTreeMap FilePart (VecDeque ℕ Global)) (k : FilePart) (w : VecDeque ℕ Global) (s : FileSpan) (spans : List FileSpan) (n : ℕ)
@@ -237,11 +206,7 @@ bare-more old mid new k w s spans n out in_again at bare count grown are q =
 -- another place isn't kept
 pub bare-same : (places : BTreeMap FilePart (VecDeque ℕ Global)) (s : FileSpan) (spans : List FileSpan) → is_bare s ≡ false
     → AreBarePlaces places spans → AreBarePlaces places (spans ++ s ∷ [])
-bare-same places s spans other are q =
-    are q ∙ sym (append-nil (indices_of 0 (is_bare_at q.0 q.1.now) spans))
-    ∙ ap (λ (b : Bool). indices_of 0 (is_bare_at q.0 q.1.now) spans ++ (if b then length spans ∷ [] else []))
-    (sym (ap (λ (b : Bool). b && ((equality.ghosts).eq s.region q.0 && bytes_eq (string_bytes s.file) q.1.now)) other))
-    ∙ sym (indices-push (is_bare_at q.0 q.1.now) spans s)
+bare-same places s spans other are q = grind (arith, common_steps, append-nil, indices-push, are q, q.0)
 
 -- a label takes the first place of its part
 pub taken-out : (old mid new : BTreeMap FilePart (VecDeque ℕ Global)) (k : FilePart) (w : VecDeque ℕ Global) (l : EditLabel) (spans : List FileSpan)
@@ -261,18 +226,13 @@ taken-out old mid new k w l spans out in_again at rest are q = kept_once old mid
 -- its target is the first index that is kept
 pub first-kept : (places : BTreeMap FilePart (VecDeque ℕ Global)) (k : FilePart) (l : EditLabel) (spans : List FileSpan)
     → (k.0 ≡ l.edit.region) × (k.1.now ≡ string_bytes l.edit.file) → AreBarePlaces places spans → lead (kept_by places k) ≡ target l spans
-first-kept places k l spans at are =
-    ap lead (are k ∙ indices-same 0 _ _ spans
-    (λ s. ap (λ (r : Region). is_bare_at r k.1.now s) at.0 ∙ ap (λ (f : List ℕ). is_bare_at l.edit.region f s) at.1))
-    ∙ lead-target l spans
+first-kept places k l spans at are = grind (arith, common_steps, indices-same, lead-target, are k)
 
 -- ---- indices that were found
 
 -- what is first taken out of some numbers
 pub lead-popped : (old new : List ℕ) (r : Option ℕ) → old ≡ option_to_list r ++ new → (0 < length old → IsSome r) → r ≡ lead old
-lead-popped old new (Some n) is some = sym (ap lead is)
-lead-popped [] new None is some = refl
-lead-popped (n ∷ ns) new None is some = absurd (cc (some (omega arith)))
+lead-popped old new r is some = grind (arith, common_steps)
 
 -- a label at an index that places have, and past them
 pub label-set : (spans : List FileSpan) (n : ℕ) (l : EditLabel) (s : FileSpan) → n < length spans → s ≡ get_or spans n s
@@ -292,9 +252,7 @@ last-is o [] x = refl
 last-is o (y ∷ xs) x = last-is (Some y) xs x
 
 pub last-popped : {A : Type 0} (old new : List A) (r : Option A) → old ≡ new ++ option_to_list r → (0 < length old → IsSome r) → r ≡ last_or None old
-last-popped old new (Some x) is some = sym (ap (λ l. last_or None l) is ∙ last-is None new x)
-last-popped [] new None is some = refl
-last-popped (x ∷ xs) new None is some = absurd (cc (some (omega arith)))
+last-popped old new r is some = grind (arith, common_steps, last-is)
 
 -- ---- labels one after another
 
@@ -306,11 +264,7 @@ taken-next_item {A} xs i x less is =
 pub targets-next : (labels : List EditLabel) (i : ℕ) (l : EditLabel) (spans : List FileSpan) (old new : List (Option ℕ)) (first : Option ℕ)
     → i < length labels → l ≡ get_or labels i l → old ≡ targets (take i labels) spans → first ≡ target l (with_each (take i labels) spans)
     → new ≡ old ++ first ∷ [] → new ≡ targets (take (i + 1) labels) spans
-targets-next labels i l spans old new first less is before here grown =
-    grown ∙ ap (λ (ts : List (Option ℕ)). ts ++ first ∷ []) before
-    ∙ ap (λ (t : Option ℕ). targets (take i labels) spans ++ t ∷ []) here
-    ∙ sym (targets-push (take i labels) l spans)
-    ∙ ap (λ (ls : List EditLabel). targets ls spans) (sym (taken-next_item labels i l less is))
+targets-next labels i l spans old new first less is before here grown = grind (arith, common_steps, targets-push, taken-next_item)
 
 pub bare-next : (places : BTreeMap FilePart (VecDeque ℕ Global)) (labels : List EditLabel) (i : ℕ) (l : EditLabel) (spans : List FileSpan)
     → i < length labels → l ≡ get_or labels i l → AreBarePlaces places (with_label l (with_each (take i labels) spans))

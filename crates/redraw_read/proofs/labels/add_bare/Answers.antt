@@ -1,4 +1,5 @@
-use Rattle.std.proofs.Common.{◌∙◌, ◌++◌, ◌∷◌, [], List, ℕ, ap, sym}
+use Rattle.std.proofs.lemmas.Grind.{common_steps}
+use Rattle.std.proofs.Common.{◌∙◌, ◌++◌, ◌∷◌, [], List, ℕ, ap, sym, arith}
 use Rattle.redraw_read.proofs.Targeted.{bare-more, bare-same}
 use Rattle.redraw_read.proofs.labels.add_bare.Goals as goal
 
@@ -12,7 +13,4 @@ returns-in_ok-insert c =
     }
 
 pub returns-else-is_bare : goal.returns-else-is_bare
-returns-else-is_bare c =
-    record {
-      added = λ spans are count. bare-same c.args.bare.now c.args.span.now spans (sym c.is_bare.ensures.value ∙ c.if-is_bare.false) are;
-    }
+returns-else-is_bare c = grind (arith, common_steps, bare-same, c.is_bare.ensures.value, c.if-is_bare.false)

@@ -1,7 +1,6 @@
-use Rattle.std.proofs.Common.{List, arith, subst, sym, take}
+use Rattle.std.proofs.lemmas.Grind.{common_steps}
+use Rattle.std.proofs.Common.{arith, sym, take}
 use Rattle.std.proofs.lemmas.List.{length-take-le, take_all}
-use Rattle.redraw_report.specs.declared.diagnostic.FileSpan.{FileSpan}
-use Rattle.redraw_read.specs.Targets.{AreBarePlaces}
 use Rattle.redraw_read.proofs.Targeted.{none-yet, places-next}
 use Rattle.redraw_read.proofs.labels.bare_places.Goals as goal
 
@@ -16,8 +15,4 @@ loop-index-preserved c =
     (c.in_ok-add_bare.ensures.added (take i spans) c.loop-index.invariant (sym (length-take-le i spans (omega (arith, c.loop-index-test.true)))))
 
 pub returns : goal.returns
-returns c =
-    record {
-      are = subst (λ (spans : List FileSpan). AreBarePlaces c.loop-index.bare spans)
-          (take_all c.loop-index.index c.args.spans.now (omega (arith, c.loop-index-test.false))) c.loop-index.invariant;
-    }
+returns c = grind (arith, common_steps, take_all, c.loop-index-test.false, c.loop-index.invariant)

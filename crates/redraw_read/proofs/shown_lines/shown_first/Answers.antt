@@ -1,4 +1,5 @@
-use Rattle.std.proofs.Common.{◌∙◌, [], ap, get_or, string_bytes, sym}
+use Rattle.std.proofs.lemmas.Grind.{common_steps}
+use Rattle.std.proofs.Common.{◌∙◌, [], ap, get_or, string_bytes, sym, arith}
 use Rattle.redraw_read.specs.Rendered.{shown_in}
 use Rattle.redraw_read.specs.ShownLines.{texts}
 use Rattle.redraw_read.proofs.LineNumbers.{least-shown, none-shown}
@@ -18,9 +19,4 @@ returns-in-Some c =
     }
 
 pub returns-in-None : goal.returns-in-None
-returns-in-None c =
-    let made = c.requires.numbered in
-    record {
-      value = sym (none-shown c.args.place (string_bytes c.args.message.now) (texts c.args.lines.now)
-          (λ t n at begins. c.in-None.ensures.least t n (made t ∙ at) begins));
-    }
+returns-in-None c = grind (arith, common_steps, none-shown, c.requires.numbered, c.in-None.ensures.least)
