@@ -25,7 +25,7 @@ use Rattle.snippet_shown.specs.WrapLaws.{AreRowsWithin}
 use Rattle.snippet_shown.specs.Wrapped.{wrapped}
 use Rattle.std.specs.List.{slice_split}
 use Rattle.snippet_strokes.proofs.PieceWrites.{piece_shows, piece_within}
-use Rattle.snippet_strokes.proofs.RowWidths.{row_has_room}
+use Rattle.snippet_strokes.proofs.RowWidths.{label_rows_have_room, rows_have_room}
 use Rattle.snippet_strokes.proofs.SeenLabels.{HasPieceRoom}
 use Rattle.std.proofs.lemmas.List.{get_or_default}
 use Rattle.std.specs.Prelude.{nat_le, nat_lt}
@@ -188,21 +188,24 @@ module _ (dropped : ℕ) (layout : Layout) (rows : List (List Cell)) where
       no_bar false true is = cc is
       no_bar false false is = refl
 
-  all_shown : (es : List LineAnnotation) (ls : List PlacedLabel) → map (λ (l : PlacedLabel). l.entry) ls ≡ map (shifted dropped) es → All HasPieces ls
-      → All IsClear es → All Stands ls → All Shows (shown_labels es ls)
+  -- what follows of what holds of the entries' labels holds of those at which spans end
+  all_kept : (P : PlacedLabel → Type 0) (Q : ShownLabel → Type 0)
+      → ((e : LineAnnotation) (l : PlacedLabel) → l.entry ≡ shifted dropped e → HasPieces l → IsClear e → ends_here e ≡ true → P l → Q (shown_at e l))
+      → (es : List LineAnnotation) (ls : List PlacedLabel) → map (λ (l : PlacedLabel). l.entry) ls ≡ map (shifted dropped) es → All HasPieces ls
+      → All IsClear es → All P ls → All Q (shown_labels es ls)
   unfolding shown_labels
-  all_shown [] ls entries has clear stand = All-nil Shows
-  all_shown (e ∷ es) [] entries has clear stand = cc entries
-  all_shown (e ∷ es) (l ∷ ls) entries has clear stand =
+  all_kept P Q own [] ls entries has clear all = All-nil Q
+  all_kept P Q own (e ∷ es) [] entries has clear all = cc entries
+  all_kept P Q own (e ∷ es) (l ∷ ls) entries has clear all =
       let entry = head_same l.entry (shifted dropped e) (map (λ (x : PlacedLabel). x.entry) ls) (map (shifted dropped) es) entries in
       let further = tail_same l.entry (shifted dropped e) (map (λ (x : PlacedLabel). x.entry) ls) (map (shifted dropped) es) entries in
-      both (ends_here e) (one_label e l entry (All-head HasPieces l ls has) (All-head IsClear e es clear)) (All-head Stands l ls stand)
-      (all_shown es ls further (All-tail HasPieces l ls has) (All-tail IsClear e es clear) (All-tail Stands l ls stand))
+      both (ends_here e) (own e l entry (All-head HasPieces l ls has) (All-head IsClear e es clear)) (All-head P l ls all)
+      (all_kept P Q own es ls further (All-tail HasPieces l ls has) (All-tail IsClear e es clear) (All-tail P l ls all))
     where
-      both : (b : Bool) → (b ≡ true → Stands l → Shows (shown_at e l)) → Stands l → All Shows (shown_labels es ls)
-          → All Shows (cond b (shown_at e l ∷ shown_labels es ls) (shown_labels es ls))
-      both true own stands rest = All-cons Shows (shown_at e l) (shown_labels es ls) (own refl stands) rest
-      both false own stands rest = rest
+      both : (b : Bool) → (b ≡ true → P l → Q (shown_at e l)) → P l → All Q (shown_labels es ls)
+          → All Q (cond b (shown_at e l ∷ shown_labels es ls) (shown_labels es ls))
+      both true one holds rest = All-cons Q (shown_at e l) (shown_labels es ls) (one refl holds) rest
+      both false one holds rest = rest
 
   -- a stem leads to one of some labels, where no label of all these has the cell
   abbrev Led : List PlacedLabel → PlacedLabel → Type 0
@@ -211,23 +214,28 @@ module _ (dropped : ℕ) (layout : Layout) (rows : List (List Cell)) where
   abbrev Stemmed : List ShownLabel → ShownLabel → Type 0
   Stemmed shown l = shows_any (pieces_shown layout l) ≡ true → HasStem layout.decor layout shown rows l
 
-  all_led : (all : List PlacedLabel) (shown : List ShownLabel) → ((r c : ℕ) → count_by (is_in_label layout r c) shown ≡ 0 → count_by (is_cell_of r c) all ≡ 0)
-      → (es : List LineAnnotation) (ls : List PlacedLabel) → map (λ (l : PlacedLabel). l.entry) ls ≡ map (shifted dropped) es → All HasPieces ls
-      → All (Led all) ls → All (Stemmed shown) (shown_labels es ls)
-  unfolding shown_labels
-  all_led all shown clear [] ls entries has led = All-nil (Stemmed shown)
-  all_led all shown clear (e ∷ es) [] entries has led = cc entries
-  all_led all shown clear (e ∷ es) (l ∷ ls) entries has led =
-      let entry = head_same l.entry (shifted dropped e) (map (λ (x : PlacedLabel). x.entry) ls) (map (shifted dropped) es) entries in
-      let further = tail_same l.entry (shifted dropped e) (map (λ (x : PlacedLabel). x.entry) ls) (map (shifted dropped) es) entries in
-      let own : Stemmed shown (shown_at e l) = λ some r under above none.
-      All-head (Led all) l ls led (ap shows_any (pieces_are e l entry (All-head HasPieces l ls has)) ∙ some) r under above (clear r l.cell none) in
-      both (ends_here e) own (all_led all shown clear es ls further (All-tail HasPieces l ls has) (All-tail (Led all) l ls led))
-    where
-      both : (b : Bool) → Stemmed shown (shown_at e l) → All (Stemmed shown) (shown_labels es ls)
-          → All (Stemmed shown) (cond b (shown_at e l ∷ shown_labels es ls) (shown_labels es ls))
-      both true own rest = All-cons (Stemmed shown) (shown_at e l) (shown_labels es ls) own rest
-      both false own rest = rest
+  one_led : (all : List PlacedLabel) (shown : List ShownLabel) → ((r c : ℕ) → count_by (is_in_label layout r c) shown ≡ 0 → count_by (is_cell_of r c) all ≡ 0)
+      → (e : LineAnnotation) (l : PlacedLabel) → l.entry ≡ shifted dropped e → HasPieces l → IsClear e → ends_here e ≡ true → Led all l
+      → Stemmed shown (shown_at e l)
+  one_led all shown none_kept e l entry has clear ends led some r under above none =
+      led (ap shows_any (pieces_are e l entry has) ∙ some) r under above (none_kept r l.cell none)
+
+  -- the rows of a label have room, if it has room for 20 columns
+  abbrev Fits : PlacedLabel → Type 0
+  Fits l =
+      shows_any l.pieces ≡ true → l.cell + 20 ≤ layout.label_end → (n : ℕ) → n < length l.pieces
+      → width_of (row_text (get_or rows (l.row + n) [])) ≤ layout.label_end
+
+  abbrev RowsFit : ShownLabel → Type 0
+  RowsFit l =
+      l.cell + 20 ≤ layout.label_end → shows_any (pieces_shown layout l) ≡ true → (i : ℕ) → i < length (pieces_shown layout l)
+      → width_of (row_text (get_or rows (l.row + i) [])) ≤ layout.label_end
+
+  one_roomy : (e : LineAnnotation) (l : PlacedLabel) → l.entry ≡ shifted dropped e → HasPieces l → IsClear e → ends_here e ≡ true
+      → Fits l → RowsFit (shown_at e l)
+  one_roomy e l entry has clear ends rows_fit wide some i within =
+      let same = pieces_are e l entry has in
+      rows_fit (ap shows_any same ∙ some) wide i (omega (arith, within, ap (λ (ps : List (List ℕ)). length ps) same))
 
   -- a cell is in no more of these than of all the entries' labels
   cells_few : (r c : ℕ) (es : List LineAnnotation) (ls : List PlacedLabel) → map (λ (l : PlacedLabel). l.entry) ls ≡ map (shifted dropped) es
@@ -458,22 +466,31 @@ labels_shown sn k dropped layout es rows same clear stand left =
     record {
       labels = shown_labels es stand.labels;
       spans = labels_are es stand.labels long ∙ spans;
-      stand = all_shown dropped layout rows es stand.labels stand.are stand.pieces clear stand.stand;
-      led = all_led dropped layout rows stand.labels (shown_labels es stand.labels) none_kept es stand.labels stand.are stand.pieces
+      stand = all_kept dropped layout rows (Stands dropped layout rows) (Shows dropped layout rows) (one_label dropped layout rows) es stand.labels stand.are
+          stand.pieces clear stand.stand;
+      led = all_kept dropped layout rows (Led dropped layout rows stand.labels) (Stemmed dropped layout rows (shown_labels es stand.labels))
+          (one_led dropped layout rows stand.labels (shown_labels es stand.labels) none_kept) es stand.labels stand.are stand.pieces clear
           stand.led;
       apart = λ r c. omega (arith, cells_few dropped layout rows r c es stand.labels stand.are stand.pieces, stand.apart r c);
       others = λ r c right none. stand.others r c right (none_kept r c none);
       broken = λ cut k d within wide. label_broken layout cut (get_or (shown_labels es stand.labels) k d) wide;
-      within = λ cut marks_room room r d inside.
+      within = λ cut room.
           let edge : ℕ = layout.label_end in
-          let E : SpanLabel → Type 0 = λ l. layout.code + (l.to - dropped) ≤ edge in
-          let last : All (λ p. ends_here p ≡ true → E (label_of_part p)) es = unfiltered ends_here (λ p. E (label_of_part p)) es
-          (All-unmapped E (label_of_part) (filter ends_here es) (subst (All E) (sym spans) marks_room.end)) in
-          let end = entries_end s marks k dropped edge layout marks_room.code marks_room.begin es same (λ i x within ending. last i x within (ap not ending)) in
           let shown = labels_end dropped layout rows cut es stand.labels stand.are (labelled_at_end s marks k dropped es same) stand.pieces room in
-          omega (
-            arith,
-            row_has_room layout (map (shifted dropped) es) rows stand cut marks_room.code end shown left r,
-            ap (λ (row : List Cell). width_of (row_text row)) (get_or_default rows r d [] inside),
+          let E : SpanLabel → Type 0 = λ l. layout.code + (l.to - dropped) ≤ edge in
+          (
+            λ i d inside some. all_kept dropped layout rows (Fits dropped layout rows) (RowsFit dropped layout rows) (one_roomy dropped layout rows)
+                es stand.labels stand.are stand.pieces clear (label_rows_have_room layout (map (shifted dropped) es) rows stand cut shown left) i d inside
+                (room i d inside some) some,
+            λ marks_room r d inside.
+                let last : All (λ p. ends_here p ≡ true → E (label_of_part p)) es = unfiltered ends_here (λ p. E (label_of_part p)) es
+                (All-unmapped E (label_of_part) (filter ends_here es) (subst (All E) (sym spans) marks_room.end)) in
+                let end = entries_end s marks k dropped edge layout marks_room.code marks_room.begin es same (λ i x within ending.
+                last i x within (ap not ending)) in
+                omega (
+                  arith,
+                  rows_have_room layout (map (shifted dropped) es) rows stand cut shown left marks_room.code end r,
+                  ap (λ (row : List Cell). width_of (row_text row)) (get_or_default rows r d [] inside),
+                ),
           );
     }

@@ -122,15 +122,12 @@ stem_left_out decor layout s k dropped rows shows l among some r below above non
 abbrev pub ShowsNothing : Layout → SpanLabel → Type 0
 ShowsNothing layout label = (cell : ℕ) → shows_any (label_pieces layout cell label.text) ≡ false
 
-abbrev pub HasNoLabel : Layout → Snippet Annotation → ℕ → Type 0
-HasNoLabel layout s k = All (ShowsNothing layout) (labels_ending_on s k)
-
 -- a word below a line of whose spans none has a label that shows anything, here in the role of labels:
 --
 --     1 | ab
 --       | ^^ x
 pub stray_word_below_a_line : (decor : DecorStyle) (layout : Layout) (s : Snippet Annotation) (k dropped : ℕ) (rows : List (List Cell))
-    → ShowsLabels decor layout s k dropped rows → HasNoLabel layout s k → (r c : ℕ) → layout.code ≤ c
+    → ShowsLabels decor layout s k dropped rows → All (ShowsNothing layout) (labels_ending_on s k) → (r c : ℕ) → layout.code ≤ c
     → is_label_role (cell_at rows r c).role ≡ true → ⊥
 stray_word_below_a_line decor layout s k dropped rows shows none r c right label =
     elim (shows.others r c right (no_cells shows.labels (subst (All (ShowsNothing layout)) (sym shows.spans) none))) [
@@ -191,15 +188,26 @@ piece_too_wide decor layout s k dropped rows shows cut l among wide i within pas
     let broken = All-contains (λ (l : ShownLabel). l.cell + 20 ≤ layout.label_end → IsBroken layout l) shows.labels l (shows.broken cut) among wide in
     omega (arith, broken.fits i [] within, wide, past)
 
--- a row with more columns than there are up to where labels are to end, here by spaces, `·`, though all marks have room, and all labels for 20
+-- a row of a label with more columns than there are up to where labels are to end, here by spaces, `·`, though all labels have room for 20
 -- columns:
 --
 --     1 | ab                             in 27 columns
 --       | ^^ this one is broken····
 --       |    as it has to be
 pub row_too_wide : (decor : DecorStyle) (layout : Layout) (s : Snippet Annotation) (k dropped : ℕ) (rows : List (List Cell))
-    → (shows : ShowsLabels decor layout s k dropped rows) → layout.label_lines ≡ true → MarksHaveRoom layout s k dropped
-    → All (λ l. shows_any (pieces_shown layout l) ≡ true → l.cell + 20 ≤ layout.label_end) shows.labels → (row : List Cell) → Contains rows row
-    → layout.label_end < width_of (row_text row) → ⊥
-row_too_wide decor layout s k dropped rows shows cut marks room row among past =
-    omega (arith, All-contains (λ (row : List Cell). width_of (row_text row) ≤ layout.label_end) rows row (shows.within cut marks room) among, past)
+    → (shows : ShowsLabels decor layout s k dropped rows) → layout.label_lines ≡ true
+    → All (λ l. shows_any (pieces_shown layout l) ≡ true → l.cell + 20 ≤ layout.label_end) shows.labels → (l : ShownLabel) → Contains shows.labels l
+    → shows_any (pieces_shown layout l) ≡ true → (i : ℕ) → i < length (pieces_shown layout l)
+    → layout.label_end < width_of (row_text (slice_index_or rows (l.row + i) [])) → ⊥
+row_too_wide decor layout s k dropped rows shows cut room l among some i within past =
+    let P : ShownLabel → Type 0 = λ l. shows_any (pieces_shown layout l) ≡ true → (i : ℕ) → i < length (pieces_shown layout l)
+    → width_of (row_text (slice_index_or rows (l.row + i) [])) ≤ layout.label_end in
+    omega (arith, All-contains P shows.labels l (shows.within cut room).0 among some i within, past)
+
+-- or any row below a line of which all marks have room too
+pub row_past_marks : (decor : DecorStyle) (layout : Layout) (s : Snippet Annotation) (k dropped : ℕ) (rows : List (List Cell))
+    → (shows : ShowsLabels decor layout s k dropped rows) → layout.label_lines ≡ true
+    → All (λ l. shows_any (pieces_shown layout l) ≡ true → l.cell + 20 ≤ layout.label_end) shows.labels → MarksHaveRoom layout s k dropped
+    → (row : List Cell) → Contains rows row → layout.label_end < width_of (row_text row) → ⊥
+row_past_marks decor layout s k dropped rows shows cut room marks row among past =
+    omega (arith, All-contains (λ (row : List Cell). width_of (row_text row) ≤ layout.label_end) rows row ((shows.within cut room).1 marks) among, past)

@@ -3,7 +3,7 @@ pub use Rattle.snippet_grid.proofs.GridShown.{chars_some}
 pub use Rattle.snippet_labels.specs.PlacedEntries.{shifted, is_end_part}
 pub use Rattle.snippet_labels.specs.Placing.{unplaced, HasItsLabel, BeginLeftOf, StandInRow, ArePlaced, asks, IsFromRight, StandsLeft, FitsLeftOf}
 pub use Rattle.snippet_labels.specs.Pieces.{LabelPieces, beside_column, broken, broken_in, text_pieces, label_at, label_of_entry, label_pieces, label_width}
-pub use Rattle.snippet_labels.specs.Pieces.{pieces_width, shows_any, stands_last}
+pub use Rattle.snippet_labels.specs.Pieces.{pieces_width, shows_any, goes_past, stands_last}
 pub use Rattle.snippet_grid.specs.Layout.{Layout, code_cell}
 pub use Rattle.snippet_labels.specs.Placing.{label_reach}
 pub use Rattle.snippet_labels.specs.Positions.{position_after, look_counts, position_at, positions, crosses, line_positions, is_placed_before, looked_after}

@@ -3,7 +3,7 @@ use Rattle.snippet_labels.proofs.Common.{◌≡◌, ℕ, ◌+◌, ◌-◌, ◌�
 use Rattle.snippet_labels.proofs.Common.{refl, sym, ap, subst, ◌∙◌, arith, All, inl, inr, get_or, greatest, nat_tests, map_push}
 use Rattle.snippet_labels.proofs.Common.{encode_utf8_all, pieces_width, shows_any, LabelPieces, label_width, label_at, label_pieces, beside_column, broken}
 use Rattle.snippet_labels.proofs.Common.{broken_in, text_pieces, Layout, code_cell, PlacedEntry, HasItsLabel, pieces_of, label_place, normalized_chars}
-use Rattle.snippet_labels.proofs.Common.{LineAnnotation, label_of_entry, stands_last, nat_lt, ◌&&◌, list_any}
+use Rattle.snippet_labels.proofs.Common.{LineAnnotation, label_of_entry, goes_past, stands_last, nat_lt, ◌&&◌, list_any}
 use Rattle.snippet_labels.specs.LabelSize.{cut_pieces}
 use Rattle.snippet_parts.proofs.LeastLemmas.{greatest-push}
 use Rattle.snippet_parts.proofs.RawDepthLemmas.{greatest-cons}
@@ -73,14 +73,16 @@ pub label_pieces-whole : (layout : Layout) → layout.label_lines ≡ false → 
 label_pieces-whole layout is cell text = ap (λ b. text_pieces b (if b then broken_in (layout.label_end - cell) text else text)) is
 
 -- labels of the same pieces are one
-pub LabelPieces-is : (a b : LabelPieces) → a.beside ≡ b.beside → a.below ≡ b.below → a.last ≡ b.last → a ≡ b
-LabelPieces-is a b beside below last =
-    ap (λ x. record { beside = x; below = a.below; last = a.last }) beside ∙ ap (λ x. record { beside = b.beside; below = x; last = a.last }) below
-    ∙ ap (λ x. record { beside = b.beside; below = b.below; last = x }) last
+pub LabelPieces-is : (a b : LabelPieces) → a.beside ≡ b.beside → a.below ≡ b.below → a.last ≡ b.last → a.past ≡ b.past → a ≡ b
+LabelPieces-is a b beside below last past =
+    ap (λ x. record a { beside = x }) beside ∙ ap (λ x. record a { beside = b.beside; below = x }) below
+    ∙ ap (λ x. record { beside = b.beside; below = b.below; last = x; past = a.past }) last
+    ∙ ap (λ x. record { beside = b.beside; below = b.below; last = b.last; past = x }) past
 
 pub label_of_entry-whole : (layout : Layout) → layout.label_lines ≡ false → (e : LineAnnotation) (label : LabelPieces)
-    → label.beside ≡ normalized_chars e.label ∷ [] → label.below ≡ normalized_chars e.label ∷ [] → label.last ≡ false → label ≡ label_of_entry layout e
-label_of_entry-whole layout is e label beside below last =
+    → label.beside ≡ normalized_chars e.label ∷ [] → label.below ≡ normalized_chars e.label ∷ [] → label.last ≡ false
+    → label.past ≡ false → label ≡ label_of_entry layout e
+label_of_entry-whole layout is e label beside below last past =
     let text : List ℕ = normalized_chars e.label in
     let first : label.beside ≡ label_pieces layout (code_cell layout (beside_column e)) text =
     beside ∙ sym (label_pieces-whole layout is (code_cell layout (beside_column e)) text) in
@@ -88,7 +90,9 @@ label_of_entry-whole layout is e label beside below last =
     below ∙ sym (label_pieces-whole layout is (code_cell layout e.start.display) text) in
     let third : label.last ≡ stands_last layout text =
     last ∙ sym (ap (λ b. b && (nat_lt 0 layout.label_end && list_any (λ c. nat_lt 1 (char_width c)) text)) is) in
-    LabelPieces-is label (label_of_entry layout e) first second third
+    let fourth : label.past ≡ goes_past layout e =
+    past ∙ sym (ap (λ b. b && (nat_lt 0 layout.label_end && nat_lt layout.label_end (code_cell layout (max (e.start.display + 1) e.end.display)))) is) in
+    LabelPieces-is label (label_of_entry layout e) first second third fourth
 
 pub label_pieces-cut : (layout : Layout) → layout.label_lines ≡ true → (cell : ℕ) (text : List ℕ)
     → label_pieces layout cell text ≡ cut_pieces (layout.label_end - cell) text

@@ -30,11 +30,18 @@ label_pieces layout cell text = text_pieces layout.label_lines (broken layout ce
 abbrev pub stands_last : Layout → List ℕ → Bool
 stands_last layout text = layout.label_lines && (nat_lt 0 layout.label_end && list_any (λ c. nat_lt 1 (char_width c)) text)
 
--- the pieces of a label as it stands after its mark, and as it hangs below it, and whether nothing may stand right of it
+-- whether the mark of an entry goes past where labels are to end, where they are broken. A mark takes a column at least
+abbrev pub goes_past : Layout → LineAnnotation → Bool
+goes_past layout e =
+    layout.label_lines && (nat_lt 0 layout.label_end && nat_lt layout.label_end (code_cell layout (max (e.start.display + 1) e.end.display)))
+
+-- the pieces of a label as it stands after its mark, and as it hangs below it; whether nothing may stand right of it in a row; and whether its
+-- mark goes too far for a label left of it to stand in the row of the marks
 pub record LabelPieces : Type 0 where
   pub beside : List (List ℕ)
   pub below : List (List ℕ)
   pub last : Bool
+  pub past : Bool
 
 -- the column at which a label begins that stands after its mark: one after it. A mark that ends at column 0 still takes that column
 abbrev pub beside_column : LineAnnotation → ℕ
@@ -47,6 +54,7 @@ label_of_entry layout e =
       beside = label_pieces layout (code_cell layout (beside_column e)) (normalized_chars e.label);
       below = label_pieces layout (code_cell layout e.start.display) (normalized_chars e.label);
       last = stands_last layout (normalized_chars e.label);
+      past = goes_past layout e;
     }
 
 -- the pieces of a label at this position: at 0 it stands after its mark

@@ -31,10 +31,12 @@ abbrev pub label_reach : PlacedEntry → ℕ
 label_reach e =
     if has_label e then e.entry.end.display + (label_width e.label + 2) else e.entry.end.display
 
--- an entry begins before a column, and ends before it with its label, right of which others may stand; no line leads from it to a bar
+-- an entry begins before a column, and ends before it with its label, right of which others may stand, as left of its mark; no line leads from
+-- it to a bar
 pub record FitsLeftOf (column : ℕ) (e : PlacedEntry) : Type 0 where
   pub single : takes_space e ≡ false
   pub beside : e.label.last ≡ false
+  pub near : e.label.past ≡ false
   pub begins : e.entry.start.display < column
   pub ends : label_reach e ≤ column
 

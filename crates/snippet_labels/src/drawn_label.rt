@@ -27,6 +27,8 @@ pub struct DrawnLabel<'a> {
     text: LabelText<'a>,
     /// How many bytes its longest piece has, whichever way it stands.
     width: usize,
+    /// Whether its mark goes past where labels are to end.
+    past: bool,
 }
 
 /// The text of a label, normalised.
@@ -71,7 +73,7 @@ impl<'a> Model for DrawnLabel<'a> {
 
     ghost Value = { LabelPieces };
 
-    ghost view = { λ label. pieces_in label.text };
+    ghost view = { λ label. pieces_in label.text label.past };
 
     ghost invariant = { λ label. IsSized label.text label.width };
 }
@@ -82,13 +84,26 @@ impl<'a> DrawnLabel<'a> {
         ensures beside { result.beside ≡ chars (cow_str_bytes text.entry) ∷ [] }
         ensures below { result.below ≡ chars (cow_str_bytes text.entry) ∷ [] }
         ensures last { result.last ≡ false }
+        ensures past { result.past ≡ false }
     {
         let width = text.as_str().len();
         let text = match text {
             CowStr::Borrowed(text) => LabelText::Given(text),
             CowStr::Owned(text) => LabelText::Made(text),
         };
-        DrawnLabel { text, width }
+        DrawnLabel {
+            text,
+            width,
+            past: false,
+        }
+    }
+
+    /// The label, whose mark goes past where labels are to end, or doesn't.
+    pub(crate) fn with_mark_past(mut self, past: bool) -> DrawnLabel<'a>
+        ensures value { result ≡ record self.entry { past = past } }
+    {
+        self.past = past;
+        self
     }
 
     /// A label of this text that is cut at its line feeds, and broken where it has no room at this cell, at which it
@@ -109,6 +124,7 @@ impl<'a> DrawnLabel<'a> {
         ensures below { IfOk result (λ label. label.below
             ≡ cut_pieces (layout.label_end - below) (norm (chars text.now))) }
         ensures last { IfOk result (λ label. label.last ≡ spec.stands_last layout (norm (chars text.now))) }
+        ensures past { IfOk result (λ label. label.past ≡ false) }
     {
         let beside = cut_text(alloc, layout.label_end.saturating_sub(beside), text)?;
         let below = cut_text(alloc, layout.label_end.saturating_sub(below), text)?;
@@ -125,6 +141,7 @@ impl<'a> DrawnLabel<'a> {
         Ok(DrawnLabel {
             text: LabelText::Cut(label),
             width,
+            past: false,
         })
     }
 
@@ -165,6 +182,13 @@ impl<'a> DrawnLabel<'a> {
             LabelText::Cut(label) => label.last,
             _ => false,
         }
+    }
+
+    /// Whether its mark goes too far for a label left of it to stand in the row of the marks.
+    pub fn has_mark_past(&self) -> bool
+        ensures value { result ≡ self.now.past }
+    {
+        self.past
     }
 
     /// Whether it shows nothing.

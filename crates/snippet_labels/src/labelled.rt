@@ -73,6 +73,7 @@ fn whole_label<'a>(alloc: Global, entry: &LineAnnotation<'a>) -> Result<DrawnLab
     ensures beside { IfOk result (λ label. label.beside ≡ normalized_chars entry.now.label ∷ []) }
     ensures below { IfOk result (λ label. label.below ≡ normalized_chars entry.now.label ∷ []) }
     ensures last { IfOk result (λ label. label.last ≡ false) }
+    ensures past { IfOk result (λ label. label.past ≡ false) }
 {
     match entry.label.text() {
         Some(text) => Ok(DrawnLabel::whole(normalized(alloc, text)?)),
@@ -96,12 +97,24 @@ fn cut_label<'a>(
     requires end { IsColumn entry.now.end.display }
     ensures value { IfOk result (λ label. label ≡ spec.label_of_entry layout entry.now) }
 {
+    let past = goes_past(layout, entry);
     let Some(text) = entry.label.text() else {
-        return Ok(DrawnLabel::whole(CowStr::Borrowed("")));
+        return Ok(DrawnLabel::whole(CowStr::Borrowed("")).with_mark_past(past));
     };
     let beside = layout.code_cell(beside_column(entry));
     let below = layout.code_cell(entry.start.display);
-    DrawnLabel::cut(alloc, layout, beside, below, text)
+    Ok(DrawnLabel::cut(alloc, layout, beside, below, text)?.with_mark_past(past))
+}
+
+/// Whether the mark of an entry, which takes a column at least, goes past where labels are to end, where they are
+/// broken.
+fn goes_past(layout: Layout, entry: &LineAnnotation) -> bool
+    requires start { IsColumn entry.now.start.display }
+    requires end { IsColumn entry.now.end.display }
+    ensures value { result ≡ spec.goes_past layout entry.now }
+{
+    let end = entry.end.display.max(entry.start.display + 1);
+    layout.label_lines && layout.label_end > 0 && layout.code_cell(end) > layout.label_end
 }
 
 /// The column at which an entry's label begins that stands after its mark: one after it. A mark that ends at column 0

@@ -15,7 +15,7 @@ pub(crate) fn crosses(entry: &PlacedEntry, other: &PlacedEntry) -> bool
 
 /// Whether an entry farther left needs a row of its own: one of the two is a start or an end and the other is too, or
 /// has a label; or its label would reach into this entry, which has a label too, or stands in the first row and ends no
-/// earlier.
+/// earlier; or it would stand in the row of this entry's mark, which goes past where labels are to end.
 pub(crate) fn crowds(position: usize, entry: &PlacedEntry, other: &PlacedEntry) -> bool
     requires columns { IsColumn other.now.entry.end.display }
     ensures value { result ≡ (spec.blocks entry.now other.now || spec.reaches position entry.now other.now) }
@@ -32,14 +32,16 @@ fn blocks(entry: &PlacedEntry, other: &PlacedEntry) -> bool
 }
 
 /// Whether the label of an entry farther left would reach into this entry, which has a label too, or stands in the
-/// first row and ends no earlier. A label right of which nothing may stand reaches all that does.
+/// first row and ends no earlier. A label right of which nothing may stand reaches all that does, and a mark in the
+/// first row that goes past where labels are to end is reached by all that stand there.
 fn reaches(position: usize, entry: &PlacedEntry, other: &PlacedEntry) -> bool
     requires columns { IsColumn other.now.entry.end.display }
     ensures value { result ≡ spec.reaches position entry.now other.now }
 {
     other.has_label()
-        && (other.label.stands_last() || overlap(other, other.label.width() + GAP, entry))
-        && (entry.has_label() || (position == 0 && ends_no_later(other, entry)))
+        && (((other.label.stands_last() || overlap(other, other.label.width() + GAP, entry))
+            && (entry.has_label() || (position == 0 && ends_no_later(other, entry))))
+            || (position == 0 && entry.label.has_mark_past()))
 }
 
 /// Whether one of two entries starts in the columns of the other, those of the first being this many more.

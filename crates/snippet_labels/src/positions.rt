@@ -168,13 +168,14 @@ fn stand_in_row(entries: &[PlacedEntry]) -> bool
 }
 
 /// Whether an entry begins before this column, and ends before it with its label after its mark, right of which others
-/// may stand. Starts and ends of spans of several lines do not.
+/// may stand, as left of the mark. Starts and ends of spans of several lines do not.
 fn fits_left_of(column: usize, placed: &PlacedEntry) -> bool
     requires columns { IsColumn placed.now.entry.end.display }
     ensures yes { result ≡ true → FitsLeftOf column placed.now }
 {
     !placed.takes_space()
         && !placed.label.stands_last()
+        && !placed.label.has_mark_past()
         && placed.entry.start.display < column
         && label_reach(placed) <= column
 }

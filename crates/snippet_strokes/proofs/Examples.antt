@@ -29,7 +29,7 @@ ties_as_given = refl
 
 abbrev placed : List ℕ → AnnotationKind → ℕ → ℕ → PlacedEntry
 placed label kind from to =
-    record { entry = entry kind from to; label = record { beside = label ∷ []; below = label ∷ []; last = false }; position = 0; looked = 0 }
+    record { entry = entry kind from to; label = record { beside = label ∷ []; below = label ∷ []; last = false; past = false }; position = 0; looked = 0 }
 
 -- the widest mark is painted first, and of one width those for context before a primary one; all others as they are placed
 widest_first : (label : List ℕ)
@@ -50,7 +50,7 @@ letter_of_none = refl
 -- an entry of these columns, for the place of whose label so many of those after it are looked at
 abbrev looking : List ℕ → ℕ → ℕ → ℕ → PlacedEntry
 looking label looked from to =
-    record { entry = entry Primary from to; label = record { beside = label ∷ []; below = label ∷ []; last = false }; position = 0; looked = looked }
+    record (placed label Primary from to) { looked = looked }
 
 -- of three marks, from right to left, where all are looked at for each: the two farthest right count for no one, and the third overlaps itself
 -- `          ^^^^^`

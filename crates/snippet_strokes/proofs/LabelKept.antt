@@ -123,19 +123,29 @@ clear_left e f uncrossed place left = search rules
 clear_right : (e f : PlacedEntry) → crowds 0 f e ≡ false → has_label e ≡ true → e.entry.start.display ≤ f.entry.start.display → IsClear e f
 clear_right e f uncrowded has left = grind (arith, common_steps, by_parts)
   where
-    by_parts : (block own last other : Bool) (fs fe es ee ec fc more : ℕ)
-        → (block || ((own && (last || ((nat_le fs es && nat_lt es fe) || (nat_le es fs && nat_lt fs (ee + more)))))
-        && (other || ((0 == 0) && (nat_lt ee fe || (ee == fe && nat_le ec fc)))))) ≡ false
+    by_parts : (block own last other past : Bool) (fs fe es ee ec fc more : ℕ)
+        → (block || (own && (((last || ((nat_le fs es && nat_lt es fe) || (nat_le es fs && nat_lt fs (ee + more))))
+        && (other || ((0 == 0) && (nat_lt ee fe || (ee == fe && nat_le ec fc))))) || ((0 == 0) && past)))) ≡ false
         → own ≡ true → es ≤ fs → (fe ≤ ee) ⊎ (ee + more ≤ fs)
-    by_parts block own last other fs fe es ee ec fc more is has left = grind (arith, nat_tests)
+    by_parts block own last other past fs fe es ee ec fc more is has left = grind (arith, nat_tests)
 
 -- nor, where nothing may stand right of the label, does one that starts there
 last_right : (e f : PlacedEntry) → crowds 0 f e ≡ false → has_label e ≡ true → e.label.last ≡ true → f.entry.end.display ≤ e.entry.end.display
 last_right e f uncrowded has last = search (rules, nat_tests)
 
--- what has a label, or a line to its bar, is crowded by a label right of which nothing may stand
-last_crowds : (p : ℕ) (e f : PlacedEntry) → has_label f ≡ true → f.label.last ≡ true → (has_label e || takes_space e) ≡ true → crowds p e f ≡ true
-last_crowds p e f has last asks = search rules
+-- what has a label is crowded by a label right of which nothing may stand, and what has a line to its bar by each label
+pub last_crowds : (p : ℕ) (e f : PlacedEntry) → has_label f ≡ true → f.label.last ≡ true → has_label e ≡ true → crowds p e f ≡ true
+last_crowds p e f has last has_e = search rules
+
+pub line_crowds : (p : ℕ) (e f : PlacedEntry) → has_label f ≡ true → takes_space e ≡ true → crowds p e f ≡ true
+line_crowds p e f has takes = search rules
+
+-- a mark that goes past where labels are to end is crowded by each label in its row
+pub past_clear : (e f : PlacedEntry) → crowds 0 e f ≡ false → has_label f ≡ true → e.label.past ≡ false
+past_clear e f clear has = grind (arith, common_steps, by_parts)
+  where
+    by_parts : (block own rest past : Bool) → (block || (own && (rest || ((0 == 0) && past)))) ≡ false → own ≡ true → past ≡ false
+    by_parts block own rest past is has = grind (arith, nat_tests)
 
 mark_end_le : (f : PlacedEntry) → mark_end f ≤ f.entry.end.display + 1
 mark_end_le f = search rules
@@ -148,6 +158,16 @@ unpainted e f n at clear inside there =
       | inr right ↦ omega (arith, right, at.to, there.0, few, inside)
     ]
 
+-- where a label stands in the row of the marks, it doesn't crowd what stands right of it
+pub right_clear : (layout : Layout) (given : List LineAnnotation) (es : List PlacedEntry) (i j : ℕ) (d d2 : PlacedEntry) → ArePlaced layout given es
+    → i < j → j < length es → has_label (get_or es j d2) ≡ true → (get_or es j d2).position ≡ 0 → crowds 0 (get_or es i d) (get_or es j d2) ≡ false
+right_clear layout given es i j d d2 placed before within has zero_here =
+    let zero_there = sym (position_of es j d2 (labelled_positions layout given es j d2 placed within has) within) ∙ zero_here in
+    let low : get_or (positions 0 es) i 0 ≡ 0 = omega (arith, zero_there, ascending 0 es i j before within) in
+    subst (λ p. crowds p (get_or es i d) (get_or es j d2) ≡ false) low
+    (uncrowded 0 es i j d d2 before within
+    (omega (arith, zero_there, low, labels_some_at layout given es placed (get_or (positions 0 es) i 0) i d (omega (arith, before, within)))))
+
 pub all_clear : (layout : Layout) (given : List LineAnnotation) (es : List PlacedEntry) (i : ℕ) (d : PlacedEntry) → ArePlaced layout given es
     → All (λ e. HasPlace e.entry) es → i < length es → has_label (get_or es i d) ≡ true → (get_or es i d).position ≡ 0
     → All (IsClear (get_or es i d)) es
@@ -158,11 +178,7 @@ all_clear layout given es i d placed places within has zero_here j d2 fits =
       | inl left ↦ clear_left (get_or es i d) (get_or es j d2) (uncrossed 0 es i j d d2 left fits zero_there has) (places i d within)
           (stands_left layout given es i j d d2 placed (omega (arith, left)) fits)
       | inr not_left ↦ elim (cases_lt j i) [
-        | inl right ↦
-            let low : get_or (positions 0 es) j 0 ≡ 0 = omega (arith, zero_there, ascending 0 es j i right within) in
-            clear_right (get_or es i d) (get_or es j d2) (subst (λ p. crowds p (get_or es j d2) (get_or es i d) ≡ false) low
-            (uncrowded 0 es j i d2 d right within
-            (omega (arith, zero_there, low, labels_some_at layout given es placed (get_or (positions 0 es) j 0) j d2 fits)))) has
+        | inl right ↦ clear_right (get_or es i d) (get_or es j d2) (right_clear layout given es j i d2 d placed right within has zero_here) has
             (stands_left layout given es j i d2 d placed (omega (arith, right)) within)
         | inr not_right ↦
             let own : j ≡ i = omega (arith, not_left, not_right) in
@@ -171,12 +187,11 @@ all_clear layout given es i d placed places within has zero_here j d2 fits =
       ]
     ]
 
--- what stands right of a label that nothing may stand right of hangs above it, with all pieces of its own
+-- what is crowded by a label hangs above it, with all pieces of its own
 pub far_above : (layout : Layout) (given : List LineAnnotation) (es : List PlacedEntry) (i j : ℕ) (d d2 : PlacedEntry) → ArePlaced layout given es
-    → i < j → j < length es → has_label (get_or es j d2) ≡ true → (get_or es j d2).label.last ≡ true
-    → (has_label (get_or es i d) || takes_space (get_or es i d)) ≡ true
+    → i < j → j < length es → has_label (get_or es j d2) ≡ true → ((p : ℕ) → crowds p (get_or es i d) (get_or es j d2) ≡ true)
     → (get_or es i d).position + length (pieces_of (get_or es i d)) ≤ (get_or es j d2).position
-far_above layout given es i j d d2 placed before within has last asks =
+far_above layout given es i j d d2 placed before within has crowded =
     let e : PlacedEntry = get_or es i d in
     let f : PlacedEntry = get_or es j d2 in
     let are = labelled_positions layout given es j d2 placed within has in
@@ -185,7 +200,7 @@ far_above layout given es i j d d2 placed before within has last asks =
     elim (cases_lt f.position (e.position + length (pieces_of e))) [
       | inl close ↦ absurd (false≢true (sym (uncrowded 0 es i j d d2 before within
           (omega (arith, at_f, subst (λ p. f.position < p + length (label_at p e.label)) at_e close)))
-          ∙ last_crowds (get_or (positions 0 es) i 0) e f has last asks))
+          ∙ crowded (get_or (positions 0 es) i 0)))
       | inr far ↦ far
     ]
 
@@ -198,13 +213,7 @@ all_left layout given es i d placed places within has last zero_here j d2 fits =
     let f : PlacedEntry = get_or es j d2 in
     let clear : IsClear e f = all_clear layout given es i d placed places within has zero_here j d2 fits in
     elim (cases_lt j i) [
-      | inl right ↦
-          let are = labelled_positions layout given es i d placed within has in
-          let zero_there : get_or (positions 0 es) i 0 ≡ 0 = sym (position_of es i d are within) ∙ zero_here in
-          let low : get_or (positions 0 es) j 0 ≡ 0 = omega (arith, zero_there, ascending 0 es j i right within) in
-          last_right e f (subst (λ p. crowds p f e ≡ false) low
-          (uncrowded 0 es j i d2 d right within
-          (omega (arith, zero_there, low, labels_some_at layout given es placed (get_or (positions 0 es) j 0) j d2 fits)))) has last
+      | inl right ↦ last_right e f (right_clear layout given es j i d2 d placed right within has zero_here) has last
       | inr left ↦ elim clear.clear [
         | inl ends ↦ ends
         | inr starts ↦ omega (arith, starts, (places i d within).ordered, stands_left layout given es i j d d2 placed left fits)

@@ -8,7 +8,7 @@ use Rattle.snippet_strokes.proofs.Common.{IsStrokeCell, label_place, HasPlace, A
 use Rattle.snippet_strokes.proofs.Common.{inner_cell}
 use Rattle.snippet_strokes.proofs.Common.{IsBarCell, is_mark_role, closing_row, common_steps, rules}
 use Rattle.std.proofs.Common.{if◌then◌else◌}
-use Rattle.snippet_strokes.proofs.SeenLabels.{EndsBy, EndsRows, IsLedTo, IsShownBy, LabelsStand, PlacedLabel, StandsIn, is_cell_of}
+use Rattle.snippet_strokes.proofs.SeenLabels.{EndsBy, EndsRows, HasRowsBy, IsLedTo, IsShownBy, LabelsStand, PlacedLabel, StandsIn, is_cell_of}
 use Rattle.snippet_strokes.proofs.PaintedMarks.{StandsWhole}
 use Rattle.snippet_strokes.proofs.PieceWrites.{label_write}
 use Rattle.snippet_strokes.proofs.Reach.{Reaches}
@@ -132,11 +132,15 @@ abbrev pub HasStrokesBeside : Layout → ℕ → List PlacedEntry → List (List
 HasStrokesBeside layout row placed rows =
     (r c : ℕ) → layout.code ≤ c → BesideLabels layout row (row + r) c placed → IsStrokeCell layout.decor (cell_at rows (row + r) c)
 
--- where the code begins before a cell, and all entries and what is of their labels in a row end by it, the row does; and where nothing may stand
--- right of a label its rows end with it
+-- where the code begins before a cell, and all entries and what is of their labels in a row end by it, the row does; where labels are broken and
+-- one that shows anything has room for 20 columns, so do its rows, if what is of labels in them does; and where nothing may stand right of a
+-- label its rows end with it
 pub record EndRows (layout : Layout) (es : List LineAnnotation) (placed : List PlacedEntry) (rows : List (List Cell)) : Type 0 where
   pub within : (edge : ℕ) → layout.code < edge → All (EndsBy layout edge) es → (r : ℕ) → All (λ e. IsShownBy r edge (placed_label layout e)) placed
       → length (row_at rows r) ≤ edge
+  pub labelled : layout.label_lines ≡ true → (edge : ℕ) → layout.label_end ≤ edge
+      → All (λ e. shows_any (pieces_of e) ≡ true → layout.code + (label_place e).1 + 20 ≤ layout.label_end → (n : ℕ) → n < length (pieces_of e)
+      → All (λ f. IsShownBy ((label_place e).0 + n) edge (placed_label layout f)) placed → length (row_at rows ((label_place e).0 + n)) ≤ edge) placed
   pub last : All (λ e. e.label.last ≡ true → EndsRows rows (placed_label layout e)) placed
 
 -- labels that stand whole in the rows from `row` on stand so in those rows alone, for each entry as it is given
@@ -195,6 +199,13 @@ LabelsStand-placed layout row es placed rows below is places stands beside hung 
           let S : PlacedEntry → Type 0 = λ e. IsShownBy r edge (g e) in
           ends.within edge right end r
           (All-permutation S order placed (IsPermutation-sym placed order moved.same) (All-unmapped (IsShownBy r edge) g order shown));
+      labelled = λ cut edge wide.
+          let T : List PlacedLabel → PlacedEntry → Type 0 = λ ls e. HasRowsBy layout edge below ls (g e) in
+          All-map (HasRowsBy layout edge below (map g order)) g order
+          (All-permutation (T (map g order)) placed order moved.same (λ k d within some room n inside shown.
+          ends.labelled cut edge wide k d within some room n inside
+          (All-permutation (λ e. IsShownBy ((label_place (get_or placed k d)).0 + n) edge (g e)) order placed (IsPermutation-sym placed order moved.same)
+          (All-unmapped (IsShownBy ((label_place (get_or placed k d)).0 + n) edge) g order shown))));
       last = All-map (λ (l : PlacedLabel). stands_last layout (label_text l.entry) ≡ true → EndsRows below l) g order (λ k d within is_last.
           All-permutation (λ e. e.label.last ≡ true → EndsRows below (g e)) placed order moved.same ends.last k d within
           (ap (λ (label : LabelPieces). label.last) (has k d within) ∙ is_last));
@@ -226,6 +237,7 @@ LabelsStand-none layout es rows none blank short =
           omega (arith, empty, count-map (is_cell_of r c) g es);
       others = λ r c right _. inl (blank r c right);
       within = λ edge right _ r _. omega (arith, short r, right);
+      labelled = λ cut edge wide. All-map (HasRowsBy layout edge rows (map g es)) g es (λ k d within some. absurd (nothing k d within some));
       last = All-map (λ (l : PlacedLabel). stands_last layout (label_text l.entry) ≡ true → EndsRows rows l) g es (λ k d within _ n some.
           absurd (nothing k d within (piece_shows (g (get_or es k d)).pieces n some)));
     }
@@ -267,6 +279,10 @@ LabelsStand-kept layout es old new is same short = record {
   apart = is.apart;
   others = λ r c right none. subst (IsStrokeCell layout.decor) (sym (same r c right)) (is.others r c right none);
   within = λ edge right end r shown. omega (arith, short r, is.within edge right end r shown, right);
+  labelled = λ cut edge wide k d within some room n inside shown.
+      let l : PlacedLabel = get_or is.labels k d in
+      let own = is.labelled cut edge wide k d within some room n inside shown in
+      omega (arith, short (l.row + n), own, room, wide, right l (is.stand k d within some).place 0);
   last = λ k d within is_last n some.
       let l : PlacedLabel = get_or is.labels k d in
       let stands : StandsIn layout old l = is.stand k d within (piece_shows l.pieces n some) in

@@ -18,7 +18,9 @@ its_label layout e has = ap (λ pieces. record e { label = pieces }) has
 all_unplaced : (layout : Layout) (es : List PlacedEntry) → All (HasItsLabel layout) es
     → map unplaced es ≡ map unplaced (labelled layout (map (λ (e : PlacedEntry). e.entry) es))
 all_unplaced layout [] has = refl
-all_unplaced layout (e ∷ es) has = grind (arith, its_label, All-head, all_unplaced layout es (All-tail (HasItsLabel layout) e es has))
+all_unplaced layout (e ∷ es) has =
+    ap (λ x. unplaced x ∷ map unplaced es) (its_label layout e (All-head (HasItsLabel layout) e es has))
+    ∙ ap (λ xs. unplaced (placed_at layout (e.entry, (0, 0))) ∷ xs) (all_unplaced layout es (All-tail (HasItsLabel layout) e es has))
 
 -- the positions of entries, each with its count
 abbrev places : List PlacedEntry → List (ℕ × ℕ)
@@ -27,7 +29,9 @@ places es = zip (map (λ (e : PlacedEntry). e.position) es) (map (λ (e : Placed
 all_placed : (layout : Layout) (es : List PlacedEntry) → All (HasItsLabel layout) es
     → es ≡ map (placed_at layout) (zip (map (λ (e : PlacedEntry). e.entry) es) (places es))
 all_placed layout [] has = refl
-all_placed layout (e ∷ es) has = grind (arith, its_label, All-head, all_placed layout es (All-tail (HasItsLabel layout) e es has))
+all_placed layout (e ∷ es) has =
+    ap (λ x. x ∷ es) (its_label layout e (All-head (HasItsLabel layout) e es has))
+    ∙ ap (λ xs. placed_at layout (e.entry, (e.position, e.looked)) ∷ xs) (all_placed layout es (All-tail (HasItsLabel layout) e es has))
 
 -- entries that are placed are the placed entries of the line
 pub placed_are : (layout : Layout) (es : List LineAnnotation) (placed : List PlacedEntry) → ArePlaced layout es placed → placed ≡ placed_of layout es

@@ -1,17 +1,19 @@
 -- Where rows end: strokes that end by a cell leave no row that goes past it, and where nothing may stand right of a label its rows end with it.
-use Rattle.snippet_strokes.proofs.Common.{◌≡◌, ℕ, ◌+◌, ◌-◌, ◌<◌, ◌≤◌, ◌||◌, Bool, false, true, max, List, [], ◌∷◌, All, length, get_or, ap, sym, refl, ◌∙◌}
+use Rattle.snippet_strokes.proofs.Common.{◌≡◌, ℕ, ◌+◌, ◌-◌, ◌<◌, ◌≤◌, ◌&&◌, Bool, false, true, max, List, [], ◌∷◌, All, length, get_or, ap, sym, refl, ◌∙◌}
 use Rattle.snippet_strokes.proofs.Common.{subst, arith, inl, inr, cases_eq, cases_lt, All-head, All-permutation, All-tail, IsPermutation, LineAnnotation}
-use Rattle.snippet_strokes.proofs.Common.{PlacedEntry}
+use Rattle.snippet_strokes.proofs.Common.{PlacedEntry, nat_lt}
 use Rattle.snippet_strokes.proofs.Common.{ArePlaced, HasPlace, has_label, takes_space, has_stem, label_place, label_width, label_at, positions}
 use Rattle.snippet_strokes.proofs.Common.{length-replicate, length-text_cells, text_cells, Cell, row_at, WritesCells-cells_written, is_primary, strokes_of}
-use Rattle.snippet_strokes.proofs.Common.{Layout, HasBarCell, Write, painted, rules}
+use Rattle.snippet_strokes.proofs.Common.{Layout, HasBarCell, Write, painted, common_steps, crowds, nat_tests, LabelPieces}
 use Rattle.snippet_strokes.proofs.CellLemmas.{drawn_strokes, written_by}
 use Rattle.snippet_strokes.proofs.EachStroke.{each_corner, each_label, each_line, each_mark, each_stem_cell, each_stroke, room_at}
-use Rattle.snippet_strokes.proofs.LabelKept.{all_left, far_above, label_parts, labelled_positions, position_of, stands_left, uncrowded}
+use Rattle.snippet_strokes.proofs.LabelKept.{all_clear, all_left, ascending, far_above, label_parts, labelled_positions, last_crowds, line_crowds}
+use Rattle.snippet_strokes.proofs.LabelKept.{past_clear, position_of, right_clear, stands_left, uncrowded}
 use Rattle.snippet_strokes.proofs.PieceWrites.{has_piece, label_chars_le, label_write, labels_some, piece_within}
 use Rattle.snippet_strokes.proofs.PositionLemmas.{label_column}
 use Rattle.snippet_strokes.proofs.SeenLabels.{EndsBy}
 use Rattle.snippet_strokes.proofs.StrokeCells.{uncrowded_apart}
+use Rattle.snippet_labels.specs.Pieces.{goes_past}
 use Rattle.snippet_labels.specs.Positions.{pieces_of}
 use Rattle.std.proofs.lemmas.List.{get_or_default}
 
@@ -70,36 +72,24 @@ strokes-by layout edge right row count placed order rows bar_cells end end_too r
     (each_mark Q layout (row + 1) order (λ k d within cell n glyph _ to _ _.
     omega (arith, to, (end_too k d within).begins, (end_too k d within).ends, length-replicate n glyph)))) short
 
--- a piece of the label of one of a line's entries, right of which nothing may stand: where it ends all strokes in its row do
+-- what stands in the row of a label's piece
 module _ (layout : Layout) (row : ℕ) (given : List LineAnnotation) (placed order : List PlacedEntry) (is : ArePlaced layout given placed)
     (places : All (λ e. HasPlace e.entry) placed) (bar_cells : All (λ e. HasBarCell layout e.entry) placed) (same : IsPermutation placed order)
-    (k : ℕ) (d : PlacedEntry) (inside : k < length placed) (last : (get_or placed k d).label.last ≡ true)
-    (n : ℕ) (some : 0 < length (get_or (pieces_of (get_or placed k d)) n [])) where
+    (k : ℕ) (d : PlacedEntry) (inside : k < length placed) (has : has_label (get_or placed k d) ≡ true)
+    (n : ℕ) (part : n < length (pieces_of (get_or placed k d))) where
   -- the entry
   abbrev own : PlacedEntry
   own = get_or placed k d
 
-  -- the row of the piece, and where it ends
+  -- the row of the piece
   abbrev r : ℕ
   r = row + 1 + (label_place own).0 + n
 
-  abbrev edge : ℕ
-  edge = layout.code + (label_place own).1 + length (get_or (pieces_of own) n [])
+  -- a label begins no farther left than its mark
+  start_of_label : (i : ℕ) (x : PlacedEntry) → i < length placed → (get_or placed i x).entry.start.display ≤ (label_place (get_or placed i x)).1
+  start_of_label i x within = (label_column (get_or placed i x) (places i x within)).0
 
-  has : has_label own ≡ true
-  has = has_piece own n some
-
-  -- its label begins no farther left than its mark
-  start_of_label : own.entry.start.display ≤ (label_place own).1
-  start_of_label = (label_column own (places k d inside)).0
-
-  -- what stands right of it and asks for a row hangs above it
-  above : (i : ℕ) (x : PlacedEntry) → i < k → (has_label (get_or placed i x) || takes_space (get_or placed i x)) ≡ true
-      → ((get_or placed i x).position + length (pieces_of (get_or placed i x)) ≤ own.position) × (0 < length (pieces_of (get_or placed i x)))
-  above i x before asks =
-      (far_above layout given placed i k x d is before inside has last asks, labels_some layout given placed is i x (omega (arith, before, inside)))
-
-  -- what stands left of it begins there
+  -- what stands left of this one begins there
   starts_left : (i : ℕ) (x : PlacedEntry) → k ≤ i → i < length placed → (get_or placed i x).entry.start.display ≤ own.entry.start.display
   starts_left i x after within = stands_left layout given placed k i d x is after within
 
@@ -110,106 +100,158 @@ module _ (layout : Layout) (row : ℕ) (given : List LineAnnotation) (placed ord
     | inr at ↦ at.row
   ]
 
-  takes_row : (i : ℕ) (x : PlacedEntry) → i < k → (has_label (get_or placed i x) || takes_space (get_or placed i x)) ≡ true → (below : ℕ)
-      → below ≤ (get_or placed i x).position → row + 1 + below ≡ r → ⊥
-  takes_row i x before asks below low there =
-      let high = above i x before asks in
-      omega (arith, there, low, high.0, high.1, hangs (omega (arith, high.0, high.1)))
+  -- what stands right of it hangs no lower
+  no_lower : (i : ℕ) (x : PlacedEntry) → i < k → (get_or placed i x).position ≤ own.position
+  no_lower i x before =
+      let are = labelled_positions layout given placed k d is inside has in
+      omega (
+        arith,
+        position_of placed k d are inside,
+        position_of placed i x are (omega (arith, before, inside)),
+        ascending 0 placed i k before inside,
+      )
 
-  label_ends : (i : ℕ) (x : PlacedEntry) → i < length placed → (m : ℕ) → 0 < length (get_or (pieces_of (get_or placed i x)) m [])
-      → IsWrittenBy r edge (label_write layout (row + 1) (get_or placed i x) m)
-  label_ends i x within m shown there =
-      let e : PlacedEntry = get_or placed i x in
-      let few : length (get_or (pieces_of e) m []) ≤ label_width e.label = label_chars_le e m in
-      let part : m < length (pieces_of e) = piece_within (pieces_of e) m shown in
-      let own_part : n < length (pieces_of own) = piece_within (pieces_of own) n some in
-      let has_e : has_label e ≡ true = has_piece e m shown in
-      elim (cases_lt i k) [
-        | inl right ↦
-            let high = above i x right (ap (λ b. b || takes_space e) has_e) in
-            let low = hangs (omega (arith, high.0, high.1)) in
-            elim (label_parts e) [
-              | inl at ↦ absurd (omega (arith, there, at.row, at.position, part, high.0, low))
-              | inr at ↦ absurd (omega (arith, there, at.row, part, high.0, low))
-            ]
-        | inr not_right ↦ elim (cases_lt k i) [
-          | inl left ↦
-              let are = labelled_positions layout given placed k d is inside has in
-              let at_own = position_of placed k d are inside in
-              let at_e = position_of placed i x are within in
-              let starts = starts_left i x (omega (arith, left)) within in
-              elim (cases_lt e.position (own.position + length (pieces_of own))) [
-                | inl close ↦
-                    let crowded = uncrowded 0 placed k i d x left within
-                    (omega (arith, at_e, subst (λ p. e.position < p + length (label_at p own.label)) at_own close)) in
-                    let clear = uncrowded_apart (get_or (positions 0 placed) k 0) own e crowded has has_e starts in
-                    elim (label_parts e) [
-                      | inl at ↦ omega (arith, clear, few, at.to, start_of_label)
-                      | inr at ↦ omega (arith, clear, few, at.column, start_of_label, (places i x within).ordered)
-                    ]
-                | inr far ↦ elim (label_parts e) [
-                  | inl at ↦ absurd (omega (arith, far, at.position, own_part))
-                  | inr at ↦ elim (label_parts own) [
-                    | inl at_0 ↦ absurd (omega (arith, there, far, at.row, at_0.row, at_0.position, own_part))
-                    | inr at_0 ↦ absurd (omega (arith, there, far, at.row, at_0.row, own_part))
-                  ]
-                ]
-              ]
-          | inr not_left ↦
-              let here : i ≡ k = omega (arith, not_right, not_left) in
-              let one : e ≡ own = ap (λ j. get_or placed j x) here ∙ get_or_default placed k x d inside in
-              let there_too : m ≡ n = omega (arith, there, ap (λ (y : PlacedEntry). (label_place y).0) one) in
-              omega (
-                arith,
-                ap (λ (y : PlacedEntry). (label_place y).1) one,
-                ap (λ (y : PlacedEntry). length (get_or (pieces_of y) m [])) one,
-                ap (λ j. length (get_or (pieces_of own) j [])) there_too,
-              )
-        ]
-      ]
+  -- and above it, with all pieces of its own, if it is crowded by it
+  above : (i : ℕ) (x : PlacedEntry) → i < k → ((p : ℕ) → crowds p (get_or placed i x) own ≡ true)
+      → ((get_or placed i x).position + length (pieces_of (get_or placed i x)) ≤ own.position) × (0 < length (pieces_of (get_or placed i x)))
+  above i x before crowded =
+      (far_above layout given placed i k x d is before inside has crowded, labels_some layout given placed is i x (omega (arith, before, inside)))
 
-  mark_ends : All (λ e. (cell m glyph : ℕ) → cell + m ≤ layout.code + max (e.entry.start.display + 1) e.entry.end.display → row + 1 ≡ r
-      → cell + m ≤ edge) order
-  mark_ends =
-      let M : PlacedEntry → Type 0 = λ e. (cell m glyph : ℕ) → cell + m ≤ layout.code + max (e.entry.start.display + 1) e.entry.end.display → row + 1 ≡ r
-      → cell + m ≤ edge in
-      All-permutation M placed order same (λ i x within cell m glyph to there.
-      elim (label_parts own) [
-        | inl at ↦
-            let ends = all_left layout given placed k d is places inside has last at.position i x within in
-            omega (arith, to, ends, (places i x within).ordered, at.from)
-        | inr at ↦ absurd (omega (arith, there, at.row))
-      ])
-
-  -- so the row ends there, if it didn't go past it before
-  pub row_ends : (count : ℕ) (rows : List (List Cell)) → length (row_at rows r) ≤ edge
-      → length (row_at (painted (drawn_strokes layout row count placed order) rows) r) ≤ edge
-  row_ends count rows short =
+  -- so the row ends by a cell right of the label's first one, if all labels and marks in it do and it did before
+  row_by : (edge : ℕ) → layout.code + (label_place own).1 < edge
+      → All (λ e. (m : ℕ) → 0 < length (get_or (pieces_of e) m []) → IsWrittenBy r edge (label_write layout (row + 1) e m)) placed
+      → All (λ e. row + 1 ≡ r → layout.code + max (e.entry.start.display + 1) e.entry.end.display ≤ edge) placed → (count : ℕ) (rows : List (List Cell))
+      → length (row_at rows r) ≤ edge → length (row_at (painted (drawn_strokes layout row count placed order) rows) r) ≤ edge
+  row_by edge right labels_end marks_end count rows short =
       let Q : Write → Type 0 = IsWrittenBy r edge in
+      let M : PlacedEntry → Type 0 = λ e. row + 1 ≡ r → layout.code + max (e.entry.start.display + 1) e.entry.end.display ≤ edge in
       painted-by r edge (drawn_strokes layout row count placed order) rows (each_stroke Q layout row count placed order
-      (each_line Q layout (row + 1) placed (λ i x within takes depth some_line there.
+      (each_line Q layout (row + 1) placed (λ i x within takes depth some there.
       let e : PlacedEntry = get_or placed i x in
       let long = length-replicate (layout.code + e.entry.start.display - (layout.gutter + 3 + depth)) (strokes_of layout.decor
       (is_primary e.entry.kind)).connector in
       elim (cases_lt i k) [
-        | inl right ↦ absurd (takes_row i x right (either (has_label e) (takes_space e) takes) e.position (omega arith) there)
-        | inr left ↦ omega (arith, long, some_line, starts_left i x left within, start_of_label)
+        | inl before ↦
+            let high = above i x before (λ p. line_crowds p e own has takes) in
+            absurd (omega (arith, there, high.0, high.1, hangs (omega (arith, high.0, high.1))))
+        | inr left ↦ omega (arith, long, some, right, starts_left i x left within, start_of_label k d inside)
       ]))
       -- bars and corners stand left of the code
       (each_corner Q layout row count placed (λ i x within depth m glyph at _ _ _ _ _.
-      let room = room_at layout depth (get_or placed i x).entry.annotation_type (bar_cells i x within) at in omega (arith, room.1)))
+      let room = room_at layout depth (get_or placed i x).entry.annotation_type (bar_cells i x within) at in omega (arith, room.1, right)))
       (each_stem_cell Q layout (row + 1) placed (λ i x within stem below glyph low _ there.
       let e : PlacedEntry = get_or placed i x in
       elim (cases_lt i k) [
-        | inl right ↦ absurd (takes_row i x right (stemmed e stem) below low there)
-        | inr left ↦ omega (arith, starts_left i x left within, start_of_label, some)
-      ])) (each_label Q layout (row + 1) placed (λ i x within m _ shown. label_ends i x within m shown))
+        | inl before ↦
+            let high = no_lower i x before in
+            absurd (omega (arith, there, low, high, stem_position e stem, hangs (omega (arith, high, stem_position e stem))))
+        | inr left ↦ omega (arith, right, starts_left i x left within, start_of_label k d inside)
+      ])) (each_label Q layout (row + 1) placed (λ i x within m _ some. labels_end i x within m some))
       (each_mark Q layout (row + 1) order (λ i x within cell m glyph _ to _ there.
-      omega (arith, mark_ends i x within cell m glyph to there, length-replicate m glyph)))) short
+      omega (arith, to, All-permutation M placed order same marks_end i x within there, length-replicate m glyph)))) short
     where
-      either : (a b : Bool) → b ≡ true → (a || b) ≡ true
-      either true b is = refl
-      either false b is = is
+      stem_position : (e : PlacedEntry) → has_stem e ≡ true → 0 < e.position
+      stem_position e stem = grind (arith, common_steps, nat_tests)
 
-      stemmed : (e : PlacedEntry) → has_stem e ≡ true → (has_label e || takes_space e) ≡ true
-      stemmed e stem = search rules
+  -- in the row of the marks no mark goes past where labels are to end, if labels are broken and this one has room there
+  marks_near : layout.label_lines ≡ true → layout.code + (label_place own).1 ≤ layout.label_end
+      → All (λ e. row + 1 ≡ r → layout.code + max (e.entry.start.display + 1) e.entry.end.display ≤ layout.label_end) placed
+  marks_near cut room i x within there =
+      let e : PlacedEntry = get_or placed i x in
+      elim (label_parts own) [
+        | inl at ↦ elim (cases_lt i k) [
+          | inl before ↦
+              let near = past_clear e own (right_clear layout given placed i k x d is before inside has at.position) has in
+              let tells : goes_past layout e.entry ≡ false = sym (ap (λ (label : LabelPieces). label.past) (is.labels i x within)) ∙ near in
+              not_past layout.label_lines layout.label_end (layout.code + max (e.entry.start.display + 1) e.entry.end.display) cut
+              (omega (arith, room, at.from)) tells
+          | inr left ↦
+              let starts = starts_left i x left within in
+              elim (all_clear layout given placed k d is places inside has at.position i x within).clear [
+                | inl ends ↦ omega (arith, room, at.from, ends, starts, (places k d inside).ordered)
+                | inr starts_right ↦ absurd (omega (arith, starts_right, starts, (places k d inside).ordered))
+              ]
+        ]
+        | inr at ↦ absurd (omega (arith, there, at.row))
+      ]
+    where
+      not_past : (lines : Bool) (end to : ℕ) → lines ≡ true → 0 < end → (lines && (nat_lt 0 end && nat_lt end to)) ≡ false → to ≤ end
+      not_past true end to cut some none = grind (arith, nat_tests, some, none)
+      not_past false end to cut some none = cc cut
+
+  -- so the row ends by each cell from there on by which all labels in it end
+  pub label_row_by : layout.label_lines ≡ true → layout.code + (label_place own).1 < layout.label_end → (edge : ℕ) → layout.label_end ≤ edge
+      → All (λ e. (m : ℕ) → 0 < length (get_or (pieces_of e) m []) → IsWrittenBy r edge (label_write layout (row + 1) e m)) placed
+      → (count : ℕ) (rows : List (List Cell)) → length (row_at rows r) ≤ edge
+      → length (row_at (painted (drawn_strokes layout row count placed order) rows) r) ≤ edge
+  label_row_by cut room edge wide labels_end =
+      row_by edge (omega (arith, room, wide)) labels_end (λ i x within there.
+      omega (arith, wide, marks_near cut (omega (arith, room)) i x within there))
+
+  -- and with the piece, if nothing may stand right of the label
+  module _ (last : own.label.last ≡ true) (some : 0 < length (get_or (pieces_of own) n [])) where
+    abbrev edge : ℕ
+    edge = layout.code + (label_place own).1 + length (get_or (pieces_of own) n [])
+
+    label_ends : (i : ℕ) (x : PlacedEntry) → i < length placed → (m : ℕ) → 0 < length (get_or (pieces_of (get_or placed i x)) m [])
+        → IsWrittenBy r edge (label_write layout (row + 1) (get_or placed i x) m)
+    label_ends i x within m shown there =
+        let e : PlacedEntry = get_or placed i x in
+        let few : length (get_or (pieces_of e) m []) ≤ label_width e.label = label_chars_le e m in
+        let part_e : m < length (pieces_of e) = piece_within (pieces_of e) m shown in
+        let has_e : has_label e ≡ true = has_piece e m shown in
+        elim (cases_lt i k) [
+          | inl right ↦
+              let high = above i x right (λ p. last_crowds p e own has last has_e) in
+              let low = hangs (omega (arith, high.0, high.1)) in
+              elim (label_parts e) [
+                | inl at ↦ absurd (omega (arith, there, at.row, at.position, part_e, high.0, low))
+                | inr at ↦ absurd (omega (arith, there, at.row, part_e, high.0, low))
+              ]
+          | inr not_right ↦ elim (cases_lt k i) [
+            | inl left ↦
+                let are = labelled_positions layout given placed k d is inside has in
+                let at_own = position_of placed k d are inside in
+                let at_e = position_of placed i x are within in
+                let starts = starts_left i x (omega (arith, left)) within in
+                elim (cases_lt e.position (own.position + length (pieces_of own))) [
+                  | inl close ↦
+                      let crowded = uncrowded 0 placed k i d x left within
+                      (omega (arith, at_e, subst (λ p. e.position < p + length (label_at p own.label)) at_own close)) in
+                      let clear = uncrowded_apart (get_or (positions 0 placed) k 0) own e crowded has has_e starts in
+                      elim (label_parts e) [
+                        | inl at ↦ omega (arith, clear, few, at.to, start_of_label k d inside)
+                        | inr at ↦ omega (arith, clear, few, at.column, start_of_label k d inside, (places i x within).ordered)
+                      ]
+                  | inr far ↦ elim (label_parts e) [
+                    | inl at ↦ absurd (omega (arith, far, at.position, part))
+                    | inr at ↦ elim (label_parts own) [
+                      | inl at_0 ↦ absurd (omega (arith, there, far, at.row, at_0.row, at_0.position, part))
+                      | inr at_0 ↦ absurd (omega (arith, there, far, at.row, at_0.row, part))
+                    ]
+                  ]
+                ]
+            | inr not_left ↦
+                let here : i ≡ k = omega (arith, not_right, not_left) in
+                let one : e ≡ own = ap (λ j. get_or placed j x) here ∙ get_or_default placed k x d inside in
+                let there_too : m ≡ n = omega (arith, there, ap (λ (y : PlacedEntry). (label_place y).0) one) in
+                omega (
+                  arith,
+                  ap (λ (y : PlacedEntry). (label_place y).1) one,
+                  ap (λ (y : PlacedEntry). length (get_or (pieces_of y) m [])) one,
+                  ap (λ j. length (get_or (pieces_of own) j [])) there_too,
+                )
+          ]
+        ]
+
+    mark_ends : All (λ e. row + 1 ≡ r → layout.code + max (e.entry.start.display + 1) e.entry.end.display ≤ edge) placed
+    mark_ends i x within there = elim (label_parts own) [
+      | inl at ↦
+          let ends = all_left layout given placed k d is places inside has last at.position i x within in
+          omega (arith, ends, (places i x within).ordered, at.from)
+      | inr at ↦ absurd (omega (arith, there, at.row))
+    ]
+
+    pub row_ends : (count : ℕ) (rows : List (List Cell)) → length (row_at rows r) ≤ edge
+        → length (row_at (painted (drawn_strokes layout row count placed order) rows) r) ≤ edge
+    row_ends = row_by edge (omega (arith, some)) label_ends mark_ends

@@ -4,7 +4,7 @@ use Rattle.snippet_strokes.proofs.Common.{length, get_or, refl, sym, ap, ◌∙�
 use Rattle.snippet_strokes.proofs.Common.{All-cons, All-nil, All-weaker, sum_by-cons, Cell, SPACE, list_any, DecorStyle, Ascii, Unicode}
 use Rattle.snippet_strokes.proofs.Common.{bar_glyphs, stroke_glyphs, IsBarCell, IsStrokeCell, LineAnnotation, Layout, cell_at, row_at}
 use Rattle.snippet_strokes.proofs.Common.{bare_row, inner_cell, label_text, stands_last, row_text, char_width, unicode_width, width_of, ◌++◌, replicate}
-use Rattle.snippet_strokes.proofs.Common.{text_cells, closing_of, separator_of, LineNumber, get_or_past}
+use Rattle.snippet_strokes.proofs.Common.{text_cells, closing_of, separator_of, shows_any, LineNumber, get_or_past}
 use Rattle.snippet_strokes.proofs.LabelKept.{any_false}
 use Rattle.snippet_strokes.proofs.LabelPlaces.{none_pass}
 use Rattle.snippet_strokes.proofs.PieceWrites.{label_pieces-all, piece_shows, piece_within}
@@ -151,8 +151,9 @@ first_of {X} q R total trans (x ∷ xs) = either (q x) refl (first_of q R total 
 -- ---- the rows below a line
 
 module _ (layout : Layout) (es : List LineAnnotation) (rows : List (List Cell)) (stand : LabelsStand layout es rows) (cut : layout.label_lines ≡ true)
-    (right : layout.code < layout.label_end) (end : All (EndsBy layout layout.label_end) es) (room : All (HasPieceRoom layout.label_end) stand.labels)
-    (left : (r c : ℕ) → c < layout.code → IsNarrow (cell_at rows r c).ch) (r : ℕ) where
+    (right : layout.code < layout.label_end) (room : All (HasPieceRoom layout.label_end) stand.labels)
+    (left : (r c : ℕ) → c < layout.code → IsNarrow (cell_at rows r c).ch) (r : ℕ)
+    (ends_by : (edge : ℕ) → layout.label_end ≤ edge → All (IsShownBy r edge) stand.labels → length (row_at rows r) ≤ edge) where
   -- the piece of a label in this row
   abbrev piece : PlacedLabel → List ℕ
   piece l = get_or l.pieces (r - l.row) []
@@ -290,18 +291,14 @@ module _ (layout : Layout) (es : List LineAnnotation) (rows : List (List Cell)) 
         | inl short ↦ omega (
           arith,
           narrow_row (row_at rows r) narrow,
-          stand.within layout.label_end right end r (λ k d within.
+          ends_by layout.label_end (omega arith) (λ k d within.
               shown_by layout.label_end (omega arith) (get_or stand.labels k d) (λ past. absurd (false≢true (sym (short k d within) ∙ past)))),
         )
         | inr found ↦
             let l : PlacedLabel = get_or stand.labels found.at found.default in
             let past = past_parts l found.passes in
-            let wider : All (EndsBy layout (reach l)) es = λ k d within. record {
-              begins = omega (arith, (end k d within).begins, past.1);
-              ends = omega (arith, (end k d within).ends, past.1);
-            } in
             ends_with found.at found.default found.inside past.0 (λ c _. narrow c)
-            (stand.within (reach l) (omega (arith, right, past.1)) wider r (λ k d within.
+            (ends_by (reach l) (omega (arith, past.1)) (λ k d within.
             shown_by (reach l) (omega (arith, past.1)) (get_or stand.labels k d) (found.first k d within)))
       ]
     where
@@ -315,8 +312,8 @@ module _ (layout : Layout) (es : List LineAnnotation) (rows : List (List Cell)) 
         | inr more ↦ inr more
       ]
 
-  -- so the row has no more columns than there are up to the cell
-  pub row_has_room : width_of (row_text (row_at rows r)) ≤ layout.label_end
+  -- so the row has no more columns than there are up to the cell, if it ends by each that is farther right and by which its labels end
+  row_has_room : width_of (row_text (row_at rows r)) ≤ layout.label_end
   row_has_room =
       elim (first_of (λ l. is_here l && is_last l) (λ x y. x.cell ≤ y.cell) compare (λ x y z one two. omega (arith, one, two)) stand.labels) [
         | inl none ↦ open_row none
@@ -328,6 +325,28 @@ module _ (layout : Layout) (es : List LineAnnotation) (rows : List (List Cell)) 
         | inl less ↦ inl (omega (arith, less))
         | inr more ↦ inr more
       ]
+
+-- each row has room where all entries end by the cell, and the rows of each label that has room for 20 columns whatever entries do
+module _ (layout : Layout) (es : List LineAnnotation) (rows : List (List Cell)) (stand : LabelsStand layout es rows) (cut : layout.label_lines ≡ true)
+    (room : All (HasPieceRoom layout.label_end) stand.labels) (left : (r c : ℕ) → c < layout.code → IsNarrow (cell_at rows r c).ch) where
+  pub rows_have_room : layout.code < layout.label_end → All (EndsBy layout layout.label_end) es → (r : ℕ)
+      → width_of (row_text (row_at rows r)) ≤ layout.label_end
+  rows_have_room right end r =
+      row_has_room layout es rows stand cut right room left r (λ edge wide shown. stand.within edge (omega (arith, right, wide)) (λ k d within. record {
+        begins = omega (arith, (end k d within).begins, wide);
+        ends = omega (arith, (end k d within).ends, wide);
+      }) r shown)
+
+  pub label_rows_have_room : All (λ l. shows_any l.pieces ≡ true → l.cell + 20 ≤ layout.label_end → (n : ℕ) → n < length l.pieces
+      → width_of (row_text (row_at rows (l.row + n))) ≤ layout.label_end) stand.labels
+  label_rows_have_room k d within some wide n inside =
+      let l : PlacedLabel = get_or stand.labels k d in
+      let right : layout.code < layout.label_end = elim (stand.stand k d within some).place [
+        | inl at ↦ omega (arith, wide, at.1)
+        | inr at ↦ omega (arith, wide, at.1)
+      ] in
+      row_has_room layout es rows stand cut right room left (l.row + n) (λ edge far shown.
+      stand.labelled cut edge far k d within some wide n inside shown)
 
 -- ---- left of the code
 

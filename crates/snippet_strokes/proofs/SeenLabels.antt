@@ -43,6 +43,12 @@ IsShownBy r edge l =
 abbrev pub HasPieceRoom : ℕ → PlacedLabel → Type 0
 HasPieceRoom edge l = (n : ℕ) → 0 < length (slice_index_or l.pieces n []) → l.cell + width_of (slice_index_or l.pieces n []) ≤ edge
 
+-- where a label that shows anything has room for 20 columns, its rows do, if the pieces of these labels do in them
+abbrev pub HasRowsBy : Layout → ℕ → List (List Cell) → List PlacedLabel → PlacedLabel → Type 0
+HasRowsBy layout edge rows labels l =
+    shows_any l.pieces ≡ true → l.cell + 20 ≤ layout.label_end → (n : ℕ) → n < length l.pieces → All (IsShownBy (l.row + n) edge) labels
+    → length (row_at rows (l.row + n)) ≤ edge
+
 -- the rows in which a label stands end with it
 abbrev pub EndsRows : List (List Cell) → PlacedLabel → Type 0
 EndsRows rows l =
@@ -50,8 +56,8 @@ EndsRows rows l =
 
 -- the labels of a line's entries stand in the rows of its strokes, one for each entry, in their order: each that shows anything
 -- stands whole, and a stem leads to it; no cell is one of two labels, and each that is of none is a space or a stroke's. Where the code
--- begins before a cell, and all entries and the pieces of labels in a row end by it, the row does. Those of a label right of which nothing may
--- stand end with it
+-- begins before a cell, and all entries and the pieces of labels in a row end by it, the row does; and where labels are broken the rows of one
+-- that has room do, whatever entries do. Those of a label right of which nothing may stand end with it
 pub record LabelsStand (layout : Layout) (es : List LineAnnotation) (rows : List (List Cell)) : Type 0 where
   pub labels : List PlacedLabel
   pub are : map (λ (l : PlacedLabel). l.entry) labels ≡ es
@@ -62,6 +68,7 @@ pub record LabelsStand (layout : Layout) (es : List LineAnnotation) (rows : List
   pub others : (r c : ℕ) → layout.code ≤ c → count_by (is_cell_of r c) labels ≡ 0 → IsStrokeCell layout.decor (cell_at rows r c)
   pub within : (edge : ℕ) → layout.code < edge → All (EndsBy layout edge) es → (r : ℕ) → All (IsShownBy r edge) labels
       → length (row_at rows r) ≤ edge
+  pub labelled : layout.label_lines ≡ true → (edge : ℕ) → layout.label_end ≤ edge → All (HasRowsBy layout edge rows labels) labels
   pub last : All (λ l. stands_last layout (label_text l.entry) ≡ true → EndsRows rows l) labels
 
 -- an entry has a label only where a span ends: the start of one of several lines, or a bar, has none

@@ -1,5 +1,6 @@
 -- What strokes leave from the code on: spaces, glyphs of strokes and labels, and nothing else.
 use Rattle.snippet_strokes.proofs.Common.{◌≡◌, ℕ, zero, suc, ◌+◌, ◌-◌, ◌<◌, ◌≤◌, cond, List, [], ◌∷◌, length, take, get_or, replicate, refl, sym, ap, ◌∙◌}
+use Rattle.snippet_strokes.proofs.Common.{◌&&◌, ◌||◌, nat_le, nat_lt}
 use Rattle.snippet_strokes.proofs.Common.{subst, arith, inl, inr, cases_lt, take_all, cells_written, WritesCells-cells_written, is_primary, Cell, text_cells}
 use Rattle.snippet_strokes.proofs.Common.{unlinked_cell, strokes_of, ElementStyle, Layout, PlacedEntry, painting_order, stroke_role, first_glyph, mark_end}
 use Rattle.snippet_strokes.proofs.Common.{WritesCells, Write, painted, stretch_of, ◌==◌, Bool, true, false, ◌++◌, drop, All, flat_map, LineAnnotation}
@@ -61,7 +62,12 @@ cell_of_strokes layout r c right row count placed order rows bar_cells before be
 -- No label is lost: the labels of two entries share no cell.
 pub uncrowded_apart : (p : ℕ) (e f : PlacedEntry) → crowds p e f ≡ false → has_label e ≡ true → has_label f ≡ true
     → f.entry.start.display ≤ e.entry.start.display → f.entry.end.display + (label_width f.label + 2) ≤ e.entry.start.display
-uncrowded_apart p e f crowded has_e has_f left = search rules
+uncrowded_apart p e f clear has_e has_f left = grind (arith, common_steps, by_parts)
+  where
+    by_parts : (block own last other near past : Bool) (fs fe es ee more : ℕ)
+        → (block || (own && (((last || ((nat_le es fs && nat_lt fs ee) || (nat_le fs es && nat_lt es (fe + more)))) && (other || near)) || past))) ≡ false
+        → own ≡ true → other ≡ true → fs ≤ es → fe + more ≤ es
+    by_parts block own last other near past fs fe es ee more is one two left = grind (arith, nat_tests)
 
 -- the labels of two entries, the second of them farther left, share no cell
 pub labels_apart : (layout : Layout) (row : ℕ) (e f : PlacedEntry) (n m : ℕ) → HasPlace e.entry → HasPlace f.entry → n < length (pieces_of e)

@@ -16,14 +16,14 @@ use Rattle.snippet_strokes.proofs.DrawLemmas.{DrawsFrom-more, bar_space}
 use Rattle.snippet_strokes.proofs.CellLemmas.{drawn_strokes, marks_of}
 use Rattle.snippet_strokes.proofs.LabelPlaces.{EndRows, HasStrokesBeside, LabelsStand-placed}
 use Rattle.snippet_strokes.proofs.PaintOrder.{IsPermutation-painting_order}
-use Rattle.snippet_strokes.proofs.RowEnds.{row_ends, strokes-by}
+use Rattle.snippet_strokes.proofs.RowEnds.{label_row_by, row_ends, strokes-by}
 use Rattle.snippet_strokes.proofs.SeenLabels.{EndsBy}
 use Rattle.snippet_strokes.proofs.StrokeCells.{cell_of_strokes, AreMarked-marks, labels_stand}
 use Rattle.snippet_strokes.proofs.StemCells.{IsHung, all_hung}
 use Rattle.snippet_strokes.proofs.BegunLemmas.{mark_shown, IsPlainEntry, covered_painted, mark_end_plain, spaceless, lone_placed, unlabelled, begun_row}
 use Rattle.snippet_strokes.proofs.BegunLemmas.{written_far, same_after, free_cell, sole, plain_entries, plain_narrow, IsStrokeRow-cut, sole_same}
 use Rattle.snippet_strokes.proofs.LabelKept.{labels_kept}
-use Rattle.snippet_strokes.proofs.PieceWrites.{labels_free, labels_some}
+use Rattle.snippet_strokes.proofs.PieceWrites.{has_piece, label_shows, labels_free, labels_some, piece_within}
 use Rattle.snippet_strokes.proofs.BarWrites.{DrawsBarCells-corners, DrawsFrom-connectors, KeepsBarCells-connectors, connectors_none, corners_none}
 use Rattle.snippet_strokes.proofs.BarWrites.{DrawsFrom-stems, stems_none, stems_start}
 use Rattle.snippet_strokes.proofs.WriteLaws.{DrawsFrom-labels, label_lone, labels_none, labels_unmarked}
@@ -397,17 +397,29 @@ module _ (layout : Layout) (room : ℕ) (closes : Bool) (es : List LineAnnotatio
           let end_order : All E (painting_order placed) = All-permutation E placed (painting_order placed) (IsPermutation-painting_order placed) end_placed in
           by_strokes r edge (strokes-by layout edge right (length above_rows) (length begun) placed (painting_order placed) begun bar_cells end_placed end_order
           (row + r) (λ k d within n some there. shown k d within n (omega (arith, there)) some) (omega (arith, begun_short r, right)));
+      labelled = λ cut edge wide k d within some room n inside shown.
+          let e : PlacedEntry = get_or placed k d in
+          at_label k d n edge (λ short. label_row_by layout (length above_rows) es placed (painting_order placed) is places bar_cells
+          (IsPermutation-painting_order placed) k d within (label_shows e some) n inside cut (omega (arith, room)) edge wide
+          (λ i x inside_i m some_m there. shown i x inside_i m (omega (arith, there)) some_m) (length begun) begun short) (omega (arith, room, wide));
       last = λ k d within is_last n some.
           let e : PlacedEntry = get_or placed k d in
-          let at : length above_rows + 1 + (label_place e).0 + n ≡ row + ((label_place e).0 + n) = omega arith in
-          by_strokes ((label_place e).0 + n) (layout.code + (label_place e).1 + length (get_or (pieces_of e) n []))
-          (subst (λ i. length (row_at (painted (drawn_strokes layout (length above_rows) (length begun) placed (painting_order placed)) begun) i)
-          ≤ layout.code + (label_place e).1 + length (get_or (pieces_of e) n [])) at
-          (row_ends layout (length above_rows) es placed (painting_order placed) is places bar_cells (IsPermutation-painting_order placed) k d within is_last n
-          some (length begun) begun
-          (subst (λ i. length (row_at begun i) ≤ layout.code + (label_place e).1 + length (get_or (pieces_of e) n [])) (sym at)
-          (omega (arith, begun_short ((label_place e).0 + n))))));
+          at_label k d n (layout.code + (label_place e).1 + length (get_or (pieces_of e) n []))
+          (row_ends layout (length above_rows) es placed (painting_order placed) is places bar_cells (IsPermutation-painting_order placed) k d within
+          (has_piece e n some) n (piece_within (pieces_of e) n some) is_last some (length begun) begun) (omega arith);
     }
+      where
+        -- what ends the row of a label's piece while it is drawn, ends it where it is seen
+        at_label : (k : ℕ) (d : PlacedEntry) (n edge : ℕ) → let at : ℕ = (label_place (get_or placed k d)).0 in
+            let drawn : List (List Cell) = painted (drawn_strokes layout (length above_rows) (length begun) placed (painting_order placed)) begun in
+            (length (row_at begun (length above_rows + 1 + at + n)) ≤ edge → length (row_at drawn (length above_rows + 1 + at + n)) ≤ edge)
+            → layout.code ≤ edge → length (row_at (marks_now ∷ lower) (at + n)) ≤ edge
+        at_label k d n edge ends right =
+            let at : ℕ = (label_place (get_or placed k d)).0 in
+            let drawn : List (List Cell) = painted (drawn_strokes layout (length above_rows) (length begun) placed (painting_order placed)) begun in
+            let same : length above_rows + 1 + at + n ≡ row + (at + n) = omega arith in
+            by_strokes (at + n) edge (subst (λ i. length (row_at drawn i) ≤ edge) same
+            (ends (subst (λ i. length (row_at begun i) ≤ edge) (sym same) (omega (arith, begun_short (at + n), right)))))
 
   -- what is seen of the rows, once those of the source and of the marks are cut where entries are wide
   pub strokes_seen : (rows : List (List Cell))

@@ -96,8 +96,8 @@ HasStem decor layout labels rows l =
 -- no label of line k is lost: of the spans that end on it, each that has a label to show has it in the rows below the line, whole, and
 -- a stem leads to it; no cell belongs to two labels, so that two of the same words stand twice; each cell of these rows that belongs to none,
 -- from the code's on, is a space or the glyph of a stroke, so that no other word stands there; where labels are cut each that has room for
--- 20 columns is broken for it; and if all have, and the marks have room too, no row below the line has more columns than there are up to where
--- labels are to end
+-- 20 columns is broken for it; and if all have, no row of a label has more columns than there are up to where labels are to end, nor has any
+-- below the line if the marks have room too
 pub record ShowsLabels (decor : DecorStyle) (layout : Layout) (s : Snippet Annotation) (k dropped : ℕ) (rows : List (List Cell)) : Type 0 where
   pub labels : List ShownLabel
   pub spans : map (λ (l : ShownLabel). l.label) labels ≡ labels_ending_on s k
@@ -106,6 +106,7 @@ pub record ShowsLabels (decor : DecorStyle) (layout : Layout) (s : Snippet Annot
   pub apart : (r c : ℕ) → count_by (is_in_label layout r c) labels ≤ 1
   pub others : (r c : ℕ) → layout.code ≤ c → count_by (is_in_label layout r c) labels ≡ 0 → IsStrokeCell decor (cell_at rows r c)
   pub broken : layout.label_lines ≡ true → All (λ l. l.cell + 20 ≤ layout.label_end → IsBroken layout l) labels
-  pub within : layout.label_lines ≡ true → MarksHaveRoom layout s k dropped
-      → All (λ l. shows_any (pieces_shown layout l) ≡ true → l.cell + 20 ≤ layout.label_end) labels
-      → All (λ row. width_of (row_text row) ≤ layout.label_end) rows
+  pub within : layout.label_lines ≡ true → All (λ l. shows_any (pieces_shown layout l) ≡ true → l.cell + 20 ≤ layout.label_end) labels
+      → All (λ l. shows_any (pieces_shown layout l) ≡ true → (i : ℕ) → i < length (pieces_shown layout l)
+      → width_of (row_text (slice_index_or rows (l.row + i) [])) ≤ layout.label_end) labels
+      × (MarksHaveRoom layout s k dropped → All (λ row. width_of (row_text row) ≤ layout.label_end) rows)

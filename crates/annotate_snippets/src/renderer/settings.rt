@@ -254,8 +254,9 @@ impl Renderer {
     /// The room is that of the `term_width`; widths are those of [`str_width`](crate::text::str_width), but the codes
     /// of a text that may hold some take no room, and none is broken. Nothing is broken where the room has fewer than 4
     /// columns, for a label 20, nor in the short form and the text form, nor unless this says so. Labels are cut at
-    /// their line feeds too, as where [`label_lines`](Renderer::label_lines) says so, and right of one that holds a
-    /// character of two columns nothing stands in its rows.
+    /// their line feeds too, as where [`label_lines`](Renderer::label_lines) says so. Right of one that holds a
+    /// character of more than one column nothing stands in its rows, and left of a mark that goes past the `term_width`
+    /// none stands in the row of the marks.
     pub fn wrap(mut self, wrap: bool) -> Renderer
         ensures changed { result ≡ record self { wrap = wrap } }
     {

@@ -14,10 +14,10 @@ returns-in_default c =
     let last : false ≡ stands_last layout (normalized_chars e.label) =
     sym (ap (stands_last layout) none ∙ no_wide layout.label_lines (nat_lt 0 layout.label_end)) in
     record {
-      value = LabelPieces-is c.whole.result (label_of_entry layout e)
+      value = c.with_mark_past.ensures.value ∙ LabelPieces-is (record c.whole.result { past = c.goes_past-past.result }) (label_of_entry layout e)
           (c.whole.ensures.beside ∙ ap (λ (cs : List ℕ). cs ∷ []) chars-nil ∙ empty (code_cell layout (beside_column e)))
           (c.whole.ensures.below ∙ ap (λ (cs : List ℕ). cs ∷ []) chars-nil ∙ empty (code_cell layout e.start.display))
-          (c.whole.ensures.last ∙ last);
+          (c.whole.ensures.last ∙ last) c.goes_past-past.ensures.value;
     }
   where
     no_wide : (a b : Bool) → (a && (b && false)) ≡ false

@@ -19,7 +19,7 @@ loop-i-preserved c =
       | then-cuts+in_ok-label w ↦ w.label-is ∙ w.in_ok-label.ensures.value ∙ ap (label_of_entry layout) w.shifted.ensures.value
       | else-cuts+in_ok-label-2 w ↦ w.label-is
           ∙ label_of_entry-whole layout (cuts ∙ w.if-cuts.false) given w.in_ok-label-2.label w.in_ok-label-2.ensures.beside
-          w.in_ok-label-2.ensures.below w.in_ok-label-2.ensures.last
+          w.in_ok-label-2.ensures.below w.in_ok-label-2.ensures.last w.in_ok-label-2.ensures.past
     ] in
     let e : PlacedEntry = record { entry = c.shifted-in-loop-i.result; label = c.if-cuts.label; position = 0; looked = j } in
     let entry : PlacedEntry → LineAnnotation = λ e. e.entry in
