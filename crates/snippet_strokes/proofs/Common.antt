@@ -52,7 +52,7 @@ pub use Rattle.snippet_parts.specs.declared.shown_line.ShownLine.{ShownLine}
 pub use Rattle.snippet_strokes.specs.Bars.{ends_of_bars, bars_apart, Bar, bar_at, is_beside, with_bars}
 pub use Rattle.snippet_strokes.specs.BegunRow.{begun_cells, ended_cells}
 pub use Rattle.snippet_strokes.specs.CellRows.{cells_of}
-pub use Rattle.snippet_strokes.specs.Cuts.{overlapped, is_cut, cut_middle, sees}
+pub use Rattle.snippet_strokes.specs.Cuts.{overlapped, is_cut, cut_middle, sees, with_blocks}
 pub use Rattle.snippet_strokes.specs.Drawable.{HasBarCell, AreDrawable, IsReady, HasBarCellAt}
 pub use Rattle.snippet_strokes.specs.Drawing.{row_count, rows_below}
 pub use Rattle.snippet_strokes.specs.DrawnBars.{bar_cell_part, is_whole_line, HasBarRoom, barred, has_depth, bar_of, StandsBeside, bar_glyph, open_below}

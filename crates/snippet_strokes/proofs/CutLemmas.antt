@@ -6,6 +6,7 @@ use Rattle.snippet_strokes.proofs.Common.{All-append, All-take, All-drop, set-ap
 use Rattle.snippet_strokes.proofs.Common.{LineAnnotation, is_wide_entry, AreReplaced, DecorStyle, LineNumber, placeholder_of, replaced_within, cells_replaced}
 use Rattle.snippet_strokes.proofs.Common.{Cell, text_cells, row_text, changed_within_one, replaced_there, replaced_empty, replaced_past, Layout, code_cell}
 use Rattle.snippet_strokes.proofs.Common.{PlacedEntry, IsFreeCell, is_wide_at, row_text-text_cells, cut_middle, is_cut, overlapped, row_count, painting_order}
+use Rattle.snippet_strokes.proofs.Common.{with_blocks}
 use Rattle.snippet_strokes.proofs.Common.{placed_of, stroke_rows, painted, rules}
 use Rattle.std.specs.Prelude.{◌&&◌, max, not}
 use Rattle.snippet_strokes.proofs.CutWords.{Stretch, cut_of, cut_rows, cuts_of}
@@ -250,7 +251,7 @@ rows_of_strokes layout room closes es source =
     let placed = placed_of layout es in
     let order = painting_order placed in
     let whole = painted (drawn_strokes layout 0 (row_count placed + 1) placed order) (begun_rows layout closes (row_count placed) source) in
-    map (cut_row layout.decor (cuts_of layout room order (overlapped placed))) (take 2 whole) ++ drop 2 whole
+    map (cut_row layout.decor (cuts_of layout room order (with_blocks order (overlapped placed)))) (take 2 whole) ++ drop 2 whole
 
 pub stroke_rows-cut : (layout : Layout) (room : ℕ) (closes : Bool) (es : List LineAnnotation) (source : List Cell)
     → stroke_rows layout room closes es source ≡ rows_of_strokes layout room closes es source

@@ -7,6 +7,7 @@ use Rattle.snippet_strokes.proofs.Common.{shown_number_unlisted, IsFree, each_fa
 use Rattle.snippet_strokes.proofs.Common.{norm, char_width, width_of, list_any-norm, char_width-bound, StandsClear, dropped_part, reaching, Margin}
 use Rattle.snippet_strokes.proofs.Common.{reaching-cons, reaching-none, width-cons, Layout, inner_cell, separator_cell, is_end_part, shifted, placed_of}
 use Rattle.snippet_strokes.proofs.Common.{PlacedEntry, Top, OpenBar, LineView, ends_of_bars, overlapped, row_count, line_rows, own_rows, painting_order}
+use Rattle.snippet_strokes.proofs.Common.{with_blocks}
 use Rattle.snippet_strokes.proofs.Common.{info_rows, is_whole_line, source_row, window_cells, highlighted_row, stroke_rows, painted, true, replicate}
 use Rattle.snippet_strokes.proofs.Common.{if◌then◌else◌, list_all, list_any, list_any-IsPermutation, cases_Bool, append_assoc, length-append, length_push}
 use Rattle.snippet_strokes.proofs.Common.{closing_row, separator_row, ArePlaced, is_wide_at, bare_row, is_cut, cut_pairs, is_uncut, Write, rules}
@@ -33,13 +34,15 @@ module _ (layout : Layout) (room : ℕ) (closes : Bool) (source : List Cell) whe
   rows_at placed =
       let strokes = drawn_strokes layout 0 (row_count placed + 1) placed (painting_order placed) in
       let whole = painted strokes (begun_rows layout closes (row_count placed) source) in
-      map (cut_row layout.decor (cuts_of layout room (painting_order placed) (overlapped placed))) (take 2 whole) ++ drop 2 whole
+      map (cut_row layout.decor (cuts_of layout room (painting_order placed) (with_blocks (painting_order placed) (overlapped placed)))) (take 2 whole)
+      ++ drop 2 whole
 
   -- rows with strokes of these entries are the rows of their strokes
   pub stroke_rows_are : (es : List LineAnnotation) (rows : List (List Cell)) → StrokesPainted layout room closes es source rows
       → rows ≡ stroke_rows layout room closes es source
   stroke_rows_are es rows is =
-      let cut = cut_row layout.decor (cuts_of layout room (painting_order is.placed) (overlapped is.placed)) in
+      let order = painting_order is.placed in
+      let cut = cut_row layout.decor (cuts_of layout room order (with_blocks order (overlapped is.placed))) in
       is.rows_are ∙ ap (λ whole. map cut (take 2 whole) ++ drop 2 whole) is.painted_are ∙ ap rows_at (placed_are layout es is.placed is.are)
       ∙ sym (stroke_rows-cut layout room closes es source)
 
@@ -85,7 +88,7 @@ stroke_rows_are_painted layout room closes es source =
     let some = labels_some layout es placed (placed_of_are layout es) in
     let long : length whole ≡ count + 1 = painted_rows-count layout closes placed order source some in
     let parts = two_more whole (omega (arith, long, row_count_some placed)) in
-    let cut : List Cell → List Cell = cut_row layout.decor (cuts_of layout room order (overlapped placed)) in
+    let cut : List Cell → List Cell = cut_row layout.decor (cuts_of layout room order (with_blocks order (overlapped placed))) in
     record {
       placed = placed;
       are = placed_of_are layout es;
@@ -188,10 +191,11 @@ pub rows_cut : (layout : Layout) (room : ℕ) (closes : Bool) (es : List LineAnn
     → CutsRows layout (wide_entries room layout.decor es) (is_uncut room layout es) is.top is.marks is.lower rows
 rows_cut layout room closes es source rows is =
     let order = painting_order is.placed in
-    let change : List Cell → List Cell = cut_row layout.decor (cuts_of layout room order (overlapped is.placed)) in
+    let flags = with_blocks order (overlapped is.placed) in
+    let change : List Cell → List Cell = cut_row layout.decor (cuts_of layout room order flags) in
     let cut : (row : List Cell) → IsCut layout (wide_entries room layout.decor es) row (change row) = λ row.
     subst (λ n. IsCut layout n row (change row)) (wide_entries-order layout room layout.decor es is.placed is.are)
-    (IsCut-cuts layout room order (overlapped is.placed) row) in
+    (IsCut-cuts layout room order flags row) in
     record {
       source_now = change is.top;
       marks_now = change is.marks;
@@ -212,7 +216,7 @@ module _ (layout : Layout) (room : ℕ) (closes : Bool) (es : List LineAnnotatio
     (long : length new ≡ length old + row_count placed)
     (new_is : new ≡ painted (drawn_strokes layout row (length old + row_count placed) placed (painting_order placed))
     (old ++ replicate (row_count placed - 1) (separator_row layout.decor layout.gutter) ++ bare_row layout.decor layout.gutter closes ∷ []))
-    (flags_are : list_any (is_wide_at room layout.decor) placed ≡ true → flags ≡ overlapped placed)
+    (flags_are : list_any (is_wide_at room layout.decor) placed ≡ true → flags ≡ with_blocks (painting_order placed) (overlapped placed))
     (final_is : final ≡ cut_rows layout.decor row (cuts_of layout room (painting_order placed) flags) new) where
   abbrev order : List PlacedEntry
   order = painting_order placed
@@ -237,7 +241,7 @@ module _ (layout : Layout) (room : ℕ) (closes : Bool) (es : List LineAnnotatio
   new_below = grind (arith, begun_below, all_rows, strokes-lowered, painted-below)
 
   -- what is cut: where an entry is wide, it is known which are overlapped
-  cuts_are : cuts_of layout room order flags ≡ cuts_of layout room order (overlapped placed)
+  cuts_are : cuts_of layout room order flags ≡ cuts_of layout room order (with_blocks order (overlapped placed))
   cuts_are = grind (arith, cases_Bool, list_any-IsPermutation, IsPermutation-painting_order, cuts_of-narrow)
 
   -- the rows of a line are its strokes, painted, and cut where entries are wide
@@ -249,7 +253,7 @@ module _ (layout : Layout) (room : ℕ) (closes : Bool) (es : List LineAnnotatio
       let lower : List (List Cell) = drop 2 own in
       let parts : own ≡ top ∷ marks ∷ lower = two_more own (omega (arith, many, row_count_some placed)) in
       let few : length (top ∷ marks ∷ lower) ≡ count + 1 = sym (ap length parts) ∙ many in
-      let stretches : List Stretch = cuts_of layout room order (overlapped placed) in
+      let stretches : List Stretch = cuts_of layout room order (with_blocks order (overlapped placed)) in
       let change : List Cell → List Cell = cut_row layout.decor stretches in
       let of_stretches = final_is ∙ ap (λ cs. cut_rows layout.decor row cs new) cuts_are in
       let of_parts = ap (cut_rows layout.decor row stretches) (new_below ∙ ap (λ rs. above ++ rs) parts) in

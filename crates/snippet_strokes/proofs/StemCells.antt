@@ -6,6 +6,7 @@ use Rattle.snippet_strokes.proofs.Common.{get_or-map-range_with_len, length-map-
 use Rattle.snippet_strokes.proofs.Common.{DecorStyle, Layout, PlacedEntry, stroke_role, has_label, has_stem, takes_space, Write, painted, IsStemCell}
 use Rattle.snippet_strokes.proofs.Common.{stem_glyphs, stem_of, connectors_of, corners_of, labels_of, stems_of, take, drop, replicate, ◌∙◌, length-append}
 use Rattle.snippet_strokes.proofs.Common.{length-map, length-replicate, take-append-drop, separator_row, LineAnnotation, placed_of, overlapped, row_count}
+use Rattle.snippet_strokes.proofs.Common.{with_blocks}
 use Rattle.snippet_strokes.proofs.Common.{HasRows, painting_order, bare_row, stroke_rows, Option, None, Some, option_map_or, map-append, take-map, drop-map}
 use Rattle.snippet_strokes.proofs.Common.{Margin, window, LineNumber, Quotation, placeholder_of, SPACE, written, row_text, window_cells, begun_cells}
 use Rattle.snippet_strokes.proofs.Common.{ended_cells, row_text-text_cells, rules, flat_map}
@@ -154,7 +155,7 @@ stroke_rows-count layout room closes es source =
     let placed : List PlacedEntry = placed_of layout es in
     let order : List PlacedEntry = painting_order placed in
     let whole : List (List Cell) = painted (drawn_strokes layout 0 (row_count placed + 1) placed order) (begun_rows layout closes (row_count placed) source) in
-    let cut : List Cell → List Cell = cut_row layout.decor (cuts_of layout room order (overlapped placed)) in
+    let cut : List Cell → List Cell = cut_row layout.decor (cuts_of layout room order (with_blocks order (overlapped placed))) in
     ap length (stroke_rows-cut layout room closes es source)
     ∙ length-append (map cut (take 2 whole)) (drop 2 whole) ∙ ap (λ n. n + length (drop 2 whole)) (length-map (take 2 whole) cut)
     ∙ sym (length-append (take 2 whole) (drop 2 whole)) ∙ ap length (take-append-drop 2 whole) ∙ painted_rows-count layout closes placed order source

@@ -1,7 +1,7 @@
 -- Where no entry of a line is wide none is cut; and a wide one that others overlap isn't, either.
 use Rattle.snippet_strokes.proofs.Common.{◌≡◌, ◌∙◌, ℕ, ◌+◌, Bool, true, false, not, cond, List, [], ◌∷◌, length, map, refl, sym, ap}
 use Rattle.snippet_strokes.proofs.Common.{Layout, arith, and_from, sum_by-cons, list_all, zip, placed_of, PlacedEntry, is_wide_entry, LineAnnotation}
-use Rattle.snippet_strokes.proofs.Common.{placeholder_of, DecorStyle, Ascii, Primary, Context, is_cut, overlapped, painting_order, is_uncut}
+use Rattle.snippet_strokes.proofs.Common.{placeholder_of, DecorStyle, Ascii, Primary, Context, is_cut, overlapped, with_blocks, painting_order, is_uncut}
 use Rattle.std.specs.Prelude.{◌&&◌}
 use Rattle.snippet_strokes.proofs.BegunLemmas.{wide_entries-order}
 use Rattle.snippet_strokes.proofs.Examples.{entry, layout}
@@ -29,7 +29,7 @@ none_cut room decor (e ∷ es) (flag ∷ flags) narrow =
 pub narrow_uncut : (room : ℕ) (drawn : Layout) (es : List LineAnnotation) → wide_entries room drawn.decor es ≡ 0 → is_uncut room drawn es ≡ true
 narrow_uncut room drawn es narrow =
     let placed = placed_of drawn es in
-    none_cut room drawn.decor (painting_order placed) (overlapped placed)
+    none_cut room drawn.decor (painting_order placed) (with_blocks (painting_order placed) (overlapped placed))
     (wide_entries-order drawn room drawn.decor es placed (placed_of_are drawn es) ∙ narrow)
 
 -- four spans that overlap one another: in twenty columns all are wide, and none is cut

@@ -5,6 +5,7 @@ use Rattle.snippet_strokes.proofs.Common.{if◌then◌else◌, slice_index_or, s
 use Rattle.snippet_strokes.proofs.Common.{SPACE, text_cells, unlinked_cell, separator_of, closing_row, LineNumber, norm, width_of, StandsClear, dropped_part}
 use Rattle.snippet_strokes.proofs.Common.{Margin, Layout, separator_cell, is_end_part, shifted, PlacedEntry, Solid, Top, OpenBar, bars_apart, ends_of_bars}
 use Rattle.snippet_strokes.proofs.Common.{is_whole_line, ArePlaced, overlapped, AreDrawable, row_count, painting_order, source_row, window_cells, painted}
+use Rattle.snippet_strokes.proofs.Common.{with_blocks}
 use Rattle.snippet_strokes.proofs.Common.{◌++◌, get_or, refl, sym, ap, ◌∙◌, arith, inl, inr, AnnotationKind, Primary, Context, Visible, cells_written}
 use Rattle.snippet_strokes.proofs.Common.{label_role, is_mark_role, HasRows, has_label, Write, label_of, labels_of, HasPlace, ◌-◌, ◌⊎◌, cases_lt, cases_eq}
 use Rattle.snippet_strokes.proofs.Common.{All-head, All-tail, All-weaker, flat_map, cell_at, row_at, WritesCells-cells_written, length-text_cells}
@@ -255,7 +256,7 @@ pub record StrokesPainted (layout : Layout) (room : ℕ) (closes : Bool) (es : L
   pub painted_are : top ∷ marks ∷ lower ≡ painted (drawn_strokes layout 0 (row_count placed + 1) placed (painting_order placed))
       (begun_rows layout closes (row_count placed) source)
   pub rows_are : rows ≡ (let cuts = cuts_of layout room (painting_order placed)
-      (overlapped placed) in cut_row layout.decor cuts top ∷ cut_row layout.decor cuts marks ∷ lower)
+      (with_blocks (painting_order placed) (overlapped placed)) in cut_row layout.decor cuts top ∷ cut_row layout.decor cuts marks ∷ lower)
   pub count : length rows ≡ row_count placed + 1
 
 -- the rows that a line has by its own entries, of which so many columns are dropped: beside a line that is marked as a whole the tops

@@ -1,7 +1,7 @@
 -- Which stretches of a line give their place to the placeholder, because the entries there are wide.
-use Rattle.std.specs.Prelude.{ℕ, map, ◌+◌, ◌-◌, ◌/◌, ◌&&◌, ◌||◌, nat_le, nat_lt, not, max, Bool, List, length}
+use Rattle.std.specs.Prelude.{ℕ, map, ◌+◌, ◌-◌, ◌/◌, ◌==◌, ◌&&◌, ◌||◌, nat_le, nat_lt, not, max, Bool, List, length}
 use Rattle.std.specs.Prelude.{if◌then◌else◌}
-use Rattle.std.specs.List.{enumerate_from, list_any}
+use Rattle.std.specs.List.{enumerate_from, list_any, zip}
 use Rattle.snippet_style.specs.Cell.{Cell, text_cells}
 use Rattle.snippet_style.specs.declared.glyphs.DecorStyle.{DecorStyle}
 use Rattle.snippet_style.specs.Glyphs.{placeholder_of}
@@ -10,7 +10,7 @@ use Rattle.snippet_grid.specs.Grid.{replaced_within}
 use Rattle.snippet_parts.specs.Entries.{is_wide_entry}
 use Rattle.snippet_grid.specs.Layout.{Layout, code_cell}
 use Rattle.snippet_labels.specs.declared.positions.PlacedEntry.{PlacedEntry}
-use Rattle.snippet_labels.specs.Positions.{do_overlap}
+use Rattle.snippet_labels.specs.Positions.{do_overlap, pieces_of}
 
 -- ---- which entries are overlapped: the original's rule
 
@@ -24,6 +24,14 @@ abbrev pub overlapped : List PlacedEntry → List Bool
 overlapped placed =
     let numbered = enumerate_from 0 placed in
     map (λ x. list_any (λ y. sees x.0 x.1 y.0 y.1 || sees y.0 y.1 x.0 x.1) numbered) numbered
+
+-- the same flags for these entries, where one counts as overlapped too if a label of several pieces stands after its mark, or after one that
+-- starts right of where it does: the pieces below the first one would not move with the row of the marks
+abbrev pub with_blocks : List PlacedEntry → List Bool → List Bool
+with_blocks order flags =
+    map (λ pair. pair.1
+    || list_any (λ f. f.position == 0 && (nat_le pair.0.entry.start.display f.entry.start.display && nat_lt 1 (length (pieces_of f)))) order)
+    (zip order flags)
 
 -- ---- what is cut
 

@@ -15,7 +15,7 @@ use Rattle.snippet_style.specs.Separators.{separator_row}
 use Rattle.snippet_strokes.specs.Drawing.{row_count}
 use Rattle.snippet_strokes.specs.Painting.{mark_of, painting_order, stroke_role}
 use Rattle.snippet_labels.specs.Positions.{has_label, has_stem, label_place, pieces_of, placed_of, is_start_part, takes_space}
-use Rattle.snippet_strokes.specs.Cuts.{cut_middle, is_cut, overlapped}
+use Rattle.snippet_strokes.specs.Cuts.{cut_middle, is_cut, overlapped, with_blocks}
 use Rattle.snippet_strokes.specs.SourceRows.{bare_row}
 use Rattle.std.specs.Option.{option_map_or}
 use Rattle.snippet_strokes.specs.Bars.{bar_at}
@@ -88,7 +88,7 @@ line_strokes layout row count placed order =
 -- placed entries, each with whether it is overlapped. As the original does, what is known of the entry at a place in the order in which they
 -- are placed stands there for the one at the same place in the order in which marks are painted
 abbrev pub cut_pairs : List PlacedEntry → List (PlacedEntry × Bool)
-cut_pairs placed = zip (painting_order placed) (overlapped placed)
+cut_pairs placed = zip (painting_order placed) (with_blocks (painting_order placed) (overlapped placed))
 
 -- whether no entry of a line is cut
 abbrev pub is_uncut : ℕ → Layout → List LineAnnotation → Bool

@@ -1,5 +1,6 @@
 //! Wide spans, of which the middle gives its place to the placeholder, in the source row and in the row of the marks.
-ghost use Rattle.std.specs.Prelude.{◌≡◌, ◌+◌, ◌/◌, ◌<◌, ◌≤◌, max, [], false, true, All, IfOk, OnOk, fold, length};
+ghost use Rattle.std.specs.Prelude.{◌≡◌, ◌+◌, ◌/◌, ◌<◌, ◌≤◌, ◌==◌, ◌&&◌, max, [], false, true, All, IfOk, OnOk, fold};
+ghost use Rattle.std.specs.Prelude.{length, nat_le, nat_lt};
 ghost use Rattle.std.specs.List.{list_any, zip};
 ghost use Rattle.snippet_parts.specs.Entries.{is_wide_entry};
 ghost use Rattle.snippet_style.specs.Glyphs.{placeholder_of};
@@ -11,7 +12,7 @@ ghost use Rattle.snippet_strokes.specs.LookedCuts as spec;
 ghost use Rattle.snippet_strokes.specs.LookedCuts.{is_wide_at};
 ghost use Rattle.snippet_labels.specs.Placing.{HasPlace};
 ghost use Rattle.snippet_grid.specs.Calls.{cells_replaced};
-ghost use Rattle.snippet_labels.specs.Positions.{do_overlap};
+ghost use Rattle.snippet_labels.specs.Positions.{do_overlap, pieces_of};
 ghost use Rattle.snippet_style.specs.Bounds.{AreRows, HasNext, IsCount};
 
 use snippet_grid::{Layout, StyledBuffer};
@@ -144,6 +145,40 @@ fn is_met(k: usize, entry: &PlacedEntry, placed: &[PlacedEntry], ends: &[usize])
         .iter()
         .zip(ends)
         .any(|(other, end)| k < *end && overlap(entry, 0, other))
+}
+
+/// What is known of these entries, which stand in the order of painting, where one counts as overlapped too if a block
+/// stands beside it.
+///
+/// ```text
+///     1 | let aaaaaaaaaaaaa = 1;
+///       |     ^^^^^^^^^^^^^ a       were the mark cut, `a` would move, and `b` would not
+///       |                   b
+/// ```
+pub(crate) fn with_blocks(mut overlapped: Vec<bool>, placed: &[PlacedEntry]) -> Vec<bool>
+    requires count { length overlapped.items ≤ length placed.now }
+    ensures value { result.items ≡ rule.with_blocks placed.now overlapped.items }
+    ensures count { length result.items ≤ length placed.now }
+{
+    for k in 0..overlapped.len() {
+        if has_block_beside(&placed[k], placed) {
+            overlapped[k] = true;
+        }
+    }
+    overlapped
+}
+
+/// Whether a label of several pieces stands after the mark of an entry, or after one that starts right of where it
+/// does.
+fn has_block_beside(entry: &PlacedEntry, placed: &[PlacedEntry]) -> bool
+    ensures value { result ≡ list_any (λ f. f.position == 0 && (nat_le entry.now.entry.start.display
+        f.entry.start.display && nat_lt 1 (length (pieces_of f)))) placed.now }
+{
+    placed.iter().any(|other| {
+        other.position == 0
+            && entry.entry.start.display <= other.entry.start.display
+            && other.label.height(0) > 1
+    })
 }
 
 /// Puts the placeholder in place of the middle of each wide entry that stands at a place which isn't overlapped: in the

@@ -20,7 +20,7 @@ use crate::canvas::Canvas;
 use crate::cell_rows::CellRows;
 use crate::connectors::draw_connectors;
 use crate::corners::{draw_corners, draw_tops};
-use crate::cuts::{cut_wide, overlapping};
+use crate::cuts::{cut_wide, overlapping, with_blocks};
 use crate::labels::draw_labels;
 use crate::marks::draw_marks;
 use crate::row::{begin_closing_row, begin_rows};
@@ -82,7 +82,8 @@ pub(crate) fn draw_strokes(
     let overlapped = overlapping(alloc, layout.decor, place.room, &placed)?;
     let count = row_count(layout, &placed);
     draw_rows(buffer, layout, place, count, &mut placed)?;
-    cut_wide(buffer, layout, place.row, place.room, &placed, &overlapped)
+    let kept = with_blocks(overlapped, &placed);
+    cut_wide(buffer, layout, place.row, place.room, &placed, &kept)
 }
 
 /// Begins so many rows for the strokes of a line below its source row, which is the last one, and draws the strokes.

@@ -3,6 +3,7 @@ use Rattle.snippet_strokes.proofs.Common.{◌≡◌, ◌∙◌, ◌+◌, ◌-◌
 use Rattle.snippet_strokes.proofs.Common.{All, map, replicate, ap, sym, subst, refl, arith, length, on_ok_weaker, Layout, append_assoc, length_push}
 use Rattle.snippet_strokes.proofs.Common.{All-permutation, length_permutation, LineAnnotation, PlacedEntry, painting_order, row_count, AreEnough, HasRows}
 use Rattle.snippet_strokes.proofs.Common.{AreDrawable, Cell, shifted, ArePlaced, HasPlace, list_any, overlapped, is_wide_at, bare_row, separator_row, painted}
+use Rattle.snippet_strokes.proofs.Common.{with_blocks}
 use Rattle.snippet_strokes.proofs.CutWords.{cut_rows, cuts_of}
 use Rattle.snippet_strokes.proofs.CutPairs.{entries_cut}
 use Rattle.snippet_strokes.proofs.PaintOrder.{IsPermutation-painting_order}
@@ -89,6 +90,20 @@ draw_rows-requires c =
       ready = all_ready c.args.layout c.args.place.dropped c.args.entries.now placed c.requires.entries are;
     }
 
+-- there is no more known of entries than there are
+pub with_blocks-kept-requires : goal.with_blocks-kept-requires
+with_blocks-kept-requires c =
+    let placed = c.in_ok-placed.placed.items in
+    record {
+      count = omega (
+        arith,
+        c.in_ok-overlapped.ensures.count,
+        ap length c.deref.ensures.value,
+        length_permutation placed (painting_order placed) (IsPermutation-painting_order placed),
+        ap length (c.deref-3.ensures.value ∙ c.in_ok-draw_rows.ensures.order),
+      );
+    }
+
 -- the entries stand in the order of painting, and no row is added or taken after those that are begun
 pub cut_wide-requires : goal.cut_wide-requires
 cut_wide-requires c =
@@ -101,18 +116,17 @@ cut_wide-requires c =
     let long = rows_long c.args.layout c.args.place.dropped c.args.entries.now c.args.place.row c.row_count-count.result placed c.args.buffer.now closes
     c.requires.entries is_placed count c.requires.last in
     let marked = c.in_ok-draw_rows.ensures.count ∙ sym long in
-    let ordered = c.deref-3.ensures.value ∙ c.in_ok-draw_rows.ensures.order in
+    let ordered = c.deref-4.ensures.value ∙ c.in_ok-draw_rows.ensures.order in
     record {
       columns = subst (All (λ (e : PlacedEntry). HasPlace e.entry)) (sym ordered)
           (All-permutation (λ (e : PlacedEntry). HasPlace e.entry) placed (painting_order placed) (IsPermutation-painting_order placed)
           (ready_places c.args.layout placed enough.ready));
       count = omega (
         arith,
+        ap length c.deref-5.ensures.value,
+        c.with_blocks-kept.ensures.count,
+        ap length c.deref-3.ensures.value,
         ap length c.deref-4.ensures.value,
-        c.in_ok-overlapped.ensures.count,
-        ap length c.deref.ensures.value,
-        length_permutation placed (painting_order placed) (IsPermutation-painting_order placed),
-        ap length ordered,
       );
       rows = omega (arith, marked, enough.marks);
       small = omega (arith, marked, enough.small);
@@ -148,25 +162,26 @@ returns c =
     let new_is : new ≡ painted (drawn_strokes layout row (length begun) placed after) begun = c.in_ok-draw_rows.ensures.painted
     ∙ strokes_painted layout row (length old + c.row_count-count.result) placed after begun
     ∙ ap (λ n. painted (drawn_strokes layout row n placed after) begun) (sym whole) in
-    let flags = c.in_ok-overlapped.overlapped.items in
+    let flags = c.with_blocks-kept.result.items in
     let final = c.cut_wide.new.buffer in
     let cut_to : List PlacedEntry → List Bool → List (List Cell) = λ ps fs. cut_rows layout.decor row (cuts_of layout c.args.place.room ps fs) new in
-    let final_is : final ≡ cut_to c.deref-3.result.now c.deref-4.result.now → final ≡ cut_to after flags =
-    grind (arith, common_steps, cut_to, after, c.deref-4.result.now, c.deref-3.ensures.value, c.in_ok-draw_rows.ensures.order, c.deref-4.ensures.value) in
+    let final_is : final ≡ cut_to c.deref-4.result.now c.deref-5.result.now → final ≡ cut_to after flags =
+    grind (arith, common_steps, cut_to, after, c.deref-5.result.now, c.deref-4.ensures.value, c.in_ok-draw_rows.ensures.order, c.deref-5.ensures.value) in
     let last_row : (above : List (List Cell)) (source : List Cell) → old ≡ above ++ source ∷ [] → row ≡ length above = λ above source old_is.
     omega (arith, c.requires.last, ap length old_is, length_push above source) in
     record {
       value = on_ok_weaker c.cut_wide.result (λ value text above source other old_is.
           let all_rows : length new ≡ all = c.in_ok-draw_rows.ensures.count ∙ sym whole ∙ long in
           let is_wide : PlacedEntry → Bool = is_wide_at c.args.place.room layout.decor in
-          let flags_are : list_any is_wide placed ≡ true → flags ≡ overlapped placed =
-          λ some_wide. c.in_ok-overlapped.ensures.value (ap (λ (l : Layout).
-          list_any (is_wide_at c.args.place.room l.decor) c.deref.result.now) c.layout.view_is
+          let flags_are : list_any is_wide placed ≡ true → flags ≡ with_blocks after (overlapped placed) = λ some_wide.
+          let known = c.in_ok-overlapped.ensures.value (ap (λ (l : Layout). list_any (is_wide_at c.args.place.room l.decor) c.deref.result.now) c.layout.view_is
           ∙ ap (list_any is_wide) c.deref.ensures.value ∙ some_wide) ∙ ap overlapped c.deref.ensures.value in
+          let order = c.deref-3.ensures.value ∙ c.in_ok-draw_rows.ensures.order in
+          c.with_blocks-kept.ensures.value ∙ ap (λ es. with_blocks es c.in_ok-overlapped.overlapped.items) order ∙ ap (with_blocks after) known in
           painted_added layout c.args.place.room c.args.place.closes es placed flags above source old new final row are old_is
           (last_row above source old_is) all_rows
           (new_is ∙ ap (λ n. painted (drawn_strokes layout row n placed after) begun) long ∙ ap (painted (drawn_strokes layout row all placed after)) begun_is)
-          flags_are (final_is (value ∙ sym (entries_cut layout c.args.place.room row c.deref-3.result.now c.deref-4.result.now new)))
+          flags_are (final_is (value ∙ sym (entries_cut layout c.args.place.room row c.deref-4.result.now c.deref-5.result.now new)))
           ∙ ap (λ rows. above ++ rows) (sym (own_strokes layout c.args.place.room closes text c.args.place.dropped c.args.entries.now source other given)))
           c.cut_wide.ensures.value;
     }
