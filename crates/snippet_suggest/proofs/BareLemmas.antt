@@ -1,5 +1,5 @@
 -- Rows that show no line: of a placeholder or a glyph.
-use Rattle.snippet_suggest.proofs.Common.{◌≡◌, ℕ, zero, suc, ◌+◌, ◌≤◌, true, false, List, [], ◌∷◌, ◌++◌, length, replicate, refl}
+use Rattle.snippet_suggest.proofs.Common.{◌≡◌, ℕ, zero, suc, ◌+◌, ◌≤◌, true, false, List, [], ◌∷◌, ◌++◌, length, replicate, refl, common_steps}
 use Rattle.snippet_suggest.proofs.Common.{sym, ap, ◌∙◌, arith, inl, All, subst, list_all, list_any, slice_index_or, get_or-append_right}
 use Rattle.snippet_suggest.proofs.Common.{get_or_append_left, get_or_past, length-append, length-replicate, All-append, All-nil, All-replicate}
 use Rattle.snippet_suggest.proofs.Common.{AllPass-from_list_all, row_text, row_text-text_cells, each_fails, free_drawn, free_led, DecorStyle, SuggestionGlyph}
@@ -35,13 +35,7 @@ pub bare_led : (decor : DecorStyle) (gutter at : ℕ) (role : ElementStyle) (cs 
 bare_led decor gutter at role cs short strokes free =
     let P : Cell → Type 0 = λ cell. is_stroke decor cell.ch ≡ true in
     let row = replicate at SPACE ++ text_cells role cs in
-    let long : length row ≡ at + length cs = omega (
-      arith,
-      length-append (replicate at SPACE)
-          (text_cells role cs),
-      length-replicate at SPACE,
-      length-text_cells role cs,
-    ) in
+    let long : length row ≡ at + length cs = grind (arith, common_steps, length-append, length-replicate, length-text_cells) in
     record {
       strokes = λ c left. each_cell P row refl (All-append P (replicate at SPACE) (text_cells role cs) (All-replicate P at SPACE refl)
           (All-text_cells P role cs (AllPass-from_list_all (is_stroke decor) cs strokes))) c;

@@ -1,9 +1,8 @@
 -- The definitions, computed on small suggestions. In these LF is 10.
-use Rattle.snippet_suggest.proofs.Common.{◌≡◌, ℕ, ◌<◌, ◌^◌, Bool, true, false, None, Vec, List, [], ◌∷◌, ◌++◌, codes, length, refl}
-use Rattle.snippet_suggest.proofs.Common.{arith, Global, CowStr, Borrowed, unindexed, Snippet, Patch, newline_count, start_of, line_of, trimmed_edit}
-use Rattle.snippet_suggest.proofs.Common.{shown_text, last_line_reached, kept_before, sandwich, DisplaySuggestion, Add, Diff, Plain, Underline, Opening, Begins}
-use Rattle.snippet_suggest.proofs.Common.{Empty, Offers, Removes, Skips, SuggestionRow, rows_of_suggestion, counted_line, given_lines, removed_lines}
-use Rattle.snippet_suggest.proofs.Common.{shown_kind, offered_lines}
+use Rattle.snippet_suggest.proofs.Common.{◌≡◌, ℕ, ◌<◌, ◌^◌, Bool, true, false, None, Vec, List, [], ◌∷◌, ◌++◌, codes, length, refl, arith, Global, CowStr}
+use Rattle.snippet_suggest.proofs.Common.{Borrowed, unindexed, Snippet, Patch, newline_count, start_of, line_of, trimmed_edit, shown_text, last_line_reached}
+use Rattle.snippet_suggest.proofs.Common.{kept_before, sandwich, DisplaySuggestion, Add, Diff, Plain, Underline, Opening, Begins, Empty, Offers, Removes, Skips}
+use Rattle.snippet_suggest.proofs.Common.{SuggestionRow, rows_of_suggestion, counted_line, given_lines, removed_lines, shown_kind, offered_lines}
 use Rattle.std.specs.Str.{chars, trim_end, trim_start}
 
 -- a patch that puts a text in place of the bytes from one to another, and a snippet of such patches, whose first line has number 1

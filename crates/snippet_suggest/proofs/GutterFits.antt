@@ -1,6 +1,6 @@
 -- Why the gutter that has room for the number that a suggestion counts has room for the number of each line that it gives.
-use Rattle.snippet_suggest.proofs.Common.{◌≡◌, ℕ, ◌+◌, ◌<◌, ◌≤◌, ◌^◌, ◌&&◌, Bool, true, if◌then◌else◌, List, [], ◌∷◌}
-use Rattle.snippet_suggest.proofs.Common.{All, length, map, sym, arith, subst, cow_str_bytes, cond-true, cond_both, length-map, All-map, Snippet, Patch}
+use Rattle.snippet_suggest.proofs.Common.{◌≡◌, ℕ, ◌+◌, ◌<◌, ◌≤◌, ◌^◌, ◌&&◌, Bool, true, if◌then◌else◌, List, [], ◌∷◌, common_steps}
+use Rattle.snippet_suggest.proofs.Common.{All, length, map, arith, cow_str_bytes, cond-true, cond_both, length-map, All-map, Snippet, Patch}
 use Rattle.snippet_suggest.proofs.Common.{lines_of, source_lines, newline_count, number_width, shown_number, LineNumbers, line_of, IsSpan, length-source_lines}
 use Rattle.snippet_suggest.proofs.Common.{length-shown_number, number_width_monotone, line_of-mono, line_of-within, Edit, edit_of, in_order, trimmed_edit}
 use Rattle.snippet_suggest.proofs.Common.{first_start, trimmed_edit-shrunk, DisplaySuggestion, Underline, Diff, Plain, Add, SuggestionLayout, Line}
@@ -82,6 +82,4 @@ pub numbers_fit : (layout : SuggestionLayout) (s : Snippet Patch) → IsSuggesti
 numbers_fit layout s can room k within =
     let first : ℕ = s.line_start + first_given s in
     let counted = counted_last s can k within in
-    let same : capped_sum first k ≡ first + k = omega (arith, counted.0, counted.1) in
-    subst (λ (n : ℕ). length (shown_number layout.numbers layout.base.gutter n) ≤ layout.base.gutter + 1) (sym same)
-    (shown_fits layout.numbers layout.base.gutter (first + k) (counted_line s) room counted.0 counted.1)
+    let same : capped_sum first k ≡ first + k = omega (arith, counted.0, counted.1) in grind (arith, common_steps, shown_fits, same)

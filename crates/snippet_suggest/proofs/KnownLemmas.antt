@@ -1,10 +1,9 @@
 -- What follows for a suggestion that is prepared.
-use Rattle.snippet_suggest.proofs.Common.{◌≡◌, ℕ, ◌+◌, ◌<◌, ◌≤◌, List, [], ◌∷◌, All, length, map, refl, sym, ap, ◌∙◌, arith}
-use Rattle.snippet_suggest.proofs.Common.{subst, if◌then◌else◌, cow_str_bytes, All-map, source_lines, line_of, IsSpan, LineInfo, table_entry}
-use Rattle.snippet_suggest.proofs.Common.{touched_entries, end_from, TrimmedPatch, Edit, edit_of, in_order, trimmed_edits, AreApart, edit_bounds}
-use Rattle.snippet_suggest.proofs.Common.{original_bounds_of, trimmed_edit_of, first_start, trimmed-apart, apart-in_order, ordered-spans, none_given}
-use Rattle.snippet_suggest.proofs.Common.{PreparedSuggestion, edits_of, first_end, first_given, last_reached, last_removed, IsPrepared, first_original}
-use Rattle.snippet_suggest.proofs.Common.{first_original_end, rules}
+use Rattle.snippet_suggest.proofs.Common.{◌≡◌, ℕ, ◌+◌, ◌<◌, ◌≤◌, List, [], ◌∷◌, All, length, map, refl, sym, ap, ◌∙◌, arith, subst, if◌then◌else◌}
+use Rattle.snippet_suggest.proofs.Common.{cow_str_bytes, All-map, source_lines, line_of, IsSpan, LineInfo, table_entry, touched_entries, end_from, TrimmedPatch}
+use Rattle.snippet_suggest.proofs.Common.{Edit, edit_of, in_order, trimmed_edits, AreApart, edit_bounds, original_bounds_of, trimmed_edit_of, first_start}
+use Rattle.snippet_suggest.proofs.Common.{trimmed-apart, apart-in_order, ordered-spans, none_given, PreparedSuggestion, edits_of, first_end, first_given}
+use Rattle.snippet_suggest.proofs.Common.{last_reached, last_removed, IsPrepared, first_original, first_original_end, rules}
 use Rattle.snippet_suggest.proofs.ReachLemmas.{reached, touched_last}
 use Rattle.snippet_suggest.proofs.SpanLemmas.{original_spans, trimmed_spans}
 use Rattle.snippet_suggest.proofs.PreparedLemmas.{first_original-start}

@@ -1,12 +1,10 @@
 -- Which lines a suggestion that is prepared shows as removed, and their texts.
-use Rattle.snippet_suggest.proofs.Common.{◌==◌, ◌≡◌, ℕ, zero, suc, ◌+◌, ◌-◌, ◌≤◌, Bool, true, if◌then◌else◌, List, []}
-use Rattle.snippet_suggest.proofs.Common.{◌∷◌, length, map, take, refl, sym, ap, ◌∙◌, arith, cow_str_bytes, range_with_len, bytes_eq, length-map}
-use Rattle.snippet_suggest.proofs.Common.{take-map, length-range_with_len, source_lines, text_at, line_of, LineInfo, table_entry, touched_entries, end_from}
-use Rattle.snippet_suggest.proofs.Common.{trimmed_edit_of, first_start, PreparedSuggestion, Diff, emptied_lines, first_given, given_lines, last_reached}
-use Rattle.snippet_suggest.proofs.Common.{lines_touched, removed_lines, replaced_lines, shown_kind, trimmed_of, Removes, SuggestionRow, texts_of_source}
-use Rattle.snippet_suggest.proofs.Common.{last_removed, texts_at, unless_stays, counted_from, numbered_at, removed_from, IsPrepared, first_original}
-use Rattle.snippet_suggest.proofs.Common.{first_original_end, is_touched, capped_sum, common_steps, rules}
-use Rattle.snippet_suggest.proofs.ByKind.{removed_of}
+use Rattle.snippet_suggest.proofs.Common.{◌==◌, ◌≡◌, ℕ, zero, suc, ◌+◌, ◌-◌, ◌≤◌, Bool, true, if◌then◌else◌, List, [], ◌∷◌, length, map, take, refl, sym, ap}
+use Rattle.snippet_suggest.proofs.Common.{◌∙◌, arith, cow_str_bytes, range_with_len, bytes_eq, length-map, take-map, length-range_with_len, source_lines}
+use Rattle.snippet_suggest.proofs.Common.{text_at, line_of, LineInfo, table_entry, touched_entries, end_from, trimmed_edit_of, first_start, PreparedSuggestion}
+use Rattle.snippet_suggest.proofs.Common.{Diff, emptied_lines, first_given, given_lines, last_reached, lines_touched, removed_lines, replaced_lines, trimmed_of}
+use Rattle.snippet_suggest.proofs.Common.{Removes, SuggestionRow, texts_of_source, last_removed, texts_at, unless_stays, counted_from, numbered_at}
+use Rattle.snippet_suggest.proofs.Common.{removed_from, IsPrepared, first_original, first_original_end, is_touched, capped_sum, common_steps, rules}
 use Rattle.snippet_suggest.proofs.KnownLemmas.{known_first_end, known_first_start}
 use Rattle.snippet_suggest.proofs.ReachLemmas.{touched_numbered, touched_texts}
 use Rattle.snippet_suggest.proofs.OrderLaws.{removed_row}
@@ -62,8 +60,7 @@ known_emptied_rows p is infos start end none starts ends are =
     let row : List (List ℕ) → ℕ → SuggestionRow = λ given k.
     Removes k (if length given == 0 then s.line_start + k else counted k) (text_at (source_lines source) k) in
     let ks : List ℕ = removed_lines s in
-    let lines : lines_touched source start end ≡ ks = known_emptied p is start end starts ends
-    ∙ ap (λ (given : List (List ℕ)). removed_of given (shown_kind s) (emptied_lines s) (replaced_lines s)) (sym none) in
+    let lines : lines_touched source start end ≡ ks = cc (known_emptied p is start end starts ends, none) in
     ap (removed_from a) (touched_numbered p.map infos start end are) ∙ range_removed own a n
     ∙ ap (λ m. map (λ k. Removes k (m.first + k) (text_at (source_lines m.text) k)) (lines_touched m.text start end)) is.lines
     ∙ ap (map (row [])) lines ∙ ap (λ (given : List (List ℕ)). map (row given) ks) (sym none)
@@ -108,12 +105,9 @@ known_replaced p is line infos start end one touches starts ends are reached =
     let stays : Bool = bytes_eq line (last_reached s) in
     let from : start ≡ first_start (trimmed_of s) = starts ∙ ap first_start is.edits in
     let to : end ≡ end_from 0 (trimmed_of s) = ends ∙ ap (end_from 0) is.edits in
-    let texts : texts_at infos ≡ texts_of_source s ks = touched_source p is infos start end are
-    ∙ ap (λ (n : ℕ). texts_of_source s (lines_touched source n end)) from
-    ∙ ap (λ (n : ℕ). texts_of_source s (lines_touched source (first_start (trimmed_of s)) n)) to in
+    let texts : texts_at infos ≡ texts_of_source s ks = cc (touched_source p is infos start end are, from, to) in
     let lines : replaced_lines s ≡ unless_stays stays ks = replaced_touched p is line one touches in
-    ap (λ (t : List ℕ). unless_stays (bytes_eq line t) (texts_at infos)) reached ∙ ap (unless_stays stays) texts
-    ∙ unless_stays-map stays (text_at (source_lines source)) ks ∙ ap (texts_of_source s) (sym lines)
+    cc (reached, texts, unless_stays-map stays (text_at (source_lines source)) ks, lines)
 
 -- the rows of those
 pub known_replaced_rows : (p : PreparedSuggestion) → IsPrepared p → (line : List ℕ) (infos : List LineInfo) (start end first : ℕ) → p.kind ≡ Diff

@@ -1,9 +1,8 @@
 -- What stands beside a removed line: its number, what a row that was there held, and the end of a long number.
 use Rattle.std.proofs.lemmas.Grind.{common_steps}
-use Rattle.snippet_suggest.proofs.Common.{◌≡◌, ◌⊎◌, true, ℕ, ◌-◌, ◌+◌, ◌^◌, ◌<◌, ◌≤◌, ◌%◌, List, [], All, length}
-use Rattle.snippet_suggest.proofs.Common.{replicate, refl, arith, inl, inr, decimal, decimal_by_steps, length-append, length-replicate, All-append, All-cons}
-use Rattle.snippet_suggest.proofs.Common.{All-nil, All-push, All-replicate, DecorStyle, set_right, shown_number, LineNumbers, Shown, Anonymized, Hidden}
-use Rattle.snippet_suggest.proofs.Common.{IsMarkOrSpace, IsOfNumber, is_stroke}
+use Rattle.snippet_suggest.proofs.Common.{◌≡◌, ◌⊎◌, true, ℕ, ◌-◌, ◌+◌, ◌^◌, ◌<◌, ◌≤◌, ◌%◌, List, [], All, length, replicate, refl, arith, inl, inr, decimal}
+use Rattle.snippet_suggest.proofs.Common.{decimal_by_steps, length-append, length-replicate, All-append, All-cons, All-nil, All-push, All-replicate, DecorStyle}
+use Rattle.snippet_suggest.proofs.Common.{set_right, shown_number, LineNumbers, Shown, Anonymized, Hidden, IsMarkOrSpace, IsOfNumber, is_stroke}
 
 -- what stands left of the sign of a line that is removed, and what may stand after its text
 abbrev pub IsBeforeSign : LineNumbers → DecorStyle → ℕ → Type 0

@@ -56,8 +56,7 @@ put_push role (d ∷ cs) c at row =
     let xs : List Cell = text_cells role (d ∷ cs) in
     let long : length (d ∷ cs) ≡ length xs = sym (length-text_cells role (d ∷ cs)) in
     let whole : xs ++ text_cells role (c ∷ []) ≡ text_cells role (d ∷ cs ++ c ∷ []) = sym (map-append (λ ch. unlinked_cell role ch) (d ∷ cs) (c ∷ [])) in
-    ap (λ n. written SPACE (written SPACE row at xs) (at + n) (text_cells role (c ∷ []))) long ∙ written_twice row at xs (unlinked_cell role c)
-    ∙ ap (written SPACE row at) whole
+    cc (long, written_twice row at xs (unlinked_cell role c), whole)
 
 replicate_push : (n c : ℕ) → replicate n c ++ c ∷ [] ≡ replicate (n + 1) c
 replicate_push n c = same_lists _ _ (grind (arith, places)) (λ k d h. grind (arith, places))

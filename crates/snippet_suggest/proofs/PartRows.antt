@@ -61,9 +61,7 @@ put_append role [] ys at row = let same : at ≡ at + 0 = omega arith in ap (λ 
 put_append role (x ∷ xs) [] at row = ap (λ t. put role t at row) (append-nil (x ∷ xs))
 put_append role (x ∷ xs) (y ∷ ys) at row =
     let front = text_cells role (x ∷ xs) in
-    let back = text_cells role (y ∷ ys) in
-    ap (λ t. written SPACE row at t) (text_cells-append role (x ∷ xs) (y ∷ ys)) ∙ written_append row front back at
-    ∙ ap (λ n. written SPACE (written SPACE row at front) (at + n) back) (length-text_cells role (x ∷ xs))
+    let back = text_cells role (y ∷ ys) in cc (text_cells-append role (x ∷ xs) (y ∷ ys), written_append row front back at, length-text_cells role (x ∷ xs))
 
 -- a text that takes a role was put in that role
 put_restyled : (role : ElementStyle) (cs : List ℕ) (at : ℕ) (row : List Cell)
@@ -72,9 +70,7 @@ unfolding put
 put_restyled role [] at row = grind (arith, empty_stretch)
 put_restyled role (c ∷ cs) at row =
     let f = restyled role true in
-    let cells = text_cells NoStyle (c ∷ cs) in
-    ap (λ n. changed_within f at (at + n) (written SPACE row at cells)) (sym (length-text_cells NoStyle (c ∷ cs))) ∙ changed_written f row cells at
-    ∙ ap (λ t. written SPACE row at t) (restyled_text role (c ∷ cs))
+    let cells = text_cells NoStyle (c ∷ cs) in cc (length-text_cells NoStyle (c ∷ cs), changed_written f row cells at, restyled_text role (c ∷ cs))
 
 -- what stands before a text takes a role before that is put or after
 put_after : (f : Cell → Cell) (role : ElementStyle) (cs : List ℕ) (n m : ℕ) (row : List Cell) → n ≤ m → m ≤ length row
@@ -89,8 +85,7 @@ put_after f role (c ∷ cs) n m row low within =
     let is : row ≡ front ++ middle ++ back = same_lists _ _ (grind (arith, places)) (λ k d h. grind (arith, places)) in
     let from : n ≡ length front = omega (arith, length-take n row) in
     let to : m ≡ length front + length middle = omega (arith, from, length-take (m - n) (drop n row), length-drop n row) in
-    ap (λ r. changed_within f n m (written SPACE r m cells)) is ∙ changed_before f front middle back cells n m from to
-    ∙ ap (λ r. written SPACE r m cells) (sym (ap (changed_within f n m) is ∙ changed_middle f front middle back n m from to))
+    cc (is, changed_before f front middle back cells n m from to, changed_middle f front middle back n m from to)
 
 put_long : (role : ElementStyle) (c : ℕ) (cs : List ℕ) (at : ℕ) (row : List Cell) → at + length (c ∷ cs) ≤ length (put role (c ∷ cs) at row)
 unfolding put
@@ -103,26 +98,12 @@ put_nothing role at row = refl
 -- three texts that are put one after another, the middle one in a role: as they are put at once, and then it takes the role
 parts_put : (role : ElementStyle) (pre mid post : List ℕ) (at s e : ℕ) (row : List Cell) → s ≡ at + length pre → e ≡ s + length mid
     → changed_within (restyled role true) s e (put NoStyle (pre ++ mid ++ post) at row) ≡ put NoStyle post e (put role mid s (put NoStyle pre at row))
-parts_put role pre mid post at s e row from to =
-    let f = restyled role true in
-    let start = put NoStyle pre at row in
-    let far : at + length (pre ++ mid) ≡ e = omega (arith, from, to, length-append pre mid) in
-    let whole : put NoStyle (pre ++ mid ++ post) at row ≡ put NoStyle post e (put NoStyle mid s start) = put_append NoStyle (pre ++ mid) post at row
-    ∙ ap (λ n. put NoStyle post n (put NoStyle (pre ++ mid) at row)) far ∙ ap (λ r. put NoStyle post e r) (put_append NoStyle pre mid at row
-    ∙ ap (λ n. put NoStyle mid n start) (sym from)) in
-    ap (changed_within f s e) whole ∙ by_middle mid start to
+parts_put role pre mid post at s e row from to = grind (arith, common_steps, length-append, put_append, by_middle)
   where
     by_middle : (mid : List ℕ) (start : List Cell) → e ≡ s + length mid
         → changed_within (restyled role true) s e (put NoStyle post e (put NoStyle mid s start)) ≡ put NoStyle post e (put role mid s start)
-    by_middle [] start to =
-        let same : e ≡ s = omega (arith, to) in
-        ap (λ n. changed_within (restyled role true) s n (put NoStyle post e (put NoStyle [] s start))) same
-        ∙ empty_stretch (restyled role true) s (put NoStyle post e (put NoStyle [] s start))
-        ∙ ap (λ r. put NoStyle post e r) (put_nothing NoStyle s start ∙ sym (put_nothing role s start))
-    by_middle (c ∷ cs) start to =
-        let f = restyled role true in
-        put_after f NoStyle post s e (put NoStyle (c ∷ cs) s start) (omega (arith, to)) (omega (arith, to, put_long NoStyle c cs s start))
-        ∙ ap (λ r. put NoStyle post e r) (ap (λ n. changed_within f s n (put NoStyle (c ∷ cs) s start)) to ∙ put_restyled role (c ∷ cs) s start)
+    by_middle [] start to = grind (arith, common_steps, empty_stretch, put_nothing)
+    by_middle (c ∷ cs) start to = grind (arith, common_steps, put_after, put_long, put_restyled)
 
 -- ---- printable ASCII
 

@@ -1,10 +1,9 @@
 -- Laws of what is known of a suggestion before any row is drawn.
-use Rattle.snippet_suggest.proofs.Common.{◌≡◌, ◌≢◌, ℕ, ◌+◌, ◌<◌, ◌≤◌, ◌^◌, Bool, if◌then◌else◌, Some, List, [], ◌∷◌}
-use Rattle.snippet_suggest.proofs.Common.{length, map, refl, arith, cond_both, length-map, cow_str_bytes, slice_get, Source, lines_of, source_lines}
-use Rattle.snippet_suggest.proofs.Common.{newline_count, line_of, length-source_lines, line_of-within, Patch, Snippet, TrimmedPatch, Edit, edit_of, in_order}
-use Rattle.snippet_suggest.proofs.Common.{trimmed_edits, first_start, texts_of, edit_bounds, original_bounds_of, trimmed_edit_of, none_given, DisplaySuggestion}
-use Rattle.snippet_suggest.proofs.Common.{counted_line, edits_of, first_end, first_given, given_text, shown_kind, trimmed_of, numbered_source, IsSuggestible}
-use Rattle.snippet_suggest.proofs.Common.{first_original, rules}
+use Rattle.snippet_suggest.proofs.Common.{◌≡◌, ◌≢◌, ℕ, ◌+◌, ◌<◌, ◌≤◌, ◌^◌, Bool, if◌then◌else◌, Some, List, [], ◌∷◌, length, map, refl, arith, cond_both}
+use Rattle.snippet_suggest.proofs.Common.{length-map, cow_str_bytes, slice_get, Source, lines_of, source_lines, newline_count, line_of, length-source_lines}
+use Rattle.snippet_suggest.proofs.Common.{line_of-within, Patch, Snippet, TrimmedPatch, Edit, edit_of, in_order, trimmed_edits, first_start, texts_of}
+use Rattle.snippet_suggest.proofs.Common.{edit_bounds, original_bounds_of, trimmed_edit_of, none_given, DisplaySuggestion, counted_line, edits_of, first_end}
+use Rattle.snippet_suggest.proofs.Common.{first_given, given_text, shown_kind, trimmed_of, numbered_source, IsSuggestible, first_original, rules}
 use Rattle.snippet_lines.specs.Lines.{Line}
 use Rattle.snippet_suggest.proofs.ByKind.{counted_folded}
 

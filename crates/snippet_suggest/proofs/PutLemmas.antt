@@ -99,9 +99,7 @@ begun_in_order layout glyph number role signed digits r old one new here role_is
     let second = put_begun k sign at r old first.tail one new (glyph_some layout.base.decor glyph) here first.is first.few
     (signs ∙ ap (λ (t : ElementStyle). cells_written one r at (text_cells t (chars signed))) role_is
     ∙ ap (λ (cs : List ℕ). cells_written one r at (text_cells k cs)) sign_is) in
-    second ∙ ap (λ (row : List Cell). old ++ put k sign at row ∷ []) first.row_is
-    ∙ ap (λ (row : List Cell). old ++ row ∷ []) (put_swap k LineNumber sign (chars digits) at (omega (arith, few, length-chars_le digits)))
-    ∙ ap (λ (cs : List ℕ). old ++ put LineNumber cs 0 (put k sign at []) ∷ []) digits_are
+    cc (second, first.row_is, put_swap k LineNumber sign (chars digits) at (omega (arith, few, length-chars_le digits)), digits_are)
 
 -- the same where the number is put over the glyph
 pub begun_over : (layout : SuggestionLayout) (glyph : SuggestionGlyph) (number : ℕ) (role : ElementStyle)
@@ -194,9 +192,7 @@ shown_is layout text k glyph number line new sign numbers lines stretches = grin
 -- writing so many rows below all
 skipped_written : (rows : List (List Cell)) (skipped at : ℕ) (cells : List Cell)
     → cells_written rows (length rows + skipped) at cells ≡ rows ++ (replicate skipped [] ++ written SPACE [] at cells ∷ [])
-skipped_written rows skipped at cells =
-    ap (λ (row : List Cell). written [] rows (length rows + skipped) (written SPACE row at cells ∷ []))
-    (get_or_past rows (length rows + skipped) [] (omega arith)) ∙ filled (written SPACE [] at cells)
+skipped_written rows skipped at cells = grind (arith, common_steps, get_or_past, filled)
   where
     filled : (row : List Cell) → written [] rows (length rows + skipped) (row ∷ []) ≡ rows ++ (replicate skipped [] ++ row ∷ [])
     filled row = same_lists _ _ (unfold written in grind (arith, places)) (λ k d h. unfold written in grind (arith, places))

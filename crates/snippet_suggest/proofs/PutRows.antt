@@ -1,10 +1,9 @@
 -- What a row holds once characters were put into it.
-use Rattle.snippet_suggest.proofs.Common.{◌≡◌, ◌≢◌, ℕ, zero, suc, ◌+◌, ◌-◌, ◌<◌, ◌≤◌, false, All, List, [], ◌∷◌, ◌++◌}
-use Rattle.snippet_suggest.proofs.Common.{length, take, drop, replicate, refl, sym, arith, inl, inr, subst, slice_index_or, cases_lt, append-nil, drop_all}
-use Rattle.snippet_suggest.proofs.Common.{get_or_past, places, same_lists, take_at, ElementStyle, Cell, SPACE, text_cells, unlinked_cell, written}
-use Rattle.snippet_suggest.proofs.Common.{All-text_cells, drop-written, length-text_cells, length-written, slice_index_or-written_after}
-use Rattle.snippet_suggest.proofs.Common.{slice_index_or-written_before, slice_index_or-written_inside, written-nil, row_text, row_text-text_cells, free_drawn}
-use Rattle.snippet_suggest.proofs.Common.{free_written, IsFree, is_listed, put, common_steps}
+use Rattle.snippet_suggest.proofs.Common.{◌≡◌, ◌≢◌, ℕ, zero, suc, ◌+◌, ◌-◌, ◌<◌, ◌≤◌, false, All, List, [], ◌∷◌, ◌++◌, length, take, drop, replicate, refl, sym}
+use Rattle.snippet_suggest.proofs.Common.{arith, inl, inr, subst, slice_index_or, cases_lt, append-nil, drop_all, get_or_past, places, same_lists, take_at}
+use Rattle.snippet_suggest.proofs.Common.{ElementStyle, Cell, SPACE, text_cells, unlinked_cell, written, All-text_cells, drop-written, length-text_cells}
+use Rattle.snippet_suggest.proofs.Common.{length-written, slice_index_or-written_after, slice_index_or-written_before, slice_index_or-written_inside}
+use Rattle.snippet_suggest.proofs.Common.{written-nil, row_text, row_text-text_cells, free_drawn, free_written, IsFree, is_listed, put, common_steps}
 
 -- the character of a cell
 pub ch_at : (row : List Cell) (c : ℕ) → (slice_index_or row c SPACE).ch ≡ slice_index_or (row_text row) c 32
@@ -22,9 +21,7 @@ cell_after_write P row at c cells there all =
           elim (cases_lt c (at + length cells)) [
             | inl inside ↦
                 let here : at + (c - at) ≡ c = omega arith in
-                let within : c - at < length cells = omega arith in
-                subst (λ (k : ℕ). P (slice_index_or (written SPACE row at cells) k SPACE)) here
-                (subst P (sym (slice_index_or-written_inside SPACE row at cells (c - at) SPACE within)) (all (c - at) SPACE within))
+                let within : c - at < length cells = omega arith in grind (arith, common_steps, slice_index_or-written_inside, here, within)
             | inr after ↦ subst P (sym (slice_index_or-written_after SPACE row at cells c SPACE after)) there
           ]
     ]

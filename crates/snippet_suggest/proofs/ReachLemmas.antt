@@ -1,5 +1,5 @@
 -- The last line that edits reach, and the lines that are removed up to it.
-use Rattle.snippet_suggest.proofs.Common.{◌≡◌, ℕ, zero, suc, ◌+◌, ◌-◌, ◌<◌, ◌≤◌, max, min, List, [], ◌∷◌, fold, get_or, length}
+use Rattle.snippet_suggest.proofs.Common.{◌≡◌, ℕ, zero, suc, ◌+◌, ◌-◌, ◌<◌, ◌≤◌, max, min, List, [], ◌∷◌, fold, get_or, length, common_steps}
 use Rattle.snippet_suggest.proofs.Common.{map, refl, ap, ◌∙◌, arith, get_or-map, length-map, get_or-range_with_len, length-range_with_len, range_with_len}
 use Rattle.snippet_suggest.proofs.Common.{Source, source_lines, text_at, line_of, length-source_lines, line_of-mono, LineInfo, LineEntry, entry_at, table_entry}
 use Rattle.snippet_suggest.proofs.Common.{touched_entries, TrimmedPatch, end_from, Edit, trimmed_edits, AreApart, trimmed_edit_of, first_start}
@@ -66,10 +66,7 @@ touched_some s infos start end ordered are = grind (arith, touched_count, lines_
 -- their texts
 pub touched_texts : (s : Source) (infos : List LineInfo) (start end : ℕ) → map table_entry infos ≡ touched_entries s start end
     → texts_at infos ≡ map (text_at (source_lines s.text)) (lines_touched s.text start end)
-touched_texts s infos start end are =
-    let ls = source_lines s.text in
-    let text : LineEntry → List ℕ = λ e. e.text in
-    own infos ∙ ap (map text) are ∙ theirs (lines_touched s.text start end)
+touched_texts s infos start end are = grind (arith, common_steps, own, theirs)
   where
     own : (is : List LineInfo) → texts_at is ≡ map (λ (e : LineEntry). e.text) (map table_entry is)
     own [] = refl
@@ -82,9 +79,7 @@ touched_texts s infos start end are =
 -- their numbers and texts
 pub touched_numbered : (s : Source) (infos : List LineInfo) (start end : ℕ) → map table_entry infos ≡ touched_entries s start end
     → numbered_at infos ≡ map {B = ℕ × List ℕ} (λ k. (s.first + k, text_at (source_lines s.text) k)) (lines_touched s.text start end)
-touched_numbered s infos start end are =
-    let line : LineEntry → ℕ × List ℕ = λ e. (e.number, e.text) in
-    own infos ∙ ap (map line) are ∙ theirs (lines_touched s.text start end)
+touched_numbered s infos start end are = grind (arith, common_steps, own, theirs)
   where
     own : (is : List LineInfo) → numbered_at is ≡ map {B = ℕ × List ℕ} (λ (e : LineEntry). (e.number, e.text)) (map table_entry is)
     own [] = refl

@@ -1,11 +1,11 @@
 -- A row whose cells get other roles shows what it showed.
-use Rattle.snippet_suggest.proofs.Common.{◌≡◌, ℕ, ◌+◌, ◌<◌, true, false, Option, None, List, ◌∷◌, [], length, take, drop, map, get_or}
-use Rattle.snippet_suggest.proofs.Common.{refl, sym, ap, ◌∙◌, arith, subst, ◌++◌, ◌-◌, max, drop-map, length-map, map-append, places, same_lists}
-use Rattle.snippet_suggest.proofs.Common.{take-map, is_listed, norm, DecorStyle, is_ascii_alphanumeric, Cell, SPACE, ElementStyle, changed_within, restyled}
-use Rattle.snippet_suggest.proofs.Common.{row_text, IsFree, shown_number, LineNumbers, SuggestionLayout, Begins, Empty, Ends, Offers, Removes, Skips}
-use Rattle.snippet_suggest.proofs.Common.{SuggestionRow, IsBareRow, IsRemovedRow, char_of, removed_sign_of, IsMarkOrSpace, IsSign, begin_glyph, beside_gutter}
-use Rattle.snippet_suggest.proofs.Common.{end_glyph, gap_left, is_stroke, IsLineRow, IsEdgeRow, Shows, capped_sum}
 use Rattle.std.proofs.Common.{chars}
+use Rattle.snippet_suggest.proofs.Common.{norm, shown_number, capped_sum, ◌≡◌, ℕ, ◌+◌, ◌<◌, true, false, Option, None, List, ◌∷◌, [], length, take, drop, map}
+use Rattle.snippet_suggest.proofs.Common.{get_or, refl, sym, ap, ◌∙◌, arith, subst, ◌++◌, ◌-◌, max, drop-map, length-map, map-append, places, same_lists}
+use Rattle.snippet_suggest.proofs.Common.{take-map, is_listed, DecorStyle, is_ascii_alphanumeric, Cell, SPACE, ElementStyle, changed_within, restyled, row_text}
+use Rattle.snippet_suggest.proofs.Common.{IsFree, LineNumbers, SuggestionLayout, Begins, Empty, Ends, Offers, Removes, Skips, SuggestionRow, IsBareRow}
+use Rattle.snippet_suggest.proofs.Common.{IsRemovedRow, char_of, removed_sign_of, IsMarkOrSpace, IsSign, begin_glyph, beside_gutter, end_glyph, gap_left}
+use Rattle.snippet_suggest.proofs.Common.{is_stroke, IsLineRow, IsEdgeRow, Shows}
 use Rattle.std.proofs.Math.ListN.{get_or-map}
 use Rattle.snippet_suggest.proofs.LeftOver.{IsBeforeSign, IsLeftOver}
 

@@ -37,9 +37,7 @@ rising_from_by : (touched : ℕ → Bool) (from k left : ℕ) (is : Bool) → fr
     (numbers_shown (if is then shown_run from k ++ (Line k ∷ shown_from touched (k + 1) (k + 1) left) else shown_from touched from (k + 1) left))
 rising_from_by touched from k left false ordered shown waiting = waiting
 rising_from_by touched from k left true ordered shown waiting =
-    let rest = Line k ∷ shown_from touched (k + 1) (k + 1) left in
-    subst (AreRising from (k + 1 + left)) (sym (filter_map-append number_of (shown_run from k) rest))
-    (rising_append from k (k + 1 + left) (numbers_shown (shown_run from k)) (numbers_shown rest) (rising_run from k ordered) (omega arith, shown))
+    let rest = Line k ∷ shown_from touched (k + 1) (k + 1) left in search (rules, filter_map-append, rising_append, rising_run, rest)
 
 rising_from : (touched : ℕ → Bool) (from k left : ℕ) → from ≤ k → AreRising from (k + left) (numbers_shown (shown_from touched from k left))
 rising_from touched from k zero ordered = omega (arith, ordered)

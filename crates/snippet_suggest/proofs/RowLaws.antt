@@ -1,15 +1,14 @@
 -- What each row of a suggestion shows, by the cells that it holds.
-use Rattle.snippet_suggest.proofs.Common.{◌≡◌, ℕ, ◌+◌, ◌-◌, ◌^◌, ◌<◌, ◌≤◌, Bool, true, false, if◌then◌else◌, min, nat_le}
-use Rattle.snippet_suggest.proofs.Common.{All, List, [], ◌∷◌, ◌++◌, length, map, replicate, refl, sym, ap, ◌∙◌, arith, inl, inr, subst}
-use Rattle.snippet_suggest.proofs.Common.{is_ascii_alphanumeric, list_all, list_any, slice_index_or, All-replicate, DecorStyle, Ascii, Unicode, SuggestionGlyph}
-use Rattle.snippet_suggest.proofs.Common.{ElementStyle, Addition, LineNumber, NoStyle, Removal, Cell, SPACE, placeholder_of, removed_sign_of}
-use Rattle.snippet_suggest.proofs.Common.{suggestion_glyph_of, suggestion_role_of, changed_within, restyled, separator_cell, row_text, is_listed, norm}
-use Rattle.snippet_suggest.proofs.Common.{width_of, list_any-norm, Source, shown_number, shown_number_unlisted, each_fails, Edit, SubstitutionHighlight}
-use Rattle.snippet_suggest.proofs.Common.{DisplaySuggestion, SuggestionLayout, SuggestionStart, Next, Opening, Path, PatchColumns, begin_cells, end_cells}
-use Rattle.snippet_suggest.proofs.Common.{gap_cells, line_cells, offered_cells, put, removed_cells, sign_alone, sign_among, sign_of, stretch_cell}
-use Rattle.snippet_suggest.proofs.Common.{with_stretches, max_column, edit_columns, mark_glyph_of, mark_start, patch_mark_end, with_mark, with_marks, IsBareRow}
-use Rattle.snippet_suggest.proofs.Common.{IsMarkOrSpace, IsSign, begin_glyph, beside_gutter, end_glyph, gap_left, is_stroke, IsEdgeRow, IsLineRow}
-use Rattle.snippet_suggest.proofs.Common.{IsRowOfRemoved, IsUnder, common_steps, rules}
+use Rattle.snippet_suggest.proofs.Common.{◌≡◌, ℕ, ◌+◌, ◌-◌, ◌^◌, ◌<◌, ◌≤◌, Bool, true, false, if◌then◌else◌, min, nat_le, All, List, [], ◌∷◌, ◌++◌, length, map}
+use Rattle.snippet_suggest.proofs.Common.{replicate, refl, sym, ap, ◌∙◌, arith, inl, inr, subst, is_ascii_alphanumeric, list_all, list_any, slice_index_or}
+use Rattle.snippet_suggest.proofs.Common.{All-replicate, DecorStyle, Ascii, Unicode, SuggestionGlyph, ElementStyle, Addition, LineNumber, NoStyle, Removal}
+use Rattle.snippet_suggest.proofs.Common.{Cell, SPACE, placeholder_of, removed_sign_of, suggestion_glyph_of, suggestion_role_of, changed_within, restyled}
+use Rattle.snippet_suggest.proofs.Common.{separator_cell, row_text, is_listed, norm, width_of, list_any-norm, Source, shown_number, shown_number_unlisted}
+use Rattle.snippet_suggest.proofs.Common.{each_fails, Edit, SubstitutionHighlight, DisplaySuggestion, SuggestionLayout, SuggestionStart, Next, Opening, Path}
+use Rattle.snippet_suggest.proofs.Common.{PatchColumns, begin_cells, end_cells, gap_cells, line_cells, offered_cells, put, removed_cells, sign_alone}
+use Rattle.snippet_suggest.proofs.Common.{sign_among, sign_of, stretch_cell, with_stretches, max_column, edit_columns, mark_glyph_of, mark_start}
+use Rattle.snippet_suggest.proofs.Common.{patch_mark_end, with_mark, with_marks, IsBareRow, IsMarkOrSpace, IsSign, begin_glyph, beside_gutter, end_glyph}
+use Rattle.snippet_suggest.proofs.Common.{gap_left, is_stroke, IsEdgeRow, IsLineRow, IsRowOfRemoved, IsUnder, common_steps, rules}
 use Rattle.std.proofs.Common.{chars}
 use Rattle.snippet_style.specs.declared.glyphs.SuggestionGlyph.TheVariants as sign
 use Rattle.snippet_suggest.proofs.BareLemmas.{stroke_blank, stroke_led, stroke_none, stroke_put}
@@ -135,10 +134,8 @@ removed_shows layout role number line under small bare =
       before = λ c left. subst Before (sym (put_before role text (g + 3) c signed (omega (arith, left))
           ∙ put_before Removal removed (g + 1) c numbered (omega (arith, left))))
           (put_cell Before LineNumber digits 0 c under (inl (bare.strokes c (omega (arith, left)))) (number_before decor layout.numbers g number small));
-      minus = ap (λ (cell : Cell). cell.ch) (put_before role text (g + 3) (g + 1) signed (omega arith))
-          ∙ put_inside Removal removed (g + 1) (g + 1) 0 numbered (omega arith) (omega arith);
-      space = ap (λ (cell : Cell). cell.ch) (put_before role text (g + 3) (g + 2) signed (omega arith))
-          ∙ put_inside Removal removed (g + 1) (g + 2) 1 numbered (omega arith) (omega arith);
+      minus = cc (put_before role text (g + 3) (g + 1) signed (omega arith), put_inside Removal removed (g + 1) (g + 1) 0 numbered (omega arith) (omega arith));
+      space = cc (put_before role text (g + 3) (g + 2) signed (omega arith), put_inside Removal removed (g + 1) (g + 2) 1 numbered (omega arith) (omega arith));
       begins = put_stands role text (g + 3) signed;
       after = grind (arith, common_steps, Left, put_after, text, g, signed, removed, numbered, left_over, bare.marks);
       free = put_free role text (g + 3) signed (put_free Removal removed (g + 1) numbered (put_free LineNumber digits 0 under bare.free

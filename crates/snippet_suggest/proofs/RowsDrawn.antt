@@ -1,10 +1,9 @@
 -- Rows that are drawn one below the other, as values.
-use Rattle.snippet_suggest.proofs.Common.{◌≡◌, ℕ, ◌+◌, ◌-◌, ◌<◌, ◌≤◌, Bool, true, false, List, [], ◌∷◌, ◌++◌, length, map}
-use Rattle.snippet_suggest.proofs.Common.{take, drop, get_or, refl, sym, ap, ◌∙◌, ◌||◌, arith, append_assoc, bytes_eq, cond-false, cond-true, or-true}
-use Rattle.snippet_suggest.proofs.Common.{Cell, NoStyle, Removal, row_at, LineInfo, SuggestionLayout, left_out_cells, offered_cells, on_last, removed_cells}
-use Rattle.snippet_suggest.proofs.Common.{with_stretches, SubstitutionHighlight, Diff, is_left_out, is_blank_text, diff_cells, emptied_cells, gone_of}
-use Rattle.snippet_suggest.proofs.Common.{taken_cells, last_removed, unless_stays, numbered_at, append-nil, drop_all, drop_more, length-map, length-take}
-use Rattle.snippet_suggest.proofs.Common.{map-append, take_all, take_more, capped_sum, common_steps}
+use Rattle.snippet_suggest.proofs.Common.{◌≡◌, ℕ, ◌+◌, ◌-◌, ◌<◌, ◌≤◌, Bool, true, false, List, [], ◌∷◌, ◌++◌, length, map, take, drop, get_or, refl, sym, ap}
+use Rattle.snippet_suggest.proofs.Common.{◌∙◌, ◌||◌, arith, append_assoc, bytes_eq, cond-false, cond-true, or-true, Cell, NoStyle, Removal, row_at, LineInfo}
+use Rattle.snippet_suggest.proofs.Common.{SuggestionLayout, left_out_cells, offered_cells, on_last, removed_cells, with_stretches, SubstitutionHighlight, Diff}
+use Rattle.snippet_suggest.proofs.Common.{is_left_out, is_blank_text, diff_cells, emptied_cells, gone_of, taken_cells, last_removed, unless_stays, numbered_at}
+use Rattle.snippet_suggest.proofs.Common.{append-nil, drop_all, drop_more, length-map, length-take, map-append, take_all, take_more, capped_sum, common_steps}
 use Rattle.std.proofs.Common.{chars}
 use mir.Val.{bool_byte}
 use Rattle.std.proofs.Math.ListN.{get_or-map}
@@ -13,10 +12,7 @@ use Rattle.snippet_suggest.proofs.StretchRows.{with_none}
 -- one row more for each of some items
 pub drawn_next : {A : Type 0} (f : A → List Cell) (xs : List A) (i : ℕ) (d : A) (old now new : List (List Cell)) → i < length xs
     → now ≡ old ++ map f (take i xs) → new ≡ now ++ f (get_or xs i d) ∷ [] → new ≡ old ++ map f (take (i + 1) xs)
-drawn_next {A} f xs i d old now new within is adds =
-    let one : List (List Cell) = f (get_or xs i d) ∷ [] in
-    let more : map f (take (i + 1) xs) ≡ map f (take i xs) ++ one = ap (map f) (take_more xs i d within) ∙ map-append f (take i xs) (get_or xs i d ∷ []) in
-    adds ∙ ap (λ rows. rows ++ one) is ∙ append_assoc old (map f (take i xs)) one ∙ ap (λ rows. old ++ rows) (sym more)
+drawn_next {A} f xs i d old now new within is adds = grind (arith, common_steps, take_more, map-append, append_assoc)
 
 -- ---- lines that are removed with nothing in their place
 
@@ -89,10 +85,7 @@ taken-append : (layout : SuggestionLayout) (first : ℕ) (replaced : ℕ → Lis
     ≡ taken_cells layout first replaced k infos ++ with_stretches Removal layout.base.gutter (chars info.line.now) (replaced (info.line_index - first))
     (removed_cells layout NoStyle (capped_sum first (k + length infos)) info.line.now []) ∷ []
 unfolding taken_cells
-taken-append layout first replaced k [] info =
-    let here : k ≡ k + 0 = omega arith in
-    ap (λ n. with_stretches Removal layout.base.gutter (chars info.line.now) (replaced (info.line_index - first))
-    (removed_cells layout NoStyle (capped_sum first n) info.line.now []) ∷ []) here
+taken-append layout first replaced k [] info = grind (arith, common_steps)
 taken-append layout first replaced k (one ∷ infos) info = grind (arith, common_steps, taken-append layout first replaced (k + 1) infos info)
 
 -- before any removed line is taken no row is added

@@ -1,6 +1,6 @@
 -- Which lines are shown, one line after another.
-use Rattle.snippet_suggest.proofs.Common.{◌≡◌, ℕ, suc, ◌+◌, ◌-◌, ◌<◌, Bool, true, false, List, [], ◌∷◌, ◌++◌, if◌then◌else◌}
-use Rattle.snippet_suggest.proofs.Common.{sym, ap, ◌∙◌, arith, append_assoc, map, SuggestionLine, Line, shown_run, shown_from, range_with_len}
+use Rattle.snippet_suggest.proofs.Common.{◌≡◌, ℕ, suc, ◌+◌, ◌-◌, ◌<◌, Bool, true, false, List, [], ◌∷◌, ◌++◌}
+use Rattle.snippet_suggest.proofs.Common.{arith, append_assoc, map, SuggestionLine, Line, shown_run, shown_from, range_with_len}
 
 -- the lines of a run from one to before another
 abbrev pub run_of : ℕ → ℕ → List SuggestionLine
@@ -10,9 +10,7 @@ run_of from to = map Line (range_with_len from (to - from))
 pub run_step : (done new all : List SuggestionLine) (line to : ℕ) → line < to → new ≡ done ++ Line line ∷ [] → done ++ run_of line to ≡ all
     → new ++ run_of (line + 1) to ≡ all
 run_step done new all line to below pushed is =
-    let left : to - line ≡ suc (to - (line + 1)) = omega arith in
-    ap (λ xs. xs ++ run_of (line + 1) to) pushed ∙ append_assoc done (Line line ∷ []) (run_of (line + 1) to)
-    ∙ sym (ap (λ n. done ++ map Line (range_with_len line n)) left) ∙ is
+    let left : to - line ≡ suc (to - (line + 1)) = omega arith in cc (pushed, append_assoc done (Line line ∷ []) (run_of (line + 1) to), left, is)
 
 -- what is still to come, where the line is touched, and where it isn't
 pub touched_step : (touched : ℕ → Bool) (done mid new all : List SuggestionLine) (after line count : ℕ) → line < count → touched line ≡ true
@@ -25,6 +23,4 @@ pub untouched_step : (touched : ℕ → Bool) (done all : List SuggestionLine) (
     → done ++ shown_from touched after line (count - line) ≡ all → done ++ shown_from touched after (line + 1) (count - (line + 1)) ≡ all
 untouched_step touched done all after line count below holds is =
     let left : count - line ≡ suc (count - (line + 1)) = omega arith in
-    let rest = shown_from touched (line + 1) (line + 1) (count - (line + 1)) in
-    sym (ap (λ b. done ++ (if b then shown_run after line ++ (Line line ∷ rest) else shown_from touched after (line + 1) (count - (line + 1)))) holds)
-    ∙ sym (ap (λ n. done ++ shown_from touched after line n) left) ∙ is
+    cc (holds, left, is)

@@ -1,6 +1,6 @@
 -- Spans of a source that are taken.
-use Rattle.snippet_suggest.proofs.Common.{◌≡◌, ℕ, ◌+◌, ◌-◌, ◌≤◌, min, ◌&&◌, ltb, leb, Option, Some, None, List, [], ◌∷◌, All}
-use Rattle.snippet_suggest.proofs.Common.{drop, get_or, length, map, inl, refl, sym, arith, subst, slice_range, IsCharBoundary, IsUtf8, and_parts, cond_both}
+use Rattle.snippet_suggest.proofs.Common.{◌≡◌, ℕ, ◌+◌, ◌-◌, ◌≤◌, min, Option, Some, None, List, [], ◌∷◌, All, common_steps}
+use Rattle.snippet_suggest.proofs.Common.{drop, get_or, length, map, sym, arith, subst, slice_range, IsCharBoundary, IsUtf8, and_parts, cond_both}
 use Rattle.snippet_suggest.proofs.Common.{leb-true, get_or-drop, get_or-take, length-drop, length-take-le, All-head, All-map, All-tail, IsCharBoundary-end}
 use Rattle.snippet_suggest.proofs.Common.{IsCharBoundary-start, IsSpan, IsSpanBorder, All-put_in, All-unmapped, TrimmedPatch, Edit, in_order, precedes, shrunk}
 use Rattle.snippet_suggest.proofs.Common.{trimmed_edit, trimmed_edits, edit_bounds, original_bounds_of, trimmed_edit_of, sandwich, sandwich-sandwiched}
@@ -21,12 +21,7 @@ border_inside source start end before ordered within to border = grind (arith, l
 -- a trimmed edit's span is taken where the untrimmed one's is
 edit_span : (source : List ℕ) (e : Edit) → IsSpan source e.start e.end → IsSpan source (trimmed_edit source e).start (trimmed_edit source e).end
 unfolding trimmed_edit
-edit_span source e span =
-    let Taken : Edit → Type 0 = λ t. IsSpan source t.start t.end in
-    cond_both (ltb 0 (length e.text) && leb e.end (length source)) (shrunk e (sandwich (slice_range source e.start e.end) e.text)) e Taken
-    (λ t. kept (sandwich (slice_range source e.start e.end) e.text)
-    (leb-true e.end (length source) (and_parts (ltb 0 (length e.text)) (leb e.end (length source)) t).1) refl)
-    (λ _. span)
+edit_span source e span = grind (arith, common_steps, cond_both, kept, leb-true, and_parts)
   where
     kept : (r : Option (ℕ × List ℕ × ℕ)) → e.end ≤ length source → sandwich (slice_range source e.start e.end) e.text ≡ r
         → IsSpan source (shrunk e r).start (shrunk e r).end
@@ -37,12 +32,7 @@ edit_span source e span =
         (omega (arith, length-drop e.start source)) in
         let here : e.start + k.0 ≡ e.end - k.2 = omega (arith, h.parts, size, span.ordered) in
         let border : IsCharBoundary source (e.start + k.0) = border_inside source e.start e.end k.0 span.ordered within span.to h.border in
-        record {
-          ordered = omega arith;
-          within = omega (arith, border.0);
-          from = inl border;
-          to = inl (subst (IsCharBoundary source) here border);
-        }
+        grind (arith, common_steps, border, here)
 
 -- spans are taken in whatever order
 pub spans_in_order : (source : List ℕ) (es : List Edit) → All (λ e. IsSpan source e.start e.end) es → All (λ e. IsSpan source e.start e.end) (in_order es)

@@ -1,11 +1,10 @@
 -- What is drawn of a suggestion is its value.
-use Rattle.snippet_suggest.proofs.Common.{◌≡◌, ◌≢◌, ℕ, zero, suc, ◌+◌, ◌-◌, ◌^◌, ◌<◌, ◌≤◌, Bool, true, false, List, []}
-use Rattle.snippet_suggest.proofs.Common.{◌∷◌, ◌++◌, length, map, get_or, refl, sym, ap, ◌∙◌, ◌&&◌, arith, append_assoc, take, inl, inr}
-use Rattle.snippet_suggest.proofs.Common.{if◌then◌else◌, append-nil, length-map, map-append, take-map, get_or-map-range_with_len, length-range_with_len}
-use Rattle.snippet_suggest.proofs.Common.{cow_str_bytes, cases_Bool, cond-false, cond-true, range_with_len, bytes_eq, Snippet, Patch, LineInfo, Cell, NoStyle}
-use Rattle.snippet_suggest.proofs.Common.{Removal, last_line_reached, SubstitutionHighlight, DisplaySuggestion, Diff, Underline, SuggestionLayout}
-use Rattle.snippet_suggest.proofs.Common.{SuggestionStart, SuggestionLine, Gap, Line, begin_cells, end_cells, left_out_cells, offered_cells, on_last}
-use Rattle.snippet_suggest.proofs.Common.{removed_cells, with_stretches, edits_of, first_given, given_lines, given_ranges, is_left_out, last_reached}
+use Rattle.snippet_suggest.proofs.Common.{◌≡◌, ◌≢◌, ℕ, zero, suc, ◌+◌, ◌-◌, ◌^◌, ◌<◌, ◌≤◌, Bool, true, false, List, [], ◌∷◌, ◌++◌, length, map, get_or, refl}
+use Rattle.snippet_suggest.proofs.Common.{sym, ap, ◌∙◌, ◌&&◌, arith, append_assoc, take, inl, inr, if◌then◌else◌, append-nil, length-map, map-append, take-map}
+use Rattle.snippet_suggest.proofs.Common.{get_or-map-range_with_len, length-range_with_len, cow_str_bytes, cases_Bool, cond-false, cond-true, range_with_len}
+use Rattle.snippet_suggest.proofs.Common.{bytes_eq, Snippet, Patch, LineInfo, Cell, NoStyle, Removal, last_line_reached, SubstitutionHighlight, Diff, Underline}
+use Rattle.snippet_suggest.proofs.Common.{SuggestionLayout, SuggestionStart, SuggestionLine, Gap, Line, begin_cells, end_cells, left_out_cells, offered_cells}
+use Rattle.snippet_suggest.proofs.Common.{on_last, removed_cells, with_stretches, edits_of, first_given, given_lines, given_ranges, is_left_out, last_reached}
 use Rattle.snippet_suggest.proofs.Common.{shown_kind, trimmed_of, numbered_source, Begins, Empty, Ends, Offers, Removes, SuggestionRow, rows_of_suggestion}
 use Rattle.snippet_suggest.proofs.Common.{is_touched, body_cells, suggested_cells, cells_over, new_on, suggested_stretches, rows_shared, suggestion_cells}
 use Rattle.snippet_suggest.proofs.Common.{suggestion_row, diff_cells, emptied_cells, gone_of, taken_cells, last_removed, unless_stays, counted_from}
@@ -27,14 +26,6 @@ begins_is layout s under start = refl
 pub empty_is : (layout : SuggestionLayout) (s : Snippet Patch) (under : List Cell) → suggested_cells layout s under Empty ≡ []
 unfolding suggested_cells
 empty_is layout s under = refl
-
--- lines that are shown, which have the same stretches
-pub rows_of_same_stretches : (layout : SuggestionLayout) (kind : DisplaySuggestion) (first : ℕ) (lines : List (List ℕ)) (f g : ℕ → List SubstitutionHighlight)
-    (shown : List SuggestionLine) → ((k : ℕ) → f k ≡ g k) → map (suggestion_row layout kind first lines f) shown
-    ≡ map (suggestion_row layout kind first lines g) shown
-rows_of_same_stretches layout kind first lines f g [] same = refl
-rows_of_same_stretches layout kind first lines f g (Line k ∷ shown) same = search rules
-rows_of_same_stretches layout kind first lines f g (Gap ∷ shown) same = simp (rows_of_same_stretches layout kind first lines f g shown same)
 
 pub shown_is : (layout : SuggestionLayout) (s : Snippet Patch) (shown : List SuggestionLine)
     → map (suggested_cells layout s []) (map row_of_shown shown) ≡ map (suggestion_row layout (shown_kind s) (s.line_start + first_given s) (given_lines s)
@@ -97,10 +88,7 @@ pub body_shown : (layout : SuggestionLayout) (start : SuggestionStart) (s : Snip
 body_shown layout start s under line lines shown some other is =
     let t : Bool = is_touched s.fold (given_ranges s) 0 in
     let stays : (is_left_out (shown_kind s) (line ∷ lines) (last_reached s) && t) ≡ false = ap (λ (b : Bool). b && t)
-    (none_left_out (shown_kind s) (line ∷ lines) (last_reached s) other) in
-    sym (body_plain layout start s under line lines (Begins start ∷ map row_of_shown shown) some stays is
-    ∙ ap (λ row. row ∷ map (suggested_cells layout s []) (map row_of_shown shown)) (begins_is layout s under start)
-    ∙ ap (λ rows. begin_cells layout start under ∷ rows) (shown_is layout s shown))
+    (none_left_out (shown_kind s) (line ∷ lines) (last_reached s) other) in search (rules, body_plain, row_of_shown, begins_is, shown_is, stays)
 
 -- ---- a diff
 
@@ -111,9 +99,7 @@ pub body_untouched : (layout : SuggestionLayout) (start : SuggestionStart) (s : 
 body_untouched layout start s under line one diff untouched is =
     let l : Bool = is_left_out (shown_kind s) (line ∷ []) (last_reached s) in
     let stays : (l && is_touched s.fold (given_ranges s) 0) ≡ false = ap (λ (b : Bool). l && b) untouched ∙ and-false l in
-    sym (body_plain layout start s under line [] (Begins start ∷ Empty ∷ []) one stays is
-    ∙ ap (λ row. row ∷ suggested_cells layout s [] Empty ∷ []) (begins_is layout s under start)
-    ∙ ap (λ (row : List Cell). begin_cells layout start under ∷ row ∷ []) (empty_is layout s []))
+    cc (body_plain layout start s under line [] (Begins start ∷ Empty ∷ []) one stays is, begins_is layout s under start, empty_is layout s [])
 
 -- the lines that are removed above one in their place
 removed_some : (layout : SuggestionLayout) (s : Snippet Patch) (under : List Cell) (line : List ℕ) (i number : ℕ) (text : List ℕ)
@@ -141,12 +127,9 @@ taken_rows layout s line replaced (info ∷ infos) f a (suc m) k one same are =
     let Row : List ℕ → List SubstitutionHighlight → List Cell = λ t ss.
     with_stretches Removal layout.base.gutter (chars t) ss (removed_cells layout NoStyle (capped_sum first k) t []) in
     let row : Row info.line.now (replaced (info.line_index - first))
-    ≡ Row (f a) (suggested_stretches s (a - first_given s)) = ap (λ t. Row t (replaced (info.line_index - first))) text
-    ∙ ap (Row (f a)) (ap replaced index ∙ same (a - first_given s)) in
+    ≡ Row (f a) (suggested_stretches s (a - first_given s)) = cc (text, index, same (a - first_given s)) in
     let is = removed_some layout s [] line a (capped_sum first k) (f a) one in
-    ap (λ r. r ∷ taken_cells layout first replaced (k + 1) infos) (row ∙ sym is)
-    ∙ ap (λ rows. suggested_cells layout s [] (Removes a (capped_sum first k) (f a)) ∷ rows)
-    (taken_rows layout s line replaced infos f (a + 1) m (k + 1) one same rest)
+    cc (row, is, taken_rows layout s line replaced infos f (a + 1) m (k + 1) one same rest)
 
 -- a suggestion shares at most one row
 pub shared_few : (start : SuggestionStart) (n : ℕ) → n ≡ rows_shared start → n ≤ 1
@@ -178,8 +161,7 @@ last_index base f a n some =
     let ls : List (ℕ × List ℕ) = map g (range_with_len a n) in
     let d : ℕ × List ℕ = (0, []) in
     let k : length ls ≡ n = length-map (range_with_len a n) g ∙ length-range_with_len a n in
-    ap (λ (m : ℕ). get_or (map first ls) (m - 1) 0) k ∙ get_or-map first ls (n - 1) d
-    ∙ ap first (get_or-map-range_with_len g a n (n - 1) (a + (n - 1)) d (omega (arith, some)) refl)
+    cc (k, get_or-map first ls (n - 1) d, get_or-map-range_with_len g a n (n - 1) (a + (n - 1)) d (omega (arith, some)) refl)
 
 -- what is known of the lines that a diff removes: they stand one after another in the source, from one of its lines on
 pub record AreReplaced (s : Snippet Patch) (line : List ℕ) (f : ℕ → List ℕ) (a n : ℕ) (infos : List LineInfo) : Type 0 where

@@ -1,12 +1,11 @@
 -- Each line that a patch touches is offered, unless it is blank or the suggestion's text is as it was.
-use Rattle.snippet_suggest.proofs.Common.{◌≡◌, ◌≢◌, ℕ, ◌+◌, ◌-◌, ◌<◌, ◌≤◌, ◌⊎◌, inl, inr, Bool, true, false, not, nat_le}
-use Rattle.snippet_suggest.proofs.Common.{◌&&◌, List, [], ◌∷◌, Contains, length, map, get_or, refl, sym, ap, subst, ◌∙◌, ⊎_elim, arith}
-use Rattle.snippet_suggest.proofs.Common.{length-map, get_or-map, list_any_at, true≢false, and_from, or_right, le-leb, cases_Bool, chars-nil, cow_str_bytes}
-use Rattle.snippet_suggest.proofs.Common.{Snippet, Patch, lines_of, source_lines, text_at, LineRange, Edit, patched, without_final_line_feeds, IsTouched}
-use Rattle.snippet_suggest.proofs.Common.{line_ranges, ranges_from, spliced_text, texts_of, AreDisjoint, ranges_from-written_ranges, IsShownPart, IsHeld}
-use Rattle.snippet_suggest.proofs.Common.{shown-touched, touched-held, DisplaySuggestion, Diff, IsOfferable, edits_of, first_given, given_lines, given_ranges}
-use Rattle.snippet_suggest.proofs.Common.{given_text, is_left_out, last_reached, shown_kind, trimmed_of, is_blank_text, kind_of, is_touched, shown_from}
-use Rattle.snippet_suggest.proofs.Common.{IsAsItWas, numbers_given, numbers_of, offered_lines, numbers_shown, rules}
+use Rattle.snippet_suggest.proofs.Common.{◌≡◌, ◌≢◌, ℕ, ◌+◌, ◌-◌, ◌<◌, ◌≤◌, ◌⊎◌, inl, inr, Bool, true, false, not, common_steps, List, [], ◌∷◌, Contains, length}
+use Rattle.snippet_suggest.proofs.Common.{map, get_or, refl, sym, ap, subst, ◌∙◌, ⊎_elim, arith, length-map, get_or-map, list_any_at, true≢false, and_from}
+use Rattle.snippet_suggest.proofs.Common.{or_right, le-leb, cases_Bool, chars-nil, cow_str_bytes, Snippet, Patch, lines_of, source_lines, text_at, LineRange}
+use Rattle.snippet_suggest.proofs.Common.{Edit, patched, without_final_line_feeds, IsTouched, line_ranges, ranges_from, spliced_text, texts_of, AreDisjoint}
+use Rattle.snippet_suggest.proofs.Common.{ranges_from-written_ranges, IsShownPart, IsHeld, shown-touched, touched-held, DisplaySuggestion, Diff, IsOfferable}
+use Rattle.snippet_suggest.proofs.Common.{edits_of, first_given, given_lines, given_ranges, given_text, is_left_out, last_reached, shown_kind, is_blank_text}
+use Rattle.snippet_suggest.proofs.Common.{kind_of, is_touched, shown_from, IsAsItWas, numbers_given, numbers_of, offered_lines, numbers_shown, rules}
 use Rattle.snippet_lines.specs.Lines.{Line}
 use Rattle.snippet_suggest.proofs.ByKind.{counted_folded}
 use Rattle.snippet_suggest.proofs.RisingLemmas.{touched_shown}
@@ -22,9 +21,7 @@ held-later base j ranges h =
     let r : LineRange = get_or ranges i h.range in
     let same : shift r ≡ h.range = sym (get_or-map shift ranges i h.range h.range within) ∙ h.among.2 in
     let from : base + r.first ≤ j = omega (arith, h.from, ap (λ q. q.first) same) in
-    let to : j ≤ base + r.last = omega (arith, h.to, ap (λ q. q.last) same) in
-    list_any_at (λ q. nat_le q.first (j - base) && nat_le (j - base) q.last) ranges i h.range within
-    (and_from _ _ (le-leb r.first (j - base) (omega (arith, from))) (le-leb (j - base) r.last (omega (arith, to))))
+    let to : j ≤ base + r.last = omega (arith, h.to, ap (λ q. q.last) same) in grind (arith, common_steps, list_any_at, and_from, le-leb, within, from, to)
 
 -- a line is left out only of a diff: it is blank, or the same as the last that is removed
 left_out : (kind : DisplaySuggestion) (lines : List (List ℕ)) (last : List ℕ) → is_left_out kind lines last ≡ true
@@ -61,12 +58,7 @@ lone_patch_left_out : (s : Snippet Patch) → HaveSpans s → AreDisjoint (edits
 lone_patch_left_out s spans disjoint some offerable first is =
     let source : List ℕ = cow_str_bytes s.source.text in
     let why = left_out (shown_kind s) (given_lines s) (last_reached s) is in
-    let one : length (given_lines s) ≤ 1 = omega (
-      arith,
-      diff-one source (trimmed_of s) (given_text s) why.0,
-      length-map (lines_of (given_text s)) (λ l.
-          l.0),
-    ) in
+    let one : length (given_lines s) ≤ 1 = grind (arith, common_steps, diff-one, length-map) in
     let part : IsShownPart s.fold source (edits_of s) = given-part s spans disjoint some offerable in
     let text : spliced_text s.fold source (edits_of s) ≡ given_text s = part.spliced ∙ sym part.text in
     (one, ⊎_elim (λ blank. inl blank) (λ same. inr (ap (λ t. texts_of (lines_of t)) text ∙ only (given_lines s) [] first one ∙ ap (λ t. t ∷ []) same)) why.1)

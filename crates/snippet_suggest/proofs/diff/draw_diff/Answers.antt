@@ -1,7 +1,7 @@
 use mir.Val.{bool_byte}
-use Rattle.snippet_suggest.proofs.Common.{◌≡◌, ℕ, ◌-◌, ◌<◌, List, ap, append_assoc, arith, length, Bool, [], ◌∷◌, ◌++◌, false, true}
+use Rattle.snippet_suggest.proofs.Common.{◌≡◌, ℕ, ◌-◌, ◌<◌, List, ap, append_assoc, arith, length, Bool, [], ◌∷◌, ◌++◌, false, common_steps}
 use Rattle.snippet_suggest.proofs.Common.{inl, inr, sym, ◌∙◌, cases_Bool, on_ok_weaker, bytes_eq, Cell, Removal, line_stretches, left_out_cells}
-use Rattle.snippet_suggest.proofs.Common.{offered_cells, with_stretches, last_removed, unless_stays, diff_cells, gone_of, taken_cells, Diff, is_left_out}
+use Rattle.snippet_suggest.proofs.Common.{offered_cells, with_stretches, last_removed, unless_stays, diff_cells, gone_of, taken_cells, Diff}
 use Rattle.std.proofs.Common.{chars}
 use Rattle.snippet_suggest.proofs.RowsDrawn.{diff_left, diff_shown, last_of, left_infos, none_gone, some_gone, stays_left}
 use Rattle.snippet_suggest.proofs.diff.draw_diff.Goals as goal
@@ -25,9 +25,8 @@ returns c =
           let counts : count ≡ length infos - bool_byte stays = c.saturating_sub-count.ensures ∙ ap (λ (n : ℕ). length infos - n) c.from.ensures in
           let taken : List (List Cell) = taken_cells l a.diff.now.first replaced 0 (unless_stays stays infos) in
           let rows : List (List Cell) = last ∷ taken in
-          let drawn : one ≡ above ++ rows = c.in_ok-draw_diff_removed.ensures.cells
-          ∙ ap (λ is. a.buffer.now ++ taken_cells l a.diff.now.first replaced 0 is) (left_infos infos count stays counts) ∙ ap (λ rs. rs ++ taken) is
-          ∙ append_assoc above (last ∷ []) taken in
+          let drawn : one ≡ above ++ rows =
+          cc (c.in_ok-draw_diff_removed.ensures.cells, left_infos infos count stays counts, is, append_assoc above (last ∷ []) taken) in
           let end = last_of last taken in
           let stands : one ≡ (above ++ end.front) ++ end.end ∷ [] = drawn ∙ ap (λ rs. above ++ rs) end.is ∙ sym (append_assoc above end.front (end.end ∷ [])) in
           let gone = gone_of stays a.diff.now.first replaced infos in
@@ -56,9 +55,7 @@ returns c =
                 (c.draw_diff_line.ensures.left_cells (above ++ end.front) _ left_out painted)
             | inr offers ↦
                 let keeps : stays ≡ false = elim (cases_Bool stays) [
-                  | inl same ↦
-                      let hides : is_left_out Diff (line ∷ []) (last_removed infos) ≡ true = stays_left line (last_removed infos) (sym is_stays ∙ same) in
-                      absurd (cc)
+                  | inl same ↦ grind (arith, common_steps, stays_left, is_stays, same)
                   | inr other ↦ other
                 ] in
                 let whole : mid ≡ above ++ rows = painted ∙ ap (λ (row : List Cell). (above ++ end.front) ++ row ∷ [])

@@ -1,4 +1,4 @@
-use Rattle.snippet_suggest.proofs.Common.{◌∙◌, ◌-◌, ◌+◌, ◌∷◌, [], ap, arith, unlinked_cell, cells_written, Addition}
+use Rattle.snippet_suggest.proofs.Common.{◌-◌, ◌∙◌, ◌+◌, ◌∷◌, [], ap, arith, unlinked_cell, cells_written, Addition, common_steps}
 use Rattle.snippet_suggest.proofs.MarksDrawn.{marks_begun, marks_done, marks_next}
 use Rattle.snippet_suggest.proofs.marks.draw_mark.Goals as goal
 
@@ -21,10 +21,4 @@ loop-column-preserved c =
     }
 
 pub returns : goal.returns
-returns c =
-    record {
-      cells = λ above last here is. marks_done c.args.layout.now c.args.mark c.args.start c.args.end (c.loop-column.column - c.args.start)
-          above last c.loop-column.buffer
-          (omega (arith, c.loop-column.invariant.within, c.loop-column-test.false, c.loop-column.auto.column, c.min-column-end.ensures))
-          (c.loop-column.invariant.cells above last here is);
-    }
+returns c = grind (arith, common_steps, marks_done)

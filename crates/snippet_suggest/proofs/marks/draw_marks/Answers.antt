@@ -1,8 +1,7 @@
+use Rattle.snippet_suggest.proofs.Common.{drop, with_marks, ◌≡◌, ◌∙◌, ◌+◌, ◌<◌, ℕ, [], ◌∷◌, ◌++◌, List, ap, get_or, length, map, take, TrimmedPatch, Edit}
+use Rattle.snippet_suggest.proofs.Common.{trimmed_edit_of, PatchColumns, edit_columns, patch_mark_end, mark_start, drop_all, drop_more, map-append, take_more}
 use Rattle.std.proofs.lemmas.Grind.{common_steps}
 use Rattle.std.proofs.Common.{arith}
-use Rattle.snippet_suggest.proofs.Common.{◌≡◌, ◌∙◌, ◌+◌, ◌<◌, ℕ, [], ◌∷◌, ◌++◌, List, ap, drop, get_or, length, map, take}
-use Rattle.snippet_suggest.proofs.Common.{TrimmedPatch, Edit, trimmed_edit_of, PatchColumns, edit_columns, patch_mark_end, mark_start, with_marks, drop_all}
-use Rattle.snippet_suggest.proofs.Common.{drop_more, map-append, take_more}
 use Rattle.snippet_suggest.proofs.MarksDrawn.{marked_done, marked_next}
 use Rattle.snippet_suggest.proofs.marks.draw_marks.Goals as goal
 
@@ -26,8 +25,7 @@ loop-patch-preserved c =
     let e : Edit = trimmed_edit_of (get_or ps i d) in
     let earlier : List PatchColumns = map f (take i ps) in
     let columns = c.patch_columns-columns.ensures.value in
-    let more : map f (take (i + 1) ps) ≡ earlier ++ edit_columns m e ∷ [] = ap (map f) (take_more ps i d within)
-    ∙ map-append f (take i ps) (get_or ps i d ∷ []) in
+    let more : map f (take (i + 1) ps) ≡ earlier ++ edit_columns m e ∷ [] = cc (take_more ps i d within, map-append f (take i ps) (get_or ps i d ∷ [])) in
     let shift = c.before-in-loop-patch.ensures.value earlier inv.of in
     let bounds = c.marked_columns-start.ensures.value earlier shift in
     record {
@@ -45,9 +43,4 @@ loop-patch-preserved c =
     }
 
 pub returns : goal.returns
-returns c =
-    record {
-      cells = λ above last here is. marked_done c.args.layout.now c.args.map.now _ _ _ above c.loop-patch.buffer
-          (ap (map trimmed_edit_of) (drop_all c.loop-patch.patch-index c.args.patches.now c.loop-patch-test.false))
-          (c.loop-patch.invariant.cells above last here is);
-    }
+returns c = grind (arith, common_steps, marked_done, drop_all)

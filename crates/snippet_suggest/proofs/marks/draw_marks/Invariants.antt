@@ -1,5 +1,4 @@
-use Rattle.snippet_suggest.proofs.Common.{◌≡◌, ◌++◌, ◌∷◌, [], List, drop, length, map, take, Cell, trimmed_edit_of, edit_columns, with_marks}
-use Rattle.snippet_suggest.proofs.Common.{AreMoves}
+use Rattle.snippet_suggest.proofs.Common.{◌≡◌, ◌++◌, ◌∷◌, [], List, drop, length, map, take, Cell, trimmed_edit_of, edit_columns, with_marks, AreMoves}
 use Rattle.snippet_suggest.proofs.MarksDrawn.{Marked}
 use Rattle.snippet_suggest.proofs.marks.draw_marks.Given as goal
 

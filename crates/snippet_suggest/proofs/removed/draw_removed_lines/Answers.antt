@@ -1,13 +1,9 @@
-use Rattle.snippet_suggest.proofs.Common.{◌++◌, arith, row_at, numbered_at}
+use Rattle.snippet_suggest.proofs.Common.{row_at, ◌++◌, arith, common_steps}
 use Rattle.snippet_suggest.proofs.RowsDrawn.{emptied_begun, emptied_done, emptied_next, numbered_all}
 use Rattle.snippet_suggest.proofs.removed.draw_removed_lines.Goals as goal
 
 pub loop-info-init : goal.loop-info-init
-loop-info-init c =
-    record {
-      small = c.requires.row;
-      cells = λ above tail here is few. emptied_begun c.args.layout.now above tail (numbered_at c.args.lines.now) c.args.row c.args.buffer.now here is few;
-    }
+loop-info-init c = grind (arith, common_steps, emptied_begun)
 
 pub loop-info-preserved : goal.loop-info-preserved
 loop-info-preserved c =
@@ -24,9 +20,4 @@ loop-info-preserved c =
     }
 
 pub returns : goal.returns
-returns c =
-    record {
-      cells = λ above tail here is few. emptied_done c.args.layout.now above (row_at tail 0) (numbered_at c.args.lines.now)
-          c.loop-info.row c.loop-info.info-index c.loop-info.buffer (omega (arith, c.requires.some, c.loop-info-test.false))
-          (numbered_all c.args.lines.now c.loop-info.info-index c.loop-info-test.false) (c.loop-info.invariant.cells above tail here is few);
-    }
+returns c = grind (arith, common_steps, emptied_done, numbered_all)

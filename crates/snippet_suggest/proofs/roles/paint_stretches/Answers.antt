@@ -40,12 +40,7 @@ loop-stretch-preserved c =
                 ∙ painted_next a.role g cs ss i d above last c.loop-stretch.buffer w.set_style_range.new.self a.row w.stretch_cell-start.result
                 w.stretch_cell-end.result c.loop-stretch-test.true here (inv.cells above last here is) starts ends w.in_ok-set_style_range.ensures.ok;
           }
-      | else-stretch w ↦
-          record {
-            at = subst IsCursor (sym w.tabs-is) inv.at;
-            line = ap (λ (t : TabCursor). t.line.now) w.tabs-is ∙ inv.line;
-            cells = grind (arith, common_steps, passed_next, a, g, cs, ss, i, d, inv, a.role, c.loop-stretch.buffer, c.loop-stretch-test.true, inv.cells);
-          }
+      | else-stretch w ↦ grind (arith, common_steps, passed_next, inv)
     ]
 
 pub returns : goal.returns

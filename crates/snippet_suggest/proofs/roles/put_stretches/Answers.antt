@@ -1,4 +1,4 @@
-use Rattle.snippet_suggest.proofs.Common.{◌≡◌, ◌∙◌, ◌+◌, ◌-◌, ◌++◌, ◌∷◌, ℕ, [], List, ap, arith, drop, get_or, length, take}
+use Rattle.snippet_suggest.proofs.Common.{◌≡◌, ◌∙◌, ◌+◌, ◌-◌, ◌++◌, ◌∷◌, ℕ, [], List, ap, arith, drop, get_or, length, take, common_steps, rules}
 use Rattle.snippet_suggest.proofs.Common.{cells_written, text_cells, NoStyle, length-chars_le, SubstitutionHighlight, put}
 use Rattle.std.proofs.Common.{chars}
 use Rattle.snippet_suggest.proofs.PartRows.{next_in_order, plain_border, plain_part, plain_rest, put_all, put_none_yet, put_one_more}
@@ -10,52 +10,23 @@ abbrev none : SubstitutionHighlight
 none = record { start = 0; end = 0 }
 
 pub range-requires-clause-end_boundary : goal.range-requires-clause-end_boundary
-range-requires-clause-end_boundary c =
-    let ss = c.args.stretches.now in
-    let line = c.args.line.now in
-    let next = next_in_order (length line) c.loop-stretch.at ss c.loop-stretch.stretch-index none c.loop-stretch-test.true c.loop-stretch.invariant.ordered in
-    plain_border line (get_or ss c.loop-stretch.stretch-index none).start c.requires.plain (omega (arith, next.high, next.inside))
+range-requires-clause-end_boundary c = grind (arith, common_steps, next_in_order, plain_border)
 
 pub range-requires-in-loop-stretch-clause-end_boundary : goal.range-requires-in-loop-stretch-clause-end_boundary
-range-requires-in-loop-stretch-clause-end_boundary c =
-    let ss = c.args.stretches.now in
-    let line = c.args.line.now in
-    let next = next_in_order (length line) c.loop-stretch.at ss c.loop-stretch.stretch-index none c.loop-stretch-test.true c.loop-stretch.invariant.ordered in
-    plain_border line (get_or ss c.loop-stretch.stretch-index none).end c.requires.plain next.inside
+range-requires-in-loop-stretch-clause-end_boundary c = grind (arith, common_steps, next_in_order, plain_border)
 
 pub puts-requires-clause-end : goal.puts-requires-clause-end
-puts-requires-clause-end c =
-    let ss = c.args.stretches.now in
-    let next = next_in_order (length c.args.line.now) c.loop-stretch.at ss c.loop-stretch.stretch-index none c.loop-stretch-test.true
-    c.loop-stretch.invariant.ordered in
-    omega (arith, c.inner_cell-cell.ensures.few, length-chars_le c.range.result.now, c.range.ensures.len, next.low, next.high, next.inside)
+puts-requires-clause-end c = grind (arith, common_steps, next_in_order, length-chars_le)
 
 pub puts-requires-in-loop-stretch-clause-end : goal.puts-requires-in-loop-stretch-clause-end
-puts-requires-in-loop-stretch-clause-end c =
-    let ss = c.args.stretches.now in
-    let next = next_in_order (length c.args.line.now) c.loop-stretch.at ss c.loop-stretch.stretch-index none c.loop-stretch-test.true
-    c.loop-stretch.invariant.ordered in
-    omega (
-      arith,
-      c.inner_cell-cell.ensures.few,
-      length-chars_le c.range-in-loop-stretch.result.now,
-      c.range-in-loop-stretch.ensures.len,
-      next.high,
-      next.inside,
-    )
+puts-requires-in-loop-stretch-clause-end c = grind (arith, common_steps, next_in_order, length-chars_le)
 
 pub puts-requires-2-clause-end : goal.puts-requires-2-clause-end
 puts-requires-2-clause-end c =
     omega (arith, c.inner_cell-cell.ensures.few, length-chars_le c.range_from.result.now, c.range_from.ensures.len, c.loop-stretch.invariant.within)
 
 pub loop-stretch-init : goal.loop-stretch-init
-loop-stretch-init c =
-    let a = c.args in
-    record {
-      within = omega arith;
-      ordered = c.requires.ordered;
-      parts = λ above last here is. put_none_yet a.role a.layout.now.base.gutter a.line.now a.stretches.now above last a.buffer.now is;
-    }
+loop-stretch-init c = search (rules, put_none_yet)
 
 pub loop-stretch-preserved : goal.loop-stretch-preserved
 loop-stretch-preserved c =
@@ -68,8 +39,7 @@ loop-stretch-preserved c =
     let at : ℕ = c.loop-stretch.at in
     let s : SubstitutionHighlight = get_or ss i none in
     let next = next_in_order (length line) at ss i none c.loop-stretch-test.true inv.ordered in
-    let pre : chars c.range.result.now ≡ take (s.start - at) (drop at line) = ap chars c.range.ensures.value
-    ∙ plain_part line at (s.start - at) c.requires.plain in
+    let pre : chars c.range.result.now ≡ take (s.start - at) (drop at line) = cc (c.range.ensures.value, plain_part line at (s.start - at) c.requires.plain) in
     let mid : chars c.range-in-loop-stretch.result.now ≡ take (s.end - s.start) (drop s.start line) = ap chars c.range-in-loop-stretch.ensures.value
     ∙ plain_part line s.start (s.end - s.start) c.requires.plain in
     record {
@@ -105,8 +75,5 @@ returns c =
           let put_last = put_more NoStyle c.range_from.result.now (g + 3 + at) a.row above p.row c.loop-stretch.buffer c.puts-2.new.self c.range_from.utf8
           here p.is (λ some. c.in_ok-puts-3.ensures.ok some
           ∙ ap (λ n. cells_written c.loop-stretch.buffer a.row (n + at) (text_cells NoStyle (chars c.range_from.result.now))) c.inner_cell-cell.ensures.value)
-          c.puts-2.ensures.empty in
-          put_all a.role g a.line.now a.stretches.now c.loop-stretch.stretch-index at above last c.loop-stretch.buffer c.puts-2.new.self p
-          c.loop-stretch-test.false c.requires.plain
-          (put_last ∙ ap (λ (t : List ℕ). above ++ put NoStyle t (g + 3 + at) p.row ∷ []) rest);
+          c.puts-2.ensures.empty in search (rules, put_all, p, put_last, rest);
     }

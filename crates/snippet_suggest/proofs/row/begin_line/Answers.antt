@@ -1,4 +1,4 @@
-use Rattle.snippet_suggest.proofs.Common.{◌≡◌, ◌∙◌, ◌+◌, ◌≤◌, arith, ap, length, cells_written, Layout, text_cells, shown_number}
+use Rattle.snippet_suggest.proofs.Common.{◌≡◌, ◌∙◌, ◌+◌, ◌≤◌, arith, ap, length, cells_written, Layout, text_cells, shown_number, common_steps}
 use Rattle.snippet_suggest.proofs.Common.{chars-shown_number, suggestion_glyph_of, length-chars_le}
 use Rattle.std.proofs.Common.{chars}
 use Rattle.snippet_suggest.proofs.PutLemmas.{begun_in_order, begun_over}
@@ -14,17 +14,10 @@ pub returns-then-len-separator_cell-clause-cells : goal.returns-then-len-separat
 returns-then-len-separator_cell-clause-cells c =
     let a = c.args in
     let digits = c.as_str.result.now in
-    let is_number : chars digits ≡ shown_number a.layout.now.numbers a.layout.now.base.gutter a.number = ap chars
-    (c.as_str.ensures.value ∙ c.in_ok-number.ensures.text) ∙ chars-shown_number a.layout.now.numbers c.base.inside.gutter a.number (omega arith)
-    ∙ ap (λ (l : Layout). shown_number a.layout.now.numbers l.gutter a.number) c.base.view_is in
+    let is_number : chars digits ≡ shown_number a.layout.now.numbers a.layout.now.base.gutter a.number = grind (arith, common_steps, chars-shown_number) in
     let is_sign = c.text-sign.ensures.value ∙ ap (λ (l : Layout). suggestion_glyph_of l.decor a.glyph) c.base.view_is in
-    let few : length digits ≤ a.layout.now.base.gutter + 1 = omega (
-      arith,
-      c.len.ensures,
-      ap length c.as_str.ensures.value,
-      c.separator_cell.ensures.value,
-      c.if-len-separator_cell.true,
-    ) in
+    let few : length digits ≤ a.layout.now.base.gutter + 1 =
+    omega (arith, c.len.ensures, ap length c.as_str.ensures.value, c.separator_cell.ensures.value, c.if-len-separator_cell.true) in
     let signed = c.in_ok-puts-2.ensures.ok c.text-sign.ensures.some ∙ ap (λ n.
     cells_written c.puts.new.self c.num_lines-row.result n (text_cells c.role.result (chars c.text-sign.result.now)))
     c.separator_cell-then-len-separator_cell.ensures.value in
@@ -36,9 +29,7 @@ pub returns-clause-cells : goal.returns-clause-cells
 returns-clause-cells c =
     let a = c.args in
     let digits = c.as_str-2.result.now in
-    let is_number : chars digits ≡ shown_number a.layout.now.numbers a.layout.now.base.gutter a.number = ap chars
-    (c.as_str-2.ensures.value ∙ c.in_ok-number.ensures.text) ∙ chars-shown_number a.layout.now.numbers c.base.inside.gutter a.number (omega arith)
-    ∙ ap (λ (l : Layout). shown_number a.layout.now.numbers l.gutter a.number) c.base.view_is in
+    let is_number : chars digits ≡ shown_number a.layout.now.numbers a.layout.now.base.gutter a.number = grind (arith, common_steps, chars-shown_number) in
     let is_sign = c.text-sign.ensures.value ∙ ap (λ (l : Layout). suggestion_glyph_of l.decor a.glyph) c.base.view_is in
     let signed = c.in_ok-puts-3.ensures.ok c.text-sign.ensures.some ∙ ap (λ n.
     cells_written a.buffer.now c.num_lines-row.result n (text_cells c.role-2.result (chars c.text-sign.result.now))) c.separator_cell-2.ensures.value in

@@ -1,4 +1,4 @@
-use Rattle.snippet_suggest.proofs.Common.{◌≡◌, ◌<◌, ◌∙◌, arith, ap, length, cells_written, Layout, text_cells, Removal, norm, shown_number}
+use Rattle.snippet_suggest.proofs.Common.{◌≡◌, ◌<◌, ◌∙◌, arith, ap, length, cells_written, text_cells, Removal, norm, shown_number, common_steps}
 use Rattle.snippet_suggest.proofs.Common.{chars-shown_number, removed_sign_of, length-chars_le}
 use Rattle.std.proofs.Common.{chars}
 use Rattle.snippet_suggest.proofs.GlyphLemmas.{removed_sign_short}
@@ -18,16 +18,12 @@ pub returns : goal.returns
 returns c =
     let a = c.args in
     let g = a.layout.now.base.gutter in
-    let gutter : c.base.inside.gutter ≡ g = ap (λ (l : Layout). l.gutter) c.base.view_is in
     let number = c.as_str.result.now in
     let text = c.as_str-2.result.now in
-    let is_number : chars number ≡ shown_number a.layout.now.numbers g a.line.number = ap chars (c.as_str.ensures.value ∙ c.in_ok-number.ensures.text)
-    ∙ chars-shown_number a.layout.now.numbers c.base.inside.gutter a.line.number (omega arith)
-    ∙ ap (λ (l : Layout). shown_number a.layout.now.numbers l.gutter a.line.number) c.base.view_is in
+    let is_number : chars number ≡ shown_number a.layout.now.numbers g a.line.number = grind (arith, common_steps, chars-shown_number) in
     let is_text : chars text ≡ norm (chars a.line.text.now) = ap chars c.as_str-2.ensures.value ∙ c.in_ok-text.ensures.value in
     let sign = c.removed_sign.result.now in
-    let is_sign : chars sign ≡ removed_sign_of a.layout.now.base.decor = c.removed_sign.ensures.value
-    ∙ ap (λ (l : Layout). removed_sign_of l.decor) c.base-2.view_is in
+    let is_sign : chars sign ≡ removed_sign_of a.layout.now.base.decor = cc (c.removed_sign.ensures.value, c.base-2.view_is) in
     let signed = c.in_ok-puts-2.ensures.ok c.removed_sign.ensures.some
     ∙ ap (λ n. cells_written c.puts.new.self a.row n (text_cells Removal (chars sign))) c.separator_cell.ensures.value in
     let lined = λ (some : 0 < length c.as_str-2.result.now). c.in_ok-puts-3.ensures.ok some

@@ -1,6 +1,5 @@
 use Rattle.std.proofs.lemmas.Grind.{common_steps}
-use Rattle.snippet_suggest.proofs.Common.{◌≡◌, ◌+◌, ◌<◌, ◌∙◌, false, length, get_or, sym, subst, arith, ℕ, Vec, get_or_default}
-use Rattle.snippet_suggest.proofs.Common.{SuggestionLine, is_touched}
+use Rattle.snippet_suggest.proofs.Common.{◌≡◌, ◌+◌, ◌<◌, ◌∙◌, false, length, get_or, sym, subst, arith, ℕ, Vec, get_or_default, SuggestionLine, is_touched}
 use Rattle.std.proofs.Common.{Global}
 use Rattle.snippet_suggest.proofs.RisingLemmas.{shown_all}
 use Rattle.snippet_suggest.proofs.ShownLemmas.{touched_step, untouched_step}
@@ -26,12 +25,7 @@ loop-line-preserved c =
             whole = touched_step touched l.shown.items w.push_run.new.shown.items w.push.new.self.items _ l.after l.line count c.loop-line-test.true
                 (told ∙ w.if-index.true) w.in_ok-push_run.ensures.added w.in_ok-push.ensures.items l.invariant.whole;
           }))
-      | else-index w ↦
-          subst (λ (b : ℕ). Shows touched count b (l.line + 1) next.shown.items) (sym w.after-is)
-          (subst (λ (v : Vec SuggestionLine Global). Shows touched count l.after (l.line + 1) v.items) (sym w.shown-is) (record {
-            before = omega (arith, l.invariant.before);
-            whole = untouched_step touched l.shown.items _ l.after l.line count c.loop-line-test.true (told ∙ w.if-index.false) l.invariant.whole;
-          }))
+      | else-index w ↦ grind (arith, common_steps, untouched_step, touched, told)
     ]
 
 pub returns : goal.returns

@@ -1,10 +1,9 @@
 use Rattle.std.proofs.Common.{arith}
 use denote.Enum.Bare.{same_true, true_same}
-use Rattle.snippet_suggest.proofs.Common.{◌≡◌, ◌≢◌, ℕ, ◌+◌, ◌<◌, ◌∷◌, ◌++◌, ◌∙◌, [], List, ap, append_assoc}
-use Rattle.snippet_suggest.proofs.Common.{if◌then◌else◌, length, map, rules, subst, sym, append-nil, length-map, row_at, Cell, SubstitutionHighlight}
-use Rattle.snippet_suggest.proofs.Common.{line_stretches, DisplaySuggestion, begin_cells, new_on, source_lines, line_of, TrimmedPatch, the_type, Diff}
-use Rattle.snippet_suggest.proofs.Common.{LineRange, first_given, given_lines, given_ranges, shown_kind, first_original, suggestion_row, is_touched, shown_from}
-use Rattle.snippet_suggest.proofs.SuggestedRows.{body_shown, rows_of_same_stretches}
+use Rattle.snippet_suggest.proofs.Common.{◌≡◌, ◌≢◌, ℕ, ◌+◌, ◌<◌, ◌∙◌, List, ap, append_assoc, common_steps, length, map, rules}
+use Rattle.snippet_suggest.proofs.Common.{subst, sym, append-nil, length-map, Cell, SubstitutionHighlight, line_stretches, DisplaySuggestion, TrimmedPatch}
+use Rattle.snippet_suggest.proofs.Common.{the_type, Diff, LineRange, first_given, given_lines, given_ranges, shown_kind, suggestion_row, is_touched, shown_from}
+use Rattle.snippet_suggest.proofs.SuggestedRows.{body_shown}
 use Rattle.snippet_suggest.proofs.KnownLemmas.{known_first, known_originals, known_some}
 use Rattle.snippet_suggest.proofs.KnownNumbers.{known_one, lines_none, lines_some}
 use Rattle.snippet_suggest.proofs.OrderLaws.{rows_others}
@@ -30,17 +29,14 @@ draw_changed-requires c =
       prepared = c.requires.prepared;
       line = known_one p c.requires.prepared diff (λ l. l.now) c.args.lines.now c.in-Some.line.now (sym c.in-Some.ensures.value) c.requires.lines;
       diff = diff;
-      first = c.first_number-first.ensures.value ∙ ap (λ ps. p.map.first +
-          (if p.snippet.now.fold then line_of (source_lines p.map.text) (first_original ps) else 0)) c.deref.ensures.value ∙ known_first p c.requires.prepared;
+      first = cc (c.first_number-first.ensures.value, c.deref.ensures.value, known_first p c.requires.prepared);
     }
 
 pub returns-in_default-clause-cells : goal.returns-in_default-clause-cells
-returns-in_default-clause-cells c = λ above tail is count.
-    append-nil c.draw_emptied.new.buffer ∙ c.in_ok-draw_emptied.ensures.cells above tail is count
+returns-in_default-clause-cells c = grind (arith, common_steps, append-nil)
 
 pub returns-then-eq-clause-cells : goal.returns-then-eq-clause-cells
-returns-then-eq-clause-cells c = λ above tail is count.
-    c.draw_changed.ensures.cells above (row_at tail 0) c.args.start (c.in_ok-draw_head.ensures.cells above tail is count)
+returns-then-eq-clause-cells c = grind (arith, common_steps)
 
 pub returns-clause-cells : goal.returns-clause-cells
 returns-clause-cells c = λ above tail is count.
@@ -50,31 +46,17 @@ returns-clause-cells c = λ above tail is count.
     let l = a.layout.now in
     let at : ℕ = s.line_start + first_given s in
     let lines = given_lines s in
-    let new = c.draw_lines.new.buffer in
     let n : ℕ = c.first_number-first.result in
-    let first : n ≡ at = c.first_number-first.ensures.value ∙ ap (λ ps.
-    p.map.first + (if p.snippet.now.fold then line_of (source_lines p.map.text) (first_original ps) else 0)) c.deref.ensures.value
-    ∙ known_first p c.requires.prepared in
+    let first : n ≡ at = cc (c.first_number-first.ensures.value, c.deref.ensures.value, known_first p c.requires.prepared) in
     let size : length a.lines.now ≡ length lines = sym (length-map a.lines.now (λ l. l.now)) ∙ ap length c.requires.lines in
     let other : p.kind ≢ Diff = λ same. cc (c.if-eq.false, c.eq.ensures, true_same the_type p.kind Diff same) in
     let ranges : c.deref-3.result.now ≡ given_ranges s = c.deref-3.ensures.value ∙ c.requires.prepared.ranges in
     let shown = shown_from (is_touched s.fold (given_ranges s)) 0 0 (length lines) in
-    let begin : List Cell = begin_cells l a.start (row_at tail 0) in
     let stretches : ℕ → List SubstitutionHighlight = line_stretches c.deref-2.result.now in
-    let same : (k : ℕ) → stretches k ≡ new_on s k = λ k. ap (λ vs. line_stretches vs k) c.deref-2.ensures.value ∙ c.requires.prepared.new k in
     let Rows : DisplaySuggestion → ℕ → List (List ℕ) → List LineRange → ℕ → List (List Cell) = λ kind m ls rs k.
     map (suggestion_row l kind m ls stretches) (shown_from (is_touched s.fold rs) 0 0 k) in
     let drawn : Rows p.kind n (map (λ l. l.now) a.lines.now) c.deref-3.result.now (length a.lines.now) ≡ Rows (shown_kind s) at lines (given_ranges s)
-    (length lines) = ap (λ kind. Rows kind n (map (λ l. l.now) a.lines.now) c.deref-3.result.now (length a.lines.now)) c.requires.prepared.kind
-    ∙ ap (λ m. Rows (shown_kind s) m (map (λ l. l.now) a.lines.now) c.deref-3.result.now (length a.lines.now)) first
-    ∙ ap (λ ls. Rows (shown_kind s) at ls c.deref-3.result.now (length a.lines.now)) c.requires.lines
-    ∙ ap (λ rs. Rows (shown_kind s) at lines rs (length a.lines.now)) ranges ∙ ap (Rows (shown_kind s) at lines (given_ranges s)) size in
-    let below : Rows (shown_kind s) at lines (given_ranges s) (length lines)
-    ≡ map (suggestion_row l (shown_kind s) at lines (new_on s)) shown = rows_of_same_stretches l (shown_kind s) at lines stretches (new_on s) shown same in
+    (length lines) = cc (c.requires.prepared.kind, first, c.requires.lines, ranges, size) in
     let line = lines_some (λ l. l.now) a.lines.now lines c.in-Some.line.now (sym c.in-Some.ensures.value) c.requires.lines in
     let kind : shown_kind s ≢ Diff = λ diff. other (c.requires.prepared.kind ∙ diff) in
-    let rows = rows_others a.start s _ line.0 line.1 kind in
-    append-nil new ∙ c.in_ok-draw_lines.ensures.cells
-    ∙ ap (λ rs. rs ++ Rows p.kind n (map (λ l. l.now) a.lines.now) c.deref-3.result.now (length a.lines.now))
-    (c.in_ok-draw_head.ensures.cells above tail is count) ∙ append_assoc above (begin ∷ []) _ ∙ ap (λ rs. above ++ (begin ∷ rs)) (drawn ∙ below)
-    ∙ ap (λ rs. above ++ rs) (body_shown l a.start s (row_at tail 0) _ line.0 shown line.1 kind rows)
+    let rows = rows_others a.start s _ line.0 line.1 kind in search (rules, append-nil, append_assoc, body_shown, is, drawn, shown, kind, rows)

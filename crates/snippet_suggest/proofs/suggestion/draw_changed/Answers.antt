@@ -1,6 +1,6 @@
 use Rattle.std.proofs.Common.{arith}
-use Rattle.snippet_suggest.proofs.Common.{◌≡◌, ℕ, append_assoc, ◌<◌, ◌∷◌, ◌++◌, ◌∙◌, [], List, false, ap, length, map, refl, subst}
-use Rattle.snippet_suggest.proofs.Common.{sym, first_start, LineInfo, TrimmedPatch, end_from, Diff, Cell, append-nil, line_stretches, AreApart, trimmed_edit_of}
+use Rattle.snippet_suggest.proofs.Common.{◌≡◌, ℕ, append_assoc, ◌<◌, ◌∷◌, ◌++◌, ◌∙◌, [], List, false, ap, length, map, refl, subst, common_steps}
+use Rattle.snippet_suggest.proofs.Common.{sym, LineInfo, TrimmedPatch, Diff, Cell, append-nil, line_stretches, AreApart, trimmed_edit_of}
 use Rattle.snippet_suggest.proofs.Common.{begin_cells, diff_cells, new_on, suggested_stretches, shown_kind, given_ranges, is_left_out, last_reached, is_touched}
 use Rattle.snippet_suggest.proofs.KnownDiff.{IsDiff, known_diff, known_diff_rows}
 use Rattle.snippet_suggest.proofs.SuggestedRows.{body_diff, body_untouched}
@@ -13,12 +13,7 @@ pub trimmed_span-requires : goal.trimmed_span-requires
 trimmed_span-requires c = grind (arith, known_spans, c.args.suggestion.now.map.text, c.deref-2.ensures.value, c.args.suggestion.now, c.requires.prepared)
 
 pub draw_diff-requires : goal.draw_diff-requires
-draw_diff-requires c =
-    record {
-      some = subst (λ (infos : List LineInfo). 0 < length infos) (sym c.deref-4.ensures.value)
-          (touched_some c.args.suggestion.now.map c.in_ok-removed.removed.items c.trimmed_span.result.start c.trimmed_span.result.end
-          c.trimmed_span.ensures.span.ordered c.in_ok-removed.ensures.lines);
-    }
+draw_diff-requires c = grind (arith, common_steps, touched_some)
 
 pub returns-then-not-is_touched-clause-cells : goal.returns-then-not-is_touched-clause-cells
 returns-then-not-is_touched-clause-cells c = λ above under start is.
@@ -30,8 +25,7 @@ returns-then-not-is_touched-clause-cells c = λ above under start is.
     let touches : is_touched s.fold (given_ranges s) 0 ≡ false = ap (λ rs. is_touched s.fold rs 0) (sym c.requires.prepared.ranges ∙ sym c.deref.ensures.value)
     ∙ sym c.is_touched.ensures.value ∙ c.if-not-is_touched.true in
     let rows = rows_diff start s a.line.now [] false (is_left_out Diff (a.line.now ∷ []) (last_reached s)) c.requires.line diff touches refl in
-    ap (λ (rs : List (List Cell)). rs ++ [] ∷ []) is ∙ append_assoc above (begin ∷ []) ([] ∷ [])
-    ∙ ap (λ (rs : List (List Cell)). above ++ rs) (body_untouched a.layout.now start s under a.line.now c.requires.line diff touches rows)
+    cc (is, append_assoc above (begin ∷ []) ([] ∷ []), body_untouched a.layout.now start s under a.line.now c.requires.line diff touches rows)
 
 pub returns-clause-cells : goal.returns-clause-cells
 returns-clause-cells c = λ above under start is.
@@ -44,18 +38,7 @@ returns-clause-cells c = λ above under start is.
     let some : 0 < length c.deref-2.result.now = subst (λ (ps : List TrimmedPatch). 0 < length ps) (sym patches) (known_some p c.requires.prepared) in
     let apart : AreApart 0 (map trimmed_edit_of c.deref-2.result.now) = subst (AreApart 0) (sym (ap (map trimmed_edit_of) patches ∙ c.requires.prepared.edits))
     (known_apart p c.requires.prepared) in
-    let diff : IsDiff p a.line.now infos span.start span.end a.first = record {
-      prepared = c.requires.prepared;
-      diff = c.requires.diff;
-      one = c.requires.line;
-      touches = sym c.if-not-is_touched.false ∙ c.is_touched.ensures.value ∙ ap (λ ranges. is_touched s.fold ranges 0) c.deref.ensures.value;
-      starts = c.trimmed_span.ensures.start some apart ∙ ap (λ ps. first_start (map trimmed_edit_of ps)) patches;
-      ends = c.trimmed_span.ensures.end some apart ∙ ap (λ ps. end_from 0 (map trimmed_edit_of ps)) patches;
-      ordered = c.trimmed_span.ensures.span.ordered;
-      are = c.in_ok-removed.ensures.lines;
-      numbered = c.requires.first;
-      small = c.ranges.first.fits;
-    } in
+    let diff : IsDiff p a.line.now infos span.start span.end a.first = grind (arith, common_steps, some, apart, patches) in
     let begin : List Cell = begin_cells a.layout.now start under in
     let replaced = line_stretches c.deref-5.result.now in
     let added = c.stretches_of-added.result.now in

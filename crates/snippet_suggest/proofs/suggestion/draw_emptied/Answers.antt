@@ -1,7 +1,7 @@
 use denote.Enum.Bare.{same_true, true_same}
-use Rattle.snippet_suggest.proofs.Common.{◌≡◌, ◌≢◌, ℕ, ◌<◌, ◌≤◌, ◌∷◌, ◌++◌, ◌∙◌, [], List, ap, append_assoc, arith}
+use Rattle.snippet_suggest.proofs.Common.{◌≡◌, ◌≢◌, ℕ, ◌<◌, ◌≤◌, ◌∷◌, ◌++◌, ◌∙◌, [], List, ap, append_assoc, arith, common_steps}
 use Rattle.snippet_suggest.proofs.Common.{if◌then◌else◌, length, map, rules, subst, sym, append-nil, length-append, row_at, Cell, begin_cells}
-use Rattle.snippet_suggest.proofs.Common.{on_ok_weaker, source_lines, line_of, TrimmedPatch, LineInfo, the_type, Diff, removed_lines, Begins, first_original}
+use Rattle.snippet_suggest.proofs.Common.{on_ok_weaker, source_lines, line_of, TrimmedPatch, the_type, Diff, removed_lines, Begins, first_original}
 use Rattle.snippet_suggest.proofs.Common.{first_original_end, emptied_cells, numbered_at, removed_from}
 use Rattle.snippet_suggest.proofs.SuggestedRows.{body_emptied, body_emptied_diff, shared_few}
 use Rattle.snippet_suggest.proofs.KnownLemmas.{known_originals, known_some}
@@ -14,16 +14,10 @@ pub given_span-requires : goal.given_span-requires
 given_span-requires c = grind (arith, known_originals, c.args.suggestion.now.map.text, c.deref.ensures.value, c.args.suggestion.now, c.requires.prepared)
 
 pub draw_removed_lines-requires-clause-some : goal.draw_removed_lines-requires-clause-some
-draw_removed_lines-requires-clause-some c =
-    subst (λ (infos : List LineInfo). 0 < length infos) (sym c.deref-then-eq.ensures.value)
-    (touched_some c.args.suggestion.now.map c.in_ok-removed.removed.items c.given_span.result.start c.given_span.result.end
-    c.given_span.ensures.span.ordered c.in_ok-removed.ensures.lines)
+draw_removed_lines-requires-clause-some c = grind (arith, common_steps, touched_some)
 
 pub draw_removed_lines-requires-2-clause-some : goal.draw_removed_lines-requires-2-clause-some
-draw_removed_lines-requires-2-clause-some c =
-    subst (λ (infos : List LineInfo). 0 < length infos) (sym c.deref-2.ensures.value)
-    (touched_some c.args.suggestion.now.map c.in_ok-removed.removed.items c.given_span.result.start c.given_span.result.end
-    c.given_span.ensures.span.ordered c.in_ok-removed.ensures.lines)
+draw_removed_lines-requires-2-clause-some c = grind (arith, common_steps, touched_some)
 
 pub returns-then-eq : goal.returns-then-eq
 returns-then-eq c =
@@ -74,8 +68,5 @@ returns c =
           ∙ known_emptied_rows p c.requires.prepared infos span.start span.end c.requires.none starts ends c.in_ok-removed.ensures.lines in
           let rows = rows_none a.start s c.requires.none (λ diff. other (c.requires.prepared.kind ∙ diff)) ∙ sym removed in
           let row : c.first_row-row.result ≡ length above = omega (arith, c.first_row-row.ensures.value, ap length is, count, length-append above tail) in
-          let few : length tail ≤ 1 = shared_few a.start (length tail) count in
-          on_ok_weaker c.draw_removed_lines-2.result (λ drawn. drawn ∙ ap (λ rs.
-          above ++ rs) (body_emptied a.layout.now a.start s (row_at tail 0) i lines c.requires.none rows))
-          (c.draw_removed_lines-2.ensures.cells above tail row is few);
+          let few : length tail ≤ 1 = shared_few a.start (length tail) count in grind (arith, common_steps, on_ok_weaker, body_emptied, rows, row, is, few);
     }

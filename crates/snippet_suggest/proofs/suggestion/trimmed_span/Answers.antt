@@ -1,4 +1,4 @@
-use Rattle.snippet_suggest.proofs.Common.{◌-◌, ◌∙◌, arith, length}
+use Rattle.snippet_suggest.proofs.Common.{◌-◌, ◌∙◌, arith, length, common_steps}
 use Rattle.snippet_suggest.proofs.ReachLemmas.{first_begin, last_end, least_begin, only_end}
 use Rattle.snippet_suggest.proofs.SpanLemmas.{joined_span, whole_span}
 use Rattle.snippet_suggest.proofs.suggestion.trimmed_span.Goals as goal
@@ -8,8 +8,7 @@ returns-in-empty-clause-span c =
     whole_span c.args.source.now.text c.source.result.now c.source.utf8 c.source.ensures.value
 
 pub returns-in-len1-clause-end : goal.returns-in-len1-clause-end
-returns-in-len1-clause-end c = λ some apart.
-    only_end 0 c.args.patches.now _ some c.in-len1.len_below
+returns-in-len1-clause-end c = grind (arith, common_steps, only_end)
 
 pub returns-in-len1-clause-start : goal.returns-in-len1-clause-start
 returns-in-len1-clause-start c = λ some apart. first_begin c.args.patches.now _ some

@@ -1,19 +1,11 @@
 use Rattle.std.proofs.lemmas.Grind.{common_steps}
-use Rattle.snippet_suggest.proofs.Common.{◌≡◌, ◌==◌, ℕ, ap, arith, count_by, refl, take, capped, TabCursor}
-use Rattle.std.proofs.Common.{chars}
+use Rattle.snippet_suggest.proofs.Common.{arith, refl}
 use Rattle.snippet_suggest.proofs.StretchRows.{cursor_ended, cursor_next, cursor_there}
 use Rattle.snippet_suggest.proofs.roles.TabCursor.before.Goals as goal
-use Rattle.snippet_suggest.proofs.roles.TabCursor.before.Goals.{then-character-self, else-character-self, else-loop-self-test, then-loop-self-test+in_default}
+use Rattle.snippet_suggest.proofs.roles.TabCursor.before.Goals.{then-loop-self-test+in_default}
 
 pub loop-self-init : goal.loop-self-init
-loop-self-init c =
-    let line : TabCursor → _ = λ t. t.line.now in
-    let passed : TabCursor → ℕ = λ t. t.passed in
-    elim c.if-character-self.branch [
-      | then-character-self w ↦ grind (arith, common_steps, passed, line, c.if-character-self.self.passed)
-      | else-character-self w ↦
-          grind (arith, common_steps, passed, line, c.if-character-self.self.passed, c.args.self.now.passed, c.args.character, c.requires.at)
-    ]
+loop-self-init c = grind (arith, common_steps)
 
 pub loop-self-preserved : goal.loop-self-preserved
 loop-self-preserved c =
@@ -25,13 +17,4 @@ loop-self-preserved c =
     }
 
 pub returns-clause-value : goal.returns-clause-value
-returns-clause-value c =
-    let inv = c.loop-self.invariant in
-    let k = c.args.character in
-    let tabs : TabCursor → ℕ = λ t. t.tabs in
-    let there : capped (count_by (λ c. c == 9) (take k (chars c.loop-self.self.line.now)))
-    ≡ capped (count_by (λ c. c == 9) (take k (chars c.args.self.now.line.now))) = ap (λ t. capped (count_by (λ c. c == 9) (take k (chars t)))) inv.line in
-    elim c.loop-self-test.branch [
-      | else-loop-self-test w ↦ grind (arith, common_steps, k, inv, tabs, cursor_there, there, c.loop-self.self.passed, inv.few, c.loop-self.self, inv.at)
-      | then-loop-self-test+in_default w ↦ grind (arith, common_steps, tabs, cursor_ended, k, inv, there, c.loop-self.self, inv.at, inv.few)
-    ]
+returns-clause-value c = grind (arith, common_steps, cursor_there, cursor_ended)
