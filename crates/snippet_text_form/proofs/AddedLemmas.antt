@@ -1,6 +1,5 @@
 -- How a form grows by texts, one after another.
-use Rattle.snippet_text_form.proofs.Common.{◌≡◌, ℕ, List, ◌++◌, Result, sym, ap, ◌∙◌, OnOk, append_assoc, map-append, on_ok_weaker, FormPiece}
-use Rattle.snippet_text_form.proofs.Common.{Char, bare}
+use Rattle.snippet_text_form.proofs.Common.{◌≡◌, ℕ, List, ◌++◌, Result, sym, ap, ◌∙◌, OnOk, append_assoc, map-append, on_ok_weaker, FormPiece, Char, bare}
 
 -- two parts
 pub added-two : {X : Type 0} (old one new a b : List X) → one ≡ old ++ a → new ≡ one ++ b → new ≡ old ++ (a ++ b)

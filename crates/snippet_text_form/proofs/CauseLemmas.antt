@@ -102,13 +102,7 @@ pub span-labelled : (anonymized : Bool) (source : Source) (indent : List ℕ) (p
     → two ≡ one ++ bare indent → three ≡ two ++ bare (span_place anonymized source path at.0 at.1) → four ≡ three ++ bare (codes ": ")
     → five ≡ four ++ bare (label_characters a) → is_labelled a ≡ true → five ≡ old ++ span_form anonymized source indent path a
 span-labelled anonymized source indent path a at old one two three four five is first second third fourth fifth some =
-    let front : List ℕ = indent ++ span_place anonymized source path at.0 at.1 in
-    let label : List ℕ = label_characters a in
-    let after : codes ": " ++ label ≡ after_place label = sym (cond-true (is_labelled a) (codes ": " ++ label) [] some) in
-    fifth ∙ ap (λ l. l ++ bare label)
-    (fourth ∙ ap (λ l. l ++ bare (codes ": "))
-    (place-added old one two three indent (span_place anonymized source path at.0 at.1) first second third)) ∙ joined front (codes ": ") label
-    ∙ ap (λ l. old ++ Break ∷ bare (front ++ l)) after ∙ placed anonymized source indent path a at old is
+    grind (arith, common_steps, cond-true, place-added, joined, placed)
   where
     joined : (front colon label : List ℕ) → ((old ++ Break ∷ bare front) ++ bare colon) ++ bare label ≡ old ++ Break ∷ bare (front ++ (colon ++ label))
     joined front colon label = simp (append_assoc, map-append)

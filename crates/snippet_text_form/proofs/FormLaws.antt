@@ -1,7 +1,8 @@
 -- A text form under a sheet: it is a woven text, whose plain text and links are the form's own.
+use Rattle.std.proofs.lemmas.Grind.{common_steps}
 use Rattle.std.proofs.Common.{arith}
-use Rattle.snippet_text_form.proofs.Common.{◌≡◌, ℕ, Bool, true, false, List, [], ◌∷◌, ◌++◌, Option, None, Some, All, map, refl, sym, ap}
-use Rattle.snippet_text_form.proofs.Common.{◌∙◌, subst, flat_map, option_to_list, append_assoc, All-nil, All-cons, Piece, Opening, Reset, LinkTo, LinkEnd}
+use Rattle.snippet_text_form.proofs.Common.{◌≡◌, ℕ, Bool, true, false, List, [], ◌∷◌, ◌++◌, Option, None, Some, All, map, refl, ap}
+use Rattle.snippet_text_form.proofs.Common.{◌∙◌, flat_map, option_to_list, append_assoc, All-nil, All-cons, Piece, Opening, Reset, LinkEnd}
 use Rattle.snippet_text_form.proofs.Common.{plain_piece, piece_link, IsOfSheet, AreLinksEnded, IsStyleOf, IsWoven, ElementStyle, Note, Style, Stylesheet}
 use Rattle.snippet_text_form.proofs.Common.{FormPiece, Char, Break, Styled, begun_after, plain_from, form_text, form_links, link_codes_before, link_codes_after}
 use Rattle.snippet_text_form.proofs.Common.{in_style, role_style, woven_from, form_bytes}
@@ -69,8 +70,7 @@ linked_of_sheet : (sheet : Stylesheet) (link : Option (List ℕ)) (text : List �
     → All (λ p. IsOfSheet sheet p) (link_codes_before link ++ (woven_chars text ++ (link_codes_after link ++ ps)))
 linked_of_sheet sheet None text ps of = chars_of_sheet sheet text ps of
 linked_of_sheet sheet (Some url) text ps of =
-    All-cons (λ p. IsOfSheet sheet p) (LinkTo url) (woven_chars text ++ LinkEnd ∷ ps) tt
-    (chars_of_sheet sheet text (LinkEnd ∷ ps) (All-cons (λ p. IsOfSheet sheet p) LinkEnd ps tt of))
+    All-cons (λ p. IsOfSheet sheet p) _ _ tt (chars_of_sheet sheet text (LinkEnd ∷ ps) (All-cons (λ p. IsOfSheet sheet p) LinkEnd ps tt of))
 
 in_style_of_sheet : (sheet : Stylesheet) (role : ElementStyle) (link : Option (List ℕ)) (text : List ℕ) (rest : List Piece) → All (λ p. IsOfSheet sheet p) rest
     → All (λ p. IsOfSheet sheet p) (in_style (role_style sheet role) link text ++ rest)
@@ -78,10 +78,7 @@ in_style_of_sheet sheet role link text rest of =
     let style : Style = role_style sheet role in
     let own : IsStyleOf sheet style = record { level = Note; role = role; is = refl } in
     let after = All-cons (λ p. IsOfSheet sheet p) (Reset style) rest own of in
-    let linked = linked_of_sheet sheet link text (Reset style ∷ rest) after in
-    subst (λ (ps : List Piece). All (λ p. IsOfSheet sheet p) ps) (sym (in_style-pieces style link text rest))
-    (All-cons (λ p. IsOfSheet sheet p) (Opening style) (link_codes_before link
-    ++ (woven_chars text ++ (link_codes_after link ++ Reset style ∷ rest))) own linked)
+    let linked = linked_of_sheet sheet link text (Reset style ∷ rest) after in grind (arith, common_steps, in_style-pieces, All-cons)
 
 woven_of_sheet : (sheet : Stylesheet) (begun : Bool) (form : List FormPiece) → All (λ p. IsOfSheet sheet p) (woven_from sheet begun form)
 woven_of_sheet sheet begun [] = All-nil (λ p. IsOfSheet sheet p)

@@ -56,11 +56,8 @@ text-in_style style link cs =
     let after : List Piece = link_codes_after link in
     let whole = sym (append-nil (in_style style link cs)) ∙ in_style-pieces style link cs [] in
     let last : flat_map piece_text (after ++ Reset style ∷ []) ≡ flat_map piece_text after
-    ++ encode_utf8_all (reset style) = flat_map-append piece_text after (Reset style ∷ [])
-    ∙ ap (λ (bs : List ℕ). flat_map piece_text after ++ bs) (append-nil (encode_utf8_all (reset style))) in
-    ap (flat_map piece_text) whole ∙ ap (λ (bs : List ℕ). encode_utf8_all (opening style) ++ bs)
-    (flat_map-append piece_text before (woven_chars cs ++ (after ++ Reset style ∷ [])) ∙ ap (λ (bs : List ℕ). flat_map piece_text before
-    ++ bs) (text-chars cs (after ++ Reset style ∷ []) ∙ ap (λ (bs : List ℕ). encode_utf8_all cs ++ bs) last))
+    ++ encode_utf8_all (reset style) = cc (flat_map-append piece_text after (Reset style ∷ []), append-nil (encode_utf8_all (reset style))) in
+    cc (whole, flat_map-append piece_text before (woven_chars cs ++ (after ++ Reset style ∷ [])), text-chars cs (after ++ Reset style ∷ []), last)
 
 -- a text that grew by each of these in turn
 pub styled_added : (style : Style) (link : Option (List ℕ)) (bytes : List ℕ) (old one two three four new : List ℕ) → IsUtf8 bytes
@@ -74,8 +71,7 @@ styled_added style link bytes old one two three four new utf8 first second third
     let end : List ℕ = encode_utf8_all (reset style) in
     let grown : new ≡ (((((old ++ begin) ++ before) ++ bytes) ++ after) ++ end) = grind (arith, common_steps, end, after, before) in
     let regrouped : (((((old ++ begin) ++ before) ++ bytes) ++ after) ++ end) ≡ old ++ (begin ++ (before ++ (bytes ++ (after ++ end)))) = simp append_assoc in
-    grown ∙ regrouped ∙ ap (λ (bs : List ℕ). old ++ (begin ++ (before ++ (bs ++ (after ++ end))))) (sym (encodes-chars bytes utf8))
-    ∙ ap (λ (bs : List ℕ). old ++ bs) (sym (text-in_style style link (chars bytes)))
+    cc (grown, regrouped, encodes-chars bytes utf8, text-in_style style link (chars bytes))
 
 -- ---- whether text stands before a part
 
@@ -138,11 +134,7 @@ pub record IsRendered (sheet : Stylesheet) (front : List FormPiece) (text : List
 pub IsRendered-more : (sheet : Stylesheet) (front own : List FormPiece) (old new : List ℕ) (begun after : Bool)
     → IsRendered sheet front old begun → new ≡ old ++ flat_map piece_text (woven_from sheet begun own) → after ≡ begun_past begun own
     → IsRendered sheet (front ++ own) new after
-IsRendered-more sheet front own old new begun after rendered added is =
-    record {
-      text_is = grind (arith, common_steps, flat_map-append, woven-append, rendered.text_is, rendered.begun_is);
-      begun_is = is ∙ ap (λ (b : Bool). begun_past b own) rendered.begun_is ∙ sym (begun_past-append false front own);
-    }
+IsRendered-more sheet front own old new begun after rendered added is = grind (arith, common_steps, flat_map-append, woven-append, begun_past-append)
 
 -- whether text stands after a text without codes, given whether it stands before
 begun_past-bare : (begun : Bool) (cs : List ℕ) → begun_past begun (bare cs) ≡ begun_after begun cs
@@ -184,8 +176,7 @@ rendered-bare : (sheet : Stylesheet) (front : List FormPiece) (text : List ℕ) 
 rendered-bare sheet front text from to old new utf8 start end ordered rendered added =
     let own : IsUtf8 (stretch text from to) = IsUtf8-stretch text from to utf8 ordered end.within start.whole end.whole in
     let cs : List ℕ = chars (stretch text from to) in
-    IsRendered-more sheet front (bare cs) old new (nat_lt 0 from) (nat_lt 0 to) rendered
-    (added ∙ ap (λ (bs : List ℕ). old ++ bs) (woven-text sheet (nat_lt 0 from) (stretch text from to) own))
+    IsRendered-more sheet front _ old new _ _ rendered (added ∙ ap (λ (bs : List ℕ). old ++ bs) (woven-text sheet (nat_lt 0 from) (stretch text from to) own))
     (begun_between text from to own ordered end.within ∙ sym (begun_past-bare (nat_lt 0 from) cs))
 
 -- nothing stands between a place and itself
@@ -217,6 +208,5 @@ IsRenderedTo-mark sheet form text m ms from out mid new utf8 before first second
 pub IsRenderedTo-all : (sheet : Stylesheet) (form : List FormPiece) (text : List ℕ) (from : ℕ) (out new : List ℕ) → IsUtf8 text
     → IsRenderedTo sheet form text [] from out → new ≡ out ++ stretch text from (length text) → new ≡ form_bytes sheet form
 IsRenderedTo-all sheet form text from out new utf8 before last =
-    let all = rendered-bare sheet before.front text from (length text) out new utf8 before.marks_are (IsPlace-end text utf8)
-    before.marks_are.within before.rendered last in
+    let all = rendered-bare sheet before.front text from _ out new utf8 before.marks_are (IsPlace-end text utf8) before.marks_are.within before.rendered last in
     all.text_is ∙ ap (form_bytes sheet) (sym before.form_is)

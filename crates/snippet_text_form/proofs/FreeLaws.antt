@@ -1,17 +1,16 @@
 -- No text form holds a listed character but those of a trusted heading's text.
 use Rattle.std.proofs.lemmas.Grind.{common_steps}
-use Rattle.snippet_text_form.proofs.Common.{◌≡◌, ℕ, ◌==◌, ◌&&◌, not, Bool, true, false, Option, None, Some, List, [], ◌∷◌, ◌++◌, All}
-use Rattle.snippet_text_form.proofs.Common.{codes, filter, replicate, if◌then◌else◌, refl, sym, subst, arith, cow_str_bytes, decimal, flat_map, Contains}
-use Rattle.snippet_text_form.proofs.Common.{option_map, nat_tests, All-nil, All-cons, All-head, All-tail, All-append, All-replicate, All-weaker, Source}
-use Rattle.snippet_text_form.proofs.Common.{locations_of, Heading, is_hidden, name_of, Level, Annotation, Id, Origin, Patch, Snippet, Edit}
-use Rattle.snippet_text_form.proofs.Common.{without_final_line_feeds, picture_of, with_line_feeds_shown, ElementStyle, Addition, is_blank_text, is_listed, norm}
-use Rattle.snippet_text_form.proofs.Common.{normalized_chars, width_of, address_of, shown_text, heading_lines, is_set, HeadingRoles, IsUnlisted, IsOwn}
-use Rattle.snippet_text_form.proofs.Common.{norm-free, own_text, own_unlisted, All-slice_split, each-fails, cause_form, is_labelled, named_spans}
-use Rattle.snippet_text_form.proofs.Common.{further_indent, span_form, span_text, spans_form, numbered_source, place, place_in_file, added_form, added_text}
-use Rattle.snippet_text_form.proofs.Common.{before_added, edit_form, edit_indent, edit_place, named_path, option_form, origin_form, suggestion_form, FormPiece}
-use Rattle.snippet_text_form.proofs.Common.{Break, Styled, bare, plain_from, styled, before_id, before_name, colon_form, further_line, heading_form, id_form}
-use Rattle.snippet_text_form.proofs.Common.{id_text_form, label_form, heading_label, link_for, linking, lines_form, name_form, text_roles_of, HeadingKind}
-use Rattle.snippet_text_form.proofs.Common.{SuggestionContext, SuggestionSettings}
+use Rattle.snippet_text_form.proofs.Common.{◌≡◌, ℕ, ◌==◌, ◌&&◌, not, Bool, true, false, Option, None, Some, List, [], ◌∷◌, ◌++◌, All, codes, filter, replicate}
+use Rattle.snippet_text_form.proofs.Common.{if◌then◌else◌, refl, sym, subst, arith, cow_str_bytes, decimal, flat_map, Contains, option_map, nat_tests, All-nil}
+use Rattle.snippet_text_form.proofs.Common.{All-cons, All-head, All-tail, All-append, All-replicate, All-weaker, Source, locations_of, Heading, is_hidden}
+use Rattle.snippet_text_form.proofs.Common.{name_of, Level, Annotation, Id, Origin, Patch, Snippet, Edit, without_final_line_feeds, picture_of}
+use Rattle.snippet_text_form.proofs.Common.{with_line_feeds_shown, ElementStyle, Addition, is_blank_text, is_listed, norm, normalized_chars, width_of}
+use Rattle.snippet_text_form.proofs.Common.{address_of, shown_text, heading_lines, is_set, HeadingRoles, IsUnlisted, IsOwn, norm-free, own_text, own_unlisted}
+use Rattle.snippet_text_form.proofs.Common.{All-slice_split, each-fails, cause_form, is_labelled, named_spans, further_indent, span_form, span_text, spans_form}
+use Rattle.snippet_text_form.proofs.Common.{numbered_source, place, place_in_file, added_form, added_text, before_added, edit_form, edit_indent, edit_place}
+use Rattle.snippet_text_form.proofs.Common.{named_path, option_form, origin_form, suggestion_form, FormPiece, Break, Styled, bare, plain_from, styled}
+use Rattle.snippet_text_form.proofs.Common.{before_id, before_name, colon_form, further_line, heading_form, id_form, id_text_form, label_form, heading_label}
+use Rattle.snippet_text_form.proofs.Common.{link_for, linking, lines_form, name_form, text_roles_of, HeadingKind, SuggestionContext, SuggestionSettings}
 use Rattle.std.proofs.Common.{chars}
 use Rattle.snippet_suggest.specs.Given as given
 use Rattle.snippet_text_form.proofs.OrderLaws.{plain-append}
@@ -91,8 +90,7 @@ spans-free anonymized source path (a ∷ marks) =
     (span_text-free anonymized source (codes " ") path a (each-fails is_listed (codes " ") refl)) in
     each-append IsUnlisted refl (span_form anonymized source (codes " ") path a) (flat_map further (filter is_labelled marks))
     one (each-flat_map IsUnlisted refl further
-    (λ b. line-free (span_text anonymized source indent None b) (span_text-free anonymized source indent None b
-    (further_indent-each IsUnlisted printable-free path)))
+    (λ b. line-free _ (span_text-free anonymized source indent None b (further_indent-each IsUnlisted printable-free path)))
     (filter is_labelled marks))
 
 -- a cause holds none
@@ -111,9 +109,7 @@ picture-free c free = of_feed (c == 10)
 
 pictures-free : (cs : List ℕ) → AreFree cs → AreFree (with_line_feeds_shown cs)
 pictures-free [] free = All-nil IsUnlisted
-pictures-free (c ∷ cs) free =
-    All-cons IsUnlisted (picture_of c) (with_line_feeds_shown cs) (picture-free c (All-head IsUnlisted c cs free))
-    (pictures-free cs (All-tail IsUnlisted c cs free))
+pictures-free (c ∷ cs) free = All-cons IsUnlisted _ _ (picture-free c (All-head IsUnlisted c cs free)) (pictures-free cs (All-tail IsUnlisted c cs free))
 
 added_text-free : (feeds : Bool) (e : Edit) → AreFree (added_text feeds e)
 added_text-free true e =
@@ -163,8 +159,7 @@ suggestion-free begun settings at s =
     let path : Option (List ℕ) = named_path at.names_path (option_map cow_str_bytes s.path) in
     let edits : Edit → List FormPiece = edit_form settings source (edit_indent at.option) path in
     each-append IsUnlisted refl (option_form at.option) (flat_map edits (given.trimmed_of s)) (option-free at.option)
-    (each-flat_map IsUnlisted refl edits (edit-free settings source (edit_indent at.option) path
-    (edit_indent-each IsUnlisted printable-free at.option)) (given.trimmed_of s)) begun
+    (each-flat_map IsUnlisted refl edits (edit-free settings source _ path (edit_indent-each IsUnlisted printable-free at.option)) (given.trimmed_of s)) begun
 
 -- the text form of an origin holds no listed character
 pub origin-free : (begun anonymized : Bool) (o : Origin) → All (λ c. is_listed c ≡ false) (plain_from begun (origin_form anonymized o))

@@ -59,11 +59,7 @@ first_after (([] ∷ line ∷ ls) ∷ es) fs b is = grind (arith, common_steps, 
 first_after (((c ∷ line) ∷ ls) ∷ es) fs b is = grind (arith, begun-cons, append_assoc, below_both, is.later)
 
 pub text-append : (es fs : List (List (List ℕ))) (a b : List FormPiece) → IsTextOf es a → IsTextOf fs b → IsTextOf (es ++ fs) (a ++ b)
-text-append es fs a b one two =
-    record {
-      later = grind (arith, common_steps, plain-append, below_both, one.later, two.later);
-      first = grind (arith, common_steps, plain-append, first_after, one.first);
-    }
+text-append es fs a b one two = grind (arith, common_steps, plain-append, below_both, first_after)
 
 pub text-each : {A : Type 0} (paragraphs : A → List (List (List ℕ))) (form : A → List FormPiece) → ((x : A) → IsTextOf (paragraphs x) (form x)) → (xs : List A)
     → IsTextOf (flat_map paragraphs xs) (flat_map form xs)
@@ -80,11 +76,7 @@ alone ((c ∷ line) ∷ lines) = ap (λ (ls : List (List ℕ)). (c ∷ line) ++ 
 
 pub text-paragraph : (line : List ℕ) (lines : List (List ℕ)) (form : List FormPiece) → ((begun : Bool) → plain_from begun form ≡ joined (line ∷ lines))
     → IsTextOf ((line ∷ lines) ∷ []) (Break ∷ form)
-text-paragraph line lines form is =
-    record {
-      later = ap (λ (cs : List ℕ). 10 ∷ cs) (is true) ∙ ap below (sym (append-nil (line ∷ lines)));
-      first = is false ∙ alone (line ∷ lines);
-    }
+text-paragraph line lines form is = grind (arith, common_steps, append-nil, alone)
 
 -- one of one line
 pub text-line : (line : List ℕ) (form : List FormPiece) → ((begun : Bool) → plain_from begun form ≡ line) → IsTextOf (line_paragraph line ∷ []) (Break ∷ form)
@@ -107,9 +99,7 @@ spans-text : (anonymized : Bool) (source : Source) (path : Option (List ℕ)) (m
 spans-text anonymized source path [] = bare-line (codes " " ++ place anonymized path source.first None)
 spans-text anonymized source path (a ∷ marks) =
     let further : Annotation → List ℕ = span_text anonymized source (further_indent path) None in
-    text-append (line_paragraph (span_text anonymized source (codes " ") path a) ∷ []) (map line_paragraph (map further (filter is_labelled marks)))
-    (span_form anonymized source (codes " ") path a) (flat_map (span_form anonymized source (further_indent path) None) (filter is_labelled marks))
-    (bare-line (span_text anonymized source (codes " ") path a))
+    text-append _ _ _ _ (bare-line (span_text anonymized source (codes " ") path a))
     (text-lines further (span_form anonymized source (further_indent path) None) (λ b. bare-line (further b)) (filter is_labelled marks))
 
 -- those of an annotated snippet
@@ -130,10 +120,7 @@ added-plain feeds source e begun = of_blank (is_blank_text e.text)
 
     of_blank : (blank : Bool) → plain_from begun (if blank then [] else bare before ++ styled Addition text) ≡ (if blank then [] else before ++ text)
     of_blank true = refl
-    of_blank false =
-        plain-append begun (bare before) (styled Addition text)
-        ∙ ap (λ (cs : List ℕ). cs ++ plain_from (begun_after begun (plain_from begun (bare before))) (styled Addition text)) (plain-bare begun before)
-        ∙ ap (λ (cs : List ℕ). before ++ cs) (append-nil text)
+    of_blank false = grind (arith, common_steps, plain-append, before, text, plain-bare, append-nil)
 
 edit-text : (settings : SuggestionSettings) (source : Source) (indent : List ℕ) (path : Option (List ℕ)) (e : Edit)
     → IsTextOf (line_paragraph (edit_line settings source indent path e) ∷ []) (edit_form settings source indent path e)
@@ -159,9 +146,7 @@ suggestion-text settings at s =
     let path : Option (List ℕ) = named_path at.names_path (option_map cow_str_bytes s.path) in
     let line : Edit → List ℕ = edit_line settings source (edit_indent at.option) path in
     let edits : Edit → List FormPiece = edit_form settings source (edit_indent at.option) path in
-    text-append (map line_paragraph (option_lines at.option)) (map line_paragraph (map line (trimmed_of s))) (option_form at.option)
-    (flat_map edits (trimmed_of s))
-    (option-text at.option) (text-lines line edits (edit-text settings source (edit_indent at.option) path) (trimmed_of s))
+    text-append _ _ _ _ (option-text at.option) (text-lines line edits (edit-text settings source (edit_indent at.option) path) (trimmed_of s))
 
 -- that of an origin
 pub origin-text : (anonymized : Bool) (o : Origin) → IsTextOf (origin_paragraph anonymized o ∷ []) (origin_form anonymized o)
@@ -263,16 +248,14 @@ cut_at line (next ∷ lines) own all =
 all_lines-plain : (paragraphs : List (List (List ℕ))) → All (All IsLine) paragraphs → All IsLine (all_lines paragraphs)
 all_lines-plain [] all = All-nil IsLine
 all_lines-plain (paragraph ∷ paragraphs) all =
-    All-append IsLine paragraph (all_lines paragraphs) (All-head (All IsLine) paragraph paragraphs all)
-    (all_lines-plain paragraphs (All-tail (All IsLine) paragraph paragraphs all))
+    All-append IsLine paragraph _ (All-head (All IsLine) paragraph paragraphs all) (all_lines-plain paragraphs (All-tail (All IsLine) paragraph paragraphs all))
 
 cut_from : (line : List ℕ) (lines : List (List ℕ)) (paragraphs : List (List (List ℕ))) → All (All IsLine) ((line ∷ lines) ∷ paragraphs)
     → lines_in (joined ((line ∷ lines) ++ all_lines paragraphs)) ≡ (line ∷ lines) ++ all_lines paragraphs
 cut_from line lines paragraphs all =
     let own : All IsLine (line ∷ lines) = All-head (All IsLine) (line ∷ lines) paragraphs all in
     let later : All IsLine (all_lines paragraphs) = all_lines-plain paragraphs (All-tail (All IsLine) (line ∷ lines) paragraphs all) in
-    cut_at line (lines ++ all_lines paragraphs) (All-head IsLine line lines own)
-    (All-append IsLine lines (all_lines paragraphs) (All-tail IsLine line lines own) later)
+    cut_at line _ (All-head IsLine line lines own) (All-append IsLine lines (all_lines paragraphs) (All-tail IsLine line lines own) later)
 
 -- the text of paragraphs whose lines hold no line feed has just these lines
 cut_paragraphs : (paragraphs : List (List (List ℕ))) → All (All IsLine) paragraphs

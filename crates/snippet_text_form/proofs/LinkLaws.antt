@@ -1,12 +1,13 @@
 -- What a text form links to.
+use Rattle.std.proofs.lemmas.Grind.{common_steps}
 use Rattle.snippet_text_form.proofs.Common.{◌≡◌, ℕ, ◌&&◌, not, Bool, true, false, Option, None, Some, List, [], ◌∷◌, ◌++◌, Global, codes}
 use Rattle.snippet_text_form.proofs.Common.{replicate, if◌then◌else◌, refl, ap, ◌∙◌, arith, cow_str_bytes, decimal, flat_map, option_map}
-use Rattle.snippet_text_form.proofs.Common.{option_to_list, CowStr, nat_tests, flat_map-append, append-nil, Source, locations_of, Heading, is_hidden, name_of}
+use Rattle.snippet_text_form.proofs.Common.{option_to_list, CowStr, nat_tests, flat_map-append, append-nil, Source, Heading, is_hidden, name_of}
 use Rattle.snippet_text_form.proofs.Common.{Level, Annotation, Id, Origin, Patch, Snippet, Edit, ElementStyle, Addition, is_blank_text, norm, address_of}
 use Rattle.snippet_text_form.proofs.Common.{is_set, id_links, text_links, HeadingRoles, cause_form, named_spans, spans_form, numbered_source, FormPiece, bare}
 use Rattle.snippet_text_form.proofs.Common.{styled, form_links, before_name, colon_form, further_line, heading_form, id_form, id_text_form, label_form}
 use Rattle.snippet_text_form.proofs.Common.{link_for, linking, lines_form, name_form, place, place_in_file, added_form, added_text, before_added, edit_form}
-use Rattle.snippet_text_form.proofs.Common.{edit_place, option_form, origin_form, suggestion_form, HeadingKind, SuggestionContext, SuggestionSettings}
+use Rattle.snippet_text_form.proofs.Common.{option_form, origin_form, suggestion_form, HeadingKind, SuggestionContext, SuggestionSettings}
 use Rattle.std.proofs.Common.{chars}
 
 -- one text form after another
@@ -72,12 +73,7 @@ colon-links role hidden id = by_case (hidden && not (is_set id))
 
 label-links : (hyperlink : Bool) (kind : HeadingKind) (roles : HeadingRoles) (heading : Heading)
     → form_links (label_form hyperlink kind roles heading) ≡ id_links hyperlink heading.id
-label-links hyperlink kind roles heading =
-    let hidden : Bool = is_hidden heading.level.name in
-    let id : List FormPiece = id_form hyperlink hidden roles.label heading.id in
-    let colon : List FormPiece = colon_form roles.colon hidden heading.id in
-    form_links-unlinked (name_form kind roles.label heading.level) (id ++ colon) (name-links kind roles.label heading.level)
-    ∙ links-before id colon (colon-links roles.colon hidden heading.id) ∙ form_links-id hyperlink hidden roles.label heading.id
+label-links hyperlink kind roles heading = grind (arith, common_steps, form_links-unlinked, name-links, links-before, colon-links, form_links-id)
 
 lines-links : (role : ElementStyle) (width : ℕ) (lines : List (List ℕ)) → form_links (lines_form role width lines) ≡ []
 lines-links role width [] = refl
@@ -118,11 +114,7 @@ added_links feeds source e = of_blank (is_blank_text e.text)
 
 edit-links : (settings : SuggestionSettings) (source : Source) (indent : List ℕ) (path : Option (List ℕ)) (e : Edit)
     → form_links (edit_form settings source indent path e) ≡ []
-edit-links settings source indent path e =
-    let at = locations_of source e.start e.end in
-    let front : List ℕ = indent ++ edit_place settings.anonymized source path e at.0 at.1 in
-    form_links-unlinked (bare front) (added_form settings.show_line_feeds source.text e) (bare-links front)
-    ∙ added_links settings.show_line_feeds source.text e
+edit-links settings source indent path e = grind (arith, common_steps, form_links-unlinked, bare-links, added_links)
 
 -- the text form of a suggestion has no link
 pub suggestion-links : (settings : SuggestionSettings) (at : SuggestionContext) (s : Snippet Patch) → form_links (suggestion_form settings at s) ≡ []

@@ -1,11 +1,10 @@
 -- The pieces of a text with marks in it, as the text and the marks grow.
 use Rattle.std.proofs.lemmas.Grind.{common_steps}
-use Rattle.snippet_text_form.proofs.Common.{◌≡◌, ℕ, ◌+◌, ◌<◌, ◌≤◌, List, [], ◌∷◌, ◌++◌, Result, Ok, Err, if◌then◌else◌}
-use Rattle.snippet_text_form.proofs.Common.{length, drop, sym, ap, ◌∙◌, subst, get_or, arith, append-nil, append_assoc, drop_more, map-append}
-use Rattle.snippet_text_form.proofs.Common.{IsUtf8-from_ascii, chars-append, chars-nil, is_utf8-from_IsUtf8, OnOk, is_ok, IsUtf8, IsCharBoundary, BeginsWith}
-use Rattle.snippet_text_form.proofs.Common.{stretch, stretch_joined, stretch_grown, stretch_added, BeginsWith-added, BeginsWith-same, boundary, front_grown}
-use Rattle.snippet_text_form.proofs.Common.{IsUtf8-stretch, is_utf8-end, FormPiece, Char, bare, piece_of_kind, pieces_from, chars_between, IsPlace, AreMarks}
-use Rattle.snippet_text_form.proofs.Common.{FormMark}
+use Rattle.snippet_text_form.proofs.Common.{◌≡◌, ℕ, ◌+◌, ◌<◌, ◌≤◌, List, [], ◌∷◌, ◌++◌, Result, Ok, Err, if◌then◌else◌, length, drop, sym, ap, ◌∙◌, subst}
+use Rattle.snippet_text_form.proofs.Common.{get_or, arith, append-nil, append_assoc, drop_more, map-append, IsUtf8-from_ascii, chars-append, chars-nil}
+use Rattle.snippet_text_form.proofs.Common.{is_utf8-from_IsUtf8, OnOk, is_ok, IsUtf8, IsCharBoundary, BeginsWith, stretch, stretch_joined, stretch_grown}
+use Rattle.snippet_text_form.proofs.Common.{stretch_added, BeginsWith-added, BeginsWith-same, boundary, front_grown, IsUtf8-stretch, is_utf8-end, FormPiece}
+use Rattle.snippet_text_form.proofs.Common.{Char, bare, piece_of_kind, pieces_from, chars_between, IsPlace, AreMarks, FormMark}
 use Rattle.std.proofs.Common.{chars}
 use Rattle.snippet_text_form.specs.declared.form.MarkKind.TheVariants as kinds
 
@@ -21,16 +20,7 @@ IsPlace-grown old new at grows is = grind (arith, common_steps, front_grown, is.
 -- marks stay when the text grows
 pub AreMarks-grown : (old new : List ℕ) (from : ℕ) (marks : List FormMark) → BeginsWith old new → AreMarks old from marks → AreMarks new from marks
 AreMarks-grown old new from [] grows are = IsPlace-grown old new from grows are
-AreMarks-grown old new from (m ∷ ms) grows are = (
-  record {
-    from_is = IsPlace-grown old new from grows are.0.from_is;
-    start_is = IsPlace-grown old new m.start grows are.0.start_is;
-    after = are.0.after;
-    ordered = are.0.ordered;
-    empty = are.0.empty;
-  },
-  AreMarks-grown old new m.end ms grows are.1,
-)
+AreMarks-grown old new from (m ∷ ms) grows are = grind (arith, common_steps, IsPlace-grown, AreMarks-grown old new m.end ms grows are.1)
 
 -- the end of a text is a place in it
 pub IsPlace-end : (text : List ℕ) → IsUtf8 text → IsPlace text (length text)
@@ -54,15 +44,7 @@ pieces-text old new more from [] utf8 is place =
     ∙ ap bare (chars-append (stretch old from (length old)) more (between-utf8 old from (length old) utf8 place.within place (IsPlace-end old utf8)))
     ∙ map-append (λ (ch : ℕ). Char ch) (chars (stretch old from (length old))) (chars more)
 pieces-text old new more from (m ∷ ms) utf8 is are =
-    let grows : BeginsWith old new = BeginsWith-added old more new is in
-    let end : IsPlace old m.end = first_place old m.end ms are.1 in
-    let before : List FormPiece = bare (chars_between old from m.start) in
-    let own : FormPiece = piece_of_kind (chars_between old m.start m.end) m.kind in
-    ap (λ (bs : List ℕ). bare (chars bs) ++ piece_of_kind (chars_between new m.start m.end) m.kind ∷ pieces_from new m.end ms)
-    (stretch_grown old new from m.start grows are.0.start_is.within)
-    ∙ ap (λ (bs : List ℕ). before ++ piece_of_kind (chars bs) m.kind ∷ pieces_from new m.end ms) (stretch_grown old new m.start m.end grows end.within)
-    ∙ ap (λ (ps : List FormPiece). before ++ own ∷ ps) (pieces-text old new more m.end ms utf8 is are.1)
-    ∙ sym (append_assoc before (own ∷ pieces_from old m.end ms) (bare (chars more)))
+    grind (arith, common_steps, BeginsWith-added, first_place, stretch_grown, append_assoc, pieces-text old new more m.end ms utf8 is are.1)
 
 -- nothing stands after the end of a text
 none_after : (text : List ℕ) → chars_between text (length text) (length text) ≡ []

@@ -35,8 +35,7 @@ plain-append false (Break ∷ a) b = plain-append false a b
 plain-append begun (Styled role link text ∷ a) b =
     let now : Bool = begun_after begun text in
     let front : List ℕ = plain_from now a in
-    ap (λ cs. text ++ cs) (plain-append now a b) ∙ sym (append_assoc text front (plain_from (begun_after now front) b))
-    ∙ ap (λ t. (text ++ front) ++ plain_from t b) (sym (begun-append begun text front))
+    cc (plain-append now a b, append_assoc text front (plain_from (begun_after now front) b), begun-append begun text front)
 
 -- texts that stand in one stand there after more text too
 pub stand-after : (bs : List (List ℕ)) (p q : List ℕ) → StandInOrder bs q → StandInOrder bs (p ++ q)
@@ -67,10 +66,7 @@ abbrev pub Holds : List (List ℕ) → List FormPiece → Type 0
 Holds parts form = (begun : Bool) → StandInOrder parts (plain_from begun form)
 
 pub holds-append : (ps bs : List (List ℕ)) (a b : List FormPiece) → Holds ps a → Holds bs b → Holds (ps ++ bs) (a ++ b)
-holds-append ps bs a b first second begun =
-    let front : List ℕ = plain_from begun a in
-    let now : Bool = begun_after begun front in
-    subst (StandInOrder (ps ++ bs)) (sym (plain-append begun a b)) (stand-append ps bs front (plain_from now b) (first begun) (second now))
+holds-append ps bs a b first second begun = grind (arith, common_steps, plain-append, stand-append)
 
 -- so they do after any other, as after a break
 pub holds-after : (bs : List (List ℕ)) (a b : List FormPiece) → Holds bs b → Holds bs (a ++ b)

@@ -1,11 +1,10 @@
 -- The lines of a heading's text, and what they add to a form.
 use Rattle.std.proofs.lemmas.Grind.{common_steps}
-use Rattle.snippet_text_form.proofs.Common.{◌≡◌, ◌≢◌, ℕ, zero, suc, ◌+◌, ◌<◌, ◌==◌, Bool, true, false, List, [], ◌∷◌, ◌++◌}
-use Rattle.snippet_text_form.proofs.Common.{length, map, replicate, if◌then◌else◌, All, Result, refl, subst, sym, ap, ◌∙◌, arith, Bor}
-use Rattle.snippet_text_form.proofs.Common.{enumerate_from, onto_first, OnOk, IsUtf8, nat_tests, flat_map-append, append-nil, append_assoc, length-map}
-use Rattle.snippet_text_form.proofs.Common.{map-append, list_any, All-weaker, chars-IsAscii, slice_split-cons_no, slice_split-cons_yes, length-slice_split}
-use Rattle.snippet_text_form.proofs.Common.{ElementStyle, norm, shown, IsPlain, lines_at-plain, lines_at, lines_at-after, lines_at-chars, FormPiece, bare}
-use Rattle.snippet_text_form.proofs.Common.{styled, lines_form, before_line}
+use Rattle.snippet_text_form.proofs.Common.{◌≡◌, ◌≢◌, ℕ, zero, suc, ◌+◌, ◌<◌, ◌==◌, Bool, true, false, List, [], ◌∷◌, ◌++◌, length, map, replicate}
+use Rattle.snippet_text_form.proofs.Common.{if◌then◌else◌, All, Result, refl, subst, sym, ap, ◌∙◌, arith, Bor, enumerate_from, onto_first, OnOk, IsUtf8}
+use Rattle.snippet_text_form.proofs.Common.{nat_tests, flat_map-append, append-nil, append_assoc, length-map, map-append, list_any, All-weaker, chars-IsAscii}
+use Rattle.snippet_text_form.proofs.Common.{slice_split-cons_no, slice_split-cons_yes, length-slice_split, ElementStyle, norm, shown, IsPlain, lines_at-plain}
+use Rattle.snippet_text_form.proofs.Common.{lines_at, lines_at-after, lines_at-chars, FormPiece, bare, styled, lines_form, before_line}
 use Rattle.std.proofs.Common.{chars}
 use Rattle.snippet_model.proofs.RowLemmas.{each_fails as All-from_none}
 use Rattle.snippet_titles.proofs.LineLemmas.{line_of}

@@ -1,4 +1,5 @@
 -- What is added to a text form for a suggestion, one text after the other.
+use Rattle.std.proofs.lemmas.Grind.{common_steps}
 use Rattle.std.proofs.Common.{arith}
 use Rattle.snippet_text_form.proofs.Common.{◌≡◌, ℕ, ◌+◌, ◌<◌, Bool, true, false, Option, Some, List, [], ◌∷◌, ◌++◌, get_or, length}
 use Rattle.snippet_text_form.proofs.Common.{map, take, sym, ap, subst, ◌∙◌, and_from, cond-false, cond-true, flat_map_more, map_more, cow_str_bytes}
@@ -32,10 +33,7 @@ other_place anonymized source path e start end other = grind (arith, cond-false,
 pub edits_more : (f : Edit → List FormPiece) (old mid new : List FormPiece) (ps : List TrimmedPatch) (i : ℕ) (d : TrimmedPatch) → i < length ps
     → mid ≡ old ++ flat_map f (map trimmed_edit_of (take i ps)) → new ≡ mid ++ f (trimmed_edit_of (get_or ps i d))
     → new ≡ old ++ flat_map f (map trimmed_edit_of (take (i + 1) ps))
-edits_more f old mid new ps i d within first last =
-    let e : Edit = trimmed_edit_of (get_or ps i d) in
-    last ∙ ap (λ form. form ++ f e) first ∙ flat_map_more f old (map trimmed_edit_of (take i ps)) e
-    ∙ ap (λ es. old ++ flat_map f es) (sym (map_more trimmed_edit_of ps i d within))
+edits_more f old mid new ps i d within first last = grind (arith, common_steps, flat_map_more, map_more)
 
 -- a suggestion is added once its number and all of its patches are
 pub suggestion_added : (settings : SuggestionSettings) (at : SuggestionContext) (p : PreparedSuggestion) (indent : List ℕ) (path : Option (List ℕ))

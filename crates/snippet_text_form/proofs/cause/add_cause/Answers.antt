@@ -1,4 +1,5 @@
-use Rattle.snippet_text_form.proofs.Common.{All, List, sym, ap, subst, ◌∙◌, map, on_ok_weaker, option_copied, IsSpan, Annotation, named_spans, NamedSpan}
+use Rattle.std.proofs.lemmas.Grind.{common_steps}
+use Rattle.snippet_text_form.proofs.Common.{All, List, sym, subst, map, on_ok_weaker, IsSpan, Annotation, NamedSpan, arith}
 use Rattle.snippet_text_form.proofs.CauseLemmas.{annotation_of, All-annotations, All-named_spans, cause-added}
 use Rattle.snippet_text_form.proofs.cause.add_cause.Goals as goal
 
@@ -14,10 +15,4 @@ add_spans-requires c =
     }
 
 pub returns : goal.returns
-returns c =
-    let named = ap (map annotation_of) c.deref-2.ensures.value ∙ c.in_ok-spans.ensures.value ∙ ap named_spans c.deref.ensures.value in
-    record {
-      added = on_ok_weaker c.add_spans.result
-          (λ added. cause-added c.args.anonymized c.args.map.now (option_copied c.path_of-path.result) (map annotation_of c.deref-2.result.now)
-          c.args.snippet.now c.args.form.now c.add_spans.new.form c.requires.map c.path_of-path.ensures.value named added) c.add_spans.ensures.added;
-    }
+returns c = grind (arith, common_steps, annotation_of, on_ok_weaker, cause-added)

@@ -7,11 +7,9 @@ use Rattle.snippet_text_form.proofs.heading.add_id.Goals.{then-is_empty, else-is
 pub returns : goal.returns
 returns c =
     let text = cow_str_bytes c.in-Some-id.text in
-    let shown : chars (cow_str_bytes c.in_ok-shown.shown) ≡ norm (chars text) = c.in_ok-shown.ensures.value
-    ∙ ap (λ bs. norm (chars bs)) c.as_str.ensures.value in
+    let shown : chars (cow_str_bytes c.in_ok-shown.shown) ≡ norm (chars text) = cc (c.in_ok-shown.ensures.value, c.as_str.ensures.value) in
     let link : option_copied c.if-is_empty.address ≡ link_for (address_of c.args.hyperlink c.in-Some.id.now) (norm (chars text)) = elim c.if-is_empty.branch [
-      | then-is_empty w ↦ link-known c.is_empty.result c.deref.result.now _ _ _ _ c.deref.utf8 c.deref.ensures.value c.is_empty.ensures shown (λ is.
-          ap option_copied w.address-is) (λ is. cc)
+      | then-is_empty w ↦ link-known _ _ _ _ _ _ c.deref.utf8 c.deref.ensures.value c.is_empty.ensures shown (λ is. ap option_copied w.address-is) (λ is. cc)
       | else-is_empty w ↦ link-known c.is_empty.result c.deref.result.now _ _ _ _ c.deref.utf8 c.deref.ensures.value c.is_empty.ensures shown (λ is. cc) (λ is.
           ap option_copied w.address-is ∙ w.address_of-address.ensures.value)
     ] in

@@ -1,6 +1,6 @@
-use Rattle.snippet_text_form.proofs.Common.{◌≡◌, ℕ, [], List, ◌++◌, ◌∙◌, ap, codes, false, refl, sym, cond-false, cond-true, on_ok_weaker}
-use Rattle.snippet_text_form.proofs.Common.{chars-encodes, Bor, cow_str_bytes, Edit, trimmed_edit_of, Addition, is_blank_text, FormPiece, bare, styled}
-use Rattle.snippet_text_form.proofs.Common.{added_text, before_added, overwrites}
+use Rattle.std.proofs.lemmas.Grind.{common_steps}
+use Rattle.snippet_text_form.proofs.Common.{◌≡◌, ℕ, List, ◌++◌, ◌∙◌, ap, codes, false, refl, sym, cond-false, cond-true, on_ok_weaker, arith, chars-encodes}
+use Rattle.snippet_text_form.proofs.Common.{Bor, cow_str_bytes, Edit, trimmed_edit_of, is_blank_text, FormPiece, bare, added_text, before_added, overwrites}
 use Rattle.std.proofs.Common.{chars}
 use Rattle.snippet_text_form.proofs.AddedLemmas.{added-two}
 use Rattle.snippet_text_form.proofs.suggestion.add_replacement.Goals as goal
@@ -11,12 +11,10 @@ unfolding lib.Utf8.encode
 returns c =
     let old : List FormPiece = c.args.form.now in
     let mid : List FormPiece = c.add_text.new.self in
-    let new : List FormPiece = c.add_styled.new.self in
     let e : Edit = trimmed_edit_of c.args.patch.now in
     let over = overwrites c.args.source.now e in
     let lead : List ℕ = before_added c.args.source.now e in
     let text : List ℕ = added_text c.args.show_line_feeds e in
-    let form : List FormPiece = styled Addition text in
     let given : is_blank_text e.text ≡ false = sym c.is_blank.ensures.value ∙ c.if-is_blank.false in
     let led : chars c.if-overwrites.add_text.now ≡ lead = elim c.if-overwrites.branch [
       | then-overwrites w ↦
@@ -27,8 +25,4 @@ returns c =
           ∙ sym (cond-false over (codes " replace with: ") (codes " add: ") (sym (c.overwrites.ensures.value c.requires.span) ∙ w.if-overwrites.false))
     ] in
     let front : mid ≡ old ++ bare lead = c.in_ok-add_text.ensures.added ∙ ap (λ text. old ++ bare text) led in
-    let shown : chars (cow_str_bytes c.in_ok-text.text) ≡ text = c.in_ok-text.ensures.value in
-    record {
-      added = on_ok_weaker c.add_styled.result (λ last. added-two old mid new (bare lead) form front (last ∙ ap (λ cs. mid ++ styled Addition cs) shown)
-          ∙ ap (λ pieces. old ++ pieces) (sym (cond-false (is_blank_text e.text) [] (bare lead ++ form) given))) c.add_styled.ensures.added;
-    }
+    let shown : chars (cow_str_bytes c.in_ok-text.text) ≡ text = c.in_ok-text.ensures.value in grind (arith, common_steps, on_ok_weaker, added-two, cond-false)

@@ -1,7 +1,6 @@
 use Rattle.std.proofs.lemmas.Grind.{common_steps}
-use Rattle.std.proofs.Common.{arith, chars}
-use Rattle.snippet_text_form.proofs.Common.{◌≡◌, ℕ, All, List, Option, ◌++◌, ◌∙◌, ap, map, take, append-nil, take_all, flat_map}
-use Rattle.snippet_text_form.proofs.Common.{option_copied, IsSpan, Edit, trimmed_edit_of, TrimmedPatch, known_spans, FormPiece, edit_form}
+use Rattle.std.proofs.Common.{arith}
+use Rattle.snippet_text_form.proofs.Common.{All, append-nil, take_all, IsSpan, TrimmedPatch, known_spans}
 use Rattle.snippet_text_form.proofs.SuggestionLemmas.{edits_more, suggestion_added}
 use Rattle.snippet_text_form.proofs.suggestion.add_suggestion.Goals as goal
 
@@ -16,24 +15,7 @@ add_patch-requires c =
     record { span = spans c.loop-patch.patch-index _ c.loop-patch-test.true }
 
 pub loop-patch-preserved : goal.loop-patch-preserved
-loop-patch-preserved c =
-    let added : Edit → List FormPiece = edit_form c.args.settings c.args.suggestion.now.map (chars c.indent_below-indent.result.now)
-    (option_copied c.shown_path-path.result) in
-    edits_more added c.add_option.new.form c.loop-patch.form c.add_patch.new.form c.deref-patch-items.result.now c.loop-patch.patch-index _
-    c.loop-patch-test.true c.loop-patch.invariant c.in_ok-add_patch.ensures.added
+loop-patch-preserved c = grind (arith, common_steps, edits_more)
 
 pub returns : goal.returns
-returns c =
-    let a = c.args in
-    let p = a.suggestion.now in
-    let begun : List FormPiece = c.add_option.new.form in
-    let indent : List ℕ = chars c.indent_below-indent.result.now in
-    let path : Option (List ℕ) = option_copied c.shown_path-path.result in
-    let all : take c.loop-patch.patch-index c.deref-patch-items.result.now
-    ≡ p.splice.patches.items = take_all c.loop-patch.patch-index c.deref-patch-items.result.now c.loop-patch-test.false
-    ∙ c.deref-patch-items.ensures.value in
-    record {
-      added = suggestion_added a.settings a.place p indent path a.form.now begun c.loop-patch.form c.requires.prepared
-          c.indent_below-indent.ensures.value c.shown_path-path.ensures.value c.in_ok-add_option.ensures.added
-          (c.loop-patch.invariant ∙ ap (λ ts. begun ++ flat_map (edit_form a.settings p.map indent path) (map trimmed_edit_of ts)) all);
-    }
+returns c = grind (arith, common_steps, take_all, suggestion_added)

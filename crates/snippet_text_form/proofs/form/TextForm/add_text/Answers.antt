@@ -1,5 +1,5 @@
-use Rattle.snippet_text_form.proofs.Common.{refl, string_bytes, IsUtf8-string_bytes}
-use Rattle.std.proofs.Common.{chars}
+use Rattle.std.proofs.lemmas.Grind.{common_steps}
+use Rattle.snippet_text_form.proofs.Common.{string_bytes, IsUtf8-string_bytes, arith}
 use Rattle.snippet_text_form.proofs.MarkLemmas.{AreMarks-grown, BeginsWith-pushed, text_pushed-on_ok}
 use Rattle.snippet_text_form.proofs.form.TextForm.add_text.Goals as goal
 
@@ -10,8 +10,4 @@ invariant_of-self c =
     c.self.invariant
 
 pub returns : goal.returns
-returns c =
-    record {
-      added = text_pushed-on_ok c.push_str.result (string_bytes c.self.inside.text) (string_bytes c.push_str.new.self) c.args.text.now (chars c.args.text.now)
-          c.self.inside.marks.items c.args.self.now (IsUtf8-string_bytes c.self.inside.text) c.self.invariant c.self.view_is refl c.push_str.ensures.bytes;
-    }
+returns c = grind (arith, common_steps, text_pushed-on_ok, IsUtf8-string_bytes)
