@@ -107,8 +107,7 @@ pub can_stand : (place : GroupPosition) (file : Option (List ℕ)) (es : List El
     → CanStandIn (context_at place file es i e) e
 can_stand place file es i (Message message) is = (refl, shared_not es i (Message message) is (λ d. refl))
 can_stand place file es i (Cause snippet) is = (refl, shared_not es i (Cause snippet) is (λ d. refl))
-can_stand place file es i (Suggestion snippet) is = λ starts. path_start (shares_before es i) (is_other_file file (path_bytes snippet.path)) file
-    (path_bytes snippet.path) refl starts
+can_stand place file es i (Suggestion snippet) is = λ starts. path_start _ _ file _ refl starts
 can_stand place file es i (Origin origin) is = (refl, shared_not es i (Origin origin) is (λ d. refl))
 can_stand place file es i (Padding padding) is = (refl, shared_not es i (Padding padding) is (λ d. refl))
 

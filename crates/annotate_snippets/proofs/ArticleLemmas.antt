@@ -69,8 +69,7 @@ linked-added address old one two new text first second third =
 -- three and four stretches were added
 pub three-added : (ps qs rs : List HtmlPiece) (old one two new : List ℕ) → AddsHtml ps old one → AddsHtml qs one two → AddsHtml rs two new
     → AddsHtml ((ps ++ qs) ++ rs) old new
-three-added ps qs rs old one two new first second third =
-    adds_both (ps ++ qs) rs old two new (adds_both ps qs old one two first second) third
+three-added ps qs rs old one two new first second third = adds_both (ps ++ qs) rs old two new (adds_both ps qs old one two first second) third
 
 pub four-added : (ps qs rs ss : List HtmlPiece) (old one two three new : List ℕ) → AddsHtml ps old one → AddsHtml qs one two → AddsHtml rs two three
     → AddsHtml ss three new → AddsHtml (((ps ++ qs) ++ rs) ++ ss) old new
@@ -82,10 +81,8 @@ pub id-some : (links hidden : Bool) (id : Option Id) (one : Id) (text : List ℕ
     → id_html links hidden id
     ≡ (map Text (opening_bracket_of hidden) ++ linked_html (address_of links (option_map cow_str_bytes one.url)) (norm (chars text)))
     ++ map Text (closing_bracket_of hidden)
-id-some links hidden id one text is has =
-    ap (id_html links hidden) is ∙ ap (bracketed_html hidden (address_of links (option_map cow_str_bytes one.url))) has
+id-some links hidden id one text is has = ap (id_html links hidden) is ∙ ap (bracketed_html hidden (address_of links (option_map cow_str_bytes one.url))) has
 
 -- three texts were added
 pub bytes-added : (old a b c one two new : List ℕ) → one ≡ old ++ a → two ≡ one ++ b → new ≡ two ++ c → new ≡ old ++ ((a ++ b) ++ c)
-bytes-added old a b c one two new first second third =
-    third ∙ ap (λ t. t ++ c) (second ∙ ap (λ t. t ++ b) first ∙ append_assoc old a b) ∙ append_assoc old (a ++ b) c
+bytes-added old a b c one two new first second third = cc (third, second, first, append_assoc old a b, append_assoc old (a ++ b) c)

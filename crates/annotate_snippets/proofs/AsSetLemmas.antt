@@ -1,16 +1,15 @@
 -- What the report that is shown has in common with the one in whose place it is, and that what is shown of it shows the report.
 use Rattle.std.proofs.lemmas.Grind.{common_steps}
 use Rattle.std.proofs.Common.{arith, chars}
-use Rattle.annotate_snippets.proofs.Common.{◌≡◌, ◌∙◌, ◌||◌, ℕ, Bool, true, false, List, [], ◌∷◌, Option, None, ◌⊎◌, inl, inr, sym, subst}
-use Rattle.annotate_snippets.proofs.Common.{refl, All, if◌then◌else◌, false≢true, All-contains, All-weaker, AllZip, Contains, flat_map, AllZip-weaker}
-use Rattle.annotate_snippets.proofs.Common.{ReportFits, trusted_texts, Element, Group, Title, IsElementMasked, IsGroupMasked, IsTitleMasked, IsElementAsSet}
-use Rattle.annotate_snippets.proofs.Common.{IsGroupAsSet, IsTitleAsSet, IsElementWrapped, IsGroupWrapped, IsTitleWrapped, IsGroupMade, Stays}
-use Rattle.annotate_snippets.proofs.Common.{IsElementWithContext, IsGroupWithContext, Stylesheet, is_listed, form_text, lines_of_paragraphs, IsAsSet}
-use Rattle.annotate_snippets.proofs.Common.{IsMaskedFor, IsRemade, IsShownFor, IsStep, adds_context, shows_as_given, wraps, IsDrawableAsSet, form_of}
-use Rattle.annotate_snippets.proofs.Common.{refusal_in, AreFree, ShowsForm, ShowsReport, TextsShown, links_in, plain_in, graphic_form, gutter_of_report}
-use Rattle.annotate_snippets.proofs.Common.{ShowsLinesAround, HasOneLineTexts, page_lines, text_lines, FormLaws, HasLaws, LawsIn, IsFreeBut, HasNoControls}
-use Rattle.annotate_snippets.proofs.Common.{report_paragraphs, AreRewrapped, page_text, text_form, IsTextIn, ShowsIn, WritesPart, WritesText, Renderer, Form}
-use Rattle.annotate_snippets.proofs.Common.{Graphic, Short, Text}
+use Rattle.annotate_snippets.proofs.Common.{◌≡◌, ◌∙◌, ◌||◌, ℕ, Bool, true, false, List, [], ◌∷◌, Option, None, ◌⊎◌, sym, subst, refl, All}
+use Rattle.annotate_snippets.proofs.Common.{if◌then◌else◌, false≢true, All-contains, All-weaker, AllZip, Contains, flat_map, AllZip-weaker, ReportFits}
+use Rattle.annotate_snippets.proofs.Common.{trusted_texts, Element, Group, Title, IsElementMasked, IsGroupMasked, IsTitleMasked, IsElementAsSet, IsGroupAsSet}
+use Rattle.annotate_snippets.proofs.Common.{IsTitleAsSet, IsElementWrapped, IsGroupWrapped, IsTitleWrapped, IsGroupMade, Stays, IsElementWithContext}
+use Rattle.annotate_snippets.proofs.Common.{IsGroupWithContext, Stylesheet, is_listed, form_text, lines_of_paragraphs, IsAsSet, IsMaskedFor, IsRemade}
+use Rattle.annotate_snippets.proofs.Common.{IsShownFor, IsStep, adds_context, shows_as_given, wraps, IsDrawableAsSet, form_of, refusal_in, AreFree, ShowsForm}
+use Rattle.annotate_snippets.proofs.Common.{ShowsReport, TextsShown, links_in, plain_in, graphic_form, gutter_of_report, ShowsLinesAround, HasOneLineTexts}
+use Rattle.annotate_snippets.proofs.Common.{page_lines, text_lines, FormLaws, HasLaws, LawsIn, IsFreeBut, HasNoControls, report_paragraphs, AreRewrapped}
+use Rattle.annotate_snippets.proofs.Common.{page_text, text_form, IsTextIn, ShowsIn, WritesPart, WritesText, Renderer, Form, Graphic, Short, Text}
 use Rattle.annotate_snippets.proofs.AsSetSteps.{context-set, feeds-set, mask-set, remade-set, unset-same, wrap-set}
 use Rattle.annotate_snippets.proofs.ContextShown.{around-set, context-faithful, plain-around}
 use Rattle.annotate_snippets.proofs.FaultLemmas.{groups-drawable, titled}
@@ -42,8 +41,7 @@ pub fed-keeps : (feeds : Bool) (groups fed : List Group) → AllZip (IsGroupAsSe
 fed-keeps feeds groups fed pairs = keeps (IsTitleAsSet feeds) (IsElementAsSet feeds) (feeds-faithful feeds) groups fed pairs
 
 pub around-keeps : (adds : Bool) (before after : ℕ) (fed around : List Group) → IsStep adds (IsGroupWithContext before after) fed around → Keeps fed around
-around-keeps adds before after fed around step =
-    step-keeps adds Stays (IsElementWithContext before after) (context-faithful before after) fed around step
+around-keeps adds before after fed around step = step-keeps adds Stays (IsElementWithContext before after) (context-faithful before after) fed around step
 
 pub mask-keeps : (masks : Bool) (fed masked : List Group) → IsStep masks IsGroupMasked fed masked → Keeps fed masked
 mask-keeps masks fed masked step = step-keeps masks IsTitleMasked IsElementMasked mask-faithful fed masked step
@@ -57,8 +55,7 @@ wrap-keeps form r around shown step =
 -- what is shown of a masked report keeps what that has
 masked-keeps : (form : Form) (r : Renderer) (groups shown : List Group) (made : IsRemade form r groups shown) → Keeps made.masked shown
 masked-keeps form r groups shown made =
-    keeps-then made.masked made.around shown
-    (around-keeps (adds_context form r) r.context_before r.context_after made.masked made.around made.context)
+    keeps-then made.masked made.around shown (around-keeps (adds_context form r) r.context_before r.context_after made.masked made.around made.context)
     (wrap-keeps form r made.around shown made.wrap)
 
 pub set-keeps : (form : Form) (r : Renderer) (groups shown : List Group) → IsAsSet form r groups shown → Keeps groups shown
@@ -67,10 +64,8 @@ set-keeps form r groups shown set = by (shows_as_given form r) set
     by : (given : Bool) → IsShownFor given form r groups shown → Keeps groups shown
     by true same = subst (Keeps groups) (sym same) (keeps-own groups)
     by false made =
-        keeps-then groups made.masked shown
-        (keeps-then groups made.fed made.masked (fed-keeps r.show_line_feeds groups made.fed made.feeds)
-        (mask-keeps r.mask_controls made.fed made.masked made.mask))
-        (masked-keeps form r groups shown made)
+        keeps-then groups made.masked shown (keeps-then groups made.fed made.masked (fed-keeps r.show_line_feeds groups made.fed made.feeds)
+        (mask-keeps r.mask_controls made.fed made.masked made.mask)) (masked-keeps form r groups shown made)
 
 -- where it isn't refused, and its texts fit, it can be drawn
 pub drawable-set : (form : Form) (r : Renderer) (groups shown : List Group) → IsAsSet form r groups shown → ReportFits shown → refusal_in form groups ≡ None
@@ -102,10 +97,8 @@ clean-set : (form : Form) (r : Renderer) (groups shown : List Group) → IsAsSet
 clean-set form r groups shown set asked =
     let made : IsRemade form r groups shown = remade-set form r groups shown (mask-set form r asked) set in
     let beside : ℕ = gutter_of_report r made.around in
-    let pairs : AllZip IsGroupMasked made.fed made.masked =
-    subst (λ (masks : Bool). IsStep masks IsGroupMasked made.fed made.masked) asked made.mask in
-    over HasNoControls (IsGroupWrapped r.term_width beside) (wraps form r) made.around shown
-    (wrapped-clean r.term_width beside made.around shown) made.wrap
+    let pairs : AllZip IsGroupMasked made.fed made.masked = subst (λ (masks : Bool). IsStep masks IsGroupMasked made.fed made.masked) asked made.mask in
+    over HasNoControls (IsGroupWrapped r.term_width beside) (wraps form r) made.around shown (wrapped-clean r.term_width beside made.around shown) made.wrap
     (over HasNoControls (IsGroupWithContext r.context_before r.context_after) (adds_context form r) made.masked made.around
     (around-clean r.context_before r.context_after made.masked made.around) made.context (masked-clean made.fed made.masked pairs))
 
@@ -135,19 +128,16 @@ unlisted-laws : (form : Form) (r : Renderer) (groups shown : List Group) → IsA
     → All (λ c. is_listed c ≡ false) (plain_in form r shown)
 unlisted-laws form r groups shown set laws asked =
     let made : IsRemade form r groups shown = remade-set form r groups shown (mask-set form r asked) set in
-    let pairs : AllZip IsGroupMasked made.fed made.masked =
-    subst (λ (masks : Bool). IsStep masks IsGroupMasked made.fed made.masked) asked made.mask in
+    let pairs : AllZip IsGroupMasked made.fed made.masked = subst (λ (masks : Bool). IsStep masks IsGroupMasked made.fed made.masked) asked made.mask in
     let free : IsFreeBut (trusted_texts made.masked) (plain_in form r shown) =
     (masked-keeps form r groups shown made).free (plain_in form r shown) (free-in r shown form laws) in
     All-weaker (λ c. is_listed c ≡ true → Contains (flat_map chars (trusted_texts made.masked)) c) (λ c. is_listed c ≡ false)
-    (λ c own. by c (is_listed c) refl (flat_map chars (trusted_texts made.masked)) own (masked-unlisted made.fed made.masked pairs)) (plain_in form r shown)
-    free
+    (λ c own. by c (is_listed c) refl (flat_map chars (trusted_texts made.masked)) own (masked-unlisted made.fed made.masked pairs)) _ free
   where
     by : (c : ℕ) (listed : Bool) → is_listed c ≡ listed → (texts : List ℕ) → (is_listed c ≡ true → Contains texts c)
         → All (λ d. is_listed d ≡ false) texts → listed ≡ false
     by c false is texts own none = refl
-    by c true is texts own none =
-        absurd (false≢true (sym (All-contains (λ d. is_listed d ≡ false) texts c none (own is)) ∙ is))
+    by c true is texts own none = absurd (false≢true (sym (All-contains (λ d. is_listed d ≡ false) texts c none (own is)) ∙ is))
 
 -- what is said of the report whose lines and words are shown
 pub record IsOfBase (form : Form) (r : Renderer) (groups shown : List Group) : Type 0 where
@@ -162,12 +152,10 @@ of-base form r groups shown set laws = by r.mask_controls refl
     by : (masks : Bool) → r.mask_controls ≡ masks → IsOfBase form r groups shown
     by true asked =
         let made : IsRemade form r groups shown = remade-set form r groups shown (mask-set form r asked) set in
-        let pairs : AllZip IsGroupMasked made.fed made.masked =
-        subst (λ (given : Bool). IsStep given IsGroupMasked made.fed made.masked) asked made.mask in
+        let pairs : AllZip IsGroupMasked made.fed made.masked = subst (λ (given : Bool). IsStep given IsGroupMasked made.fed made.masked) asked made.mask in
         record {
           masked = made.masked;
-          masks = subst (λ (given : Bool). IsMaskedFor given r groups made.masked) (sym asked)
-              (record { fed = made.fed; feeds = made.feeds; mask = pairs });
+          masks = subst (λ (given : Bool). IsMaskedFor given r groups made.masked) (sym asked) (record { fed = made.fed; feeds = made.feeds; mask = pairs });
           around = around-laws form r groups shown made true asked laws;
           wrapped = rewrapped-set form r groups shown made true asked;
         }
@@ -175,10 +163,8 @@ of-base form r groups shown set laws = by r.mask_controls refl
         record {
           masked = groups;
           masks = subst (λ (given : Bool). IsMaskedFor given r groups groups) (sym none) refl;
-          around = λ asked. around-laws form r groups shown
-              (remade-set form r groups shown (context-set form r asked) set) false none laws asked;
-          wrapped = λ asked. rewrapped-set form r groups shown
-              (remade-set form r groups shown (wrap-set form r asked) set) false none asked;
+          around = λ asked. around-laws form r groups shown (remade-set form r groups shown (context-set form r asked) set) false none laws asked;
+          wrapped = λ asked. rewrapped-set form r groups shown (remade-set form r groups shown (wrap-set form r asked) set) false none asked;
         }
 
 module _ (r : Renderer) (groups shown : List Group) (set : IsAsSet (form_of r) r groups shown) where
@@ -215,9 +201,7 @@ module _ (r : Renderer) (groups shown : List Group) (set : IsAsSet (form_of r) r
       → AreFree (trusted_texts groups) (links_in (form_of r) r groups) sheets texts
   set-free sheets texts laws =
       let free : AreFree (trusted_texts shown) (links_in (form_of r) r shown) sheets texts = are-free r shown (form_of r) sheets texts laws in
-      let kept : Keeps groups shown = set-keeps (form_of r) r groups shown set in
-      subst (λ (links : List (List ℕ)). AreFree (trusted_texts groups) links sheets texts) (kept.links (form_of r) r)
-      (record { plain = free.plain; woven = free.woven; free = kept.free free.plain free.free })
+      let kept : Keeps groups shown = set-keeps (form_of r) r groups shown set in grind (arith, common_steps, free)
 
 -- ---- answers
 
@@ -234,13 +218,7 @@ module _ (form : Form) (r : Renderer) (groups shown : List Group) (is : form ≡
   -- those that show what is shown in its form show the report
   pub shows-all : (sheets : List Stylesheet) (texts : List (List ℕ)) → ShowsForm form r shown sheets texts → AllZip (LawsIn form r shown) sheets texts
       → ShowsAll r groups sheets texts
-  shows-all sheets texts shows laws =
-      let laws_here : AllZip (LawsIn (form_of r) r shown) sheets texts = subst (λ (f : Form). AllZip (LawsIn f r shown) sheets texts) is laws in
-      record {
-        shows = set-shows r groups shown here sheets texts (subst (λ (f : Form). ShowsForm f r shown sheets texts) is shows);
-        laws = set-texts-laws r groups shown here sheets texts laws_here;
-        free = set-free r groups shown here sheets texts laws_here;
-      }
+  shows-all sheets texts shows laws = grind (arith, common_steps, set-shows, here, set-texts-laws, set-free)
 
   -- what is written of it is written of the report
   pub written-shows : (old new : Option (List ℕ)) → WritesText (IsTextIn form r shown) old new → WritesText (ShowsReport r groups r.stylesheet) old new
@@ -256,12 +234,4 @@ module _ (form : Form) (r : Renderer) (groups shown : List Group) (is : form ≡
   pub written-part : {W : Type 0} (contents : W → Option (List ℕ)) (start now : W)
       → (now ≡ start) ⊎ WritesPart (ShowsIn form r shown) (contents start) (contents now)
       → (now ≡ start) ⊎ WritesPart (ShowsReport r groups r.stylesheet) (contents start) (contents now)
-  written-part contents start now stopped =
-      elim stopped [
-        | inl same ↦ inl same
-        | inr writes ↦ inr (record {
-          text = writes.text;
-          is = grind (arith, common_steps, here, writes, writes.text, writes.is);
-          part = writes.part;
-        })
-      ]
+  written-part contents start now stopped = grind (arith, common_steps, here)

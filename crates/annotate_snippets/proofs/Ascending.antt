@@ -13,8 +13,7 @@ ascending [] ascends = tt
 ascending (j ∷ []) ascends = tt
 ascending (j ∷ k ∷ ks) ascends = (
   ascends 0 1 0 (omega arith) (omega arith),
-  ascending (k ∷ ks) (λ i l d less within.
-      ascends (suc i) (suc l) d (omega (arith, less)) (omega (arith, within))),
+  ascending (k ∷ ks) (λ i l d less within. ascends (suc i) (suc l) d (omega (arith, less)) (omega (arith, within))),
 )
 
 -- and then each is
@@ -26,10 +25,8 @@ ascends (k ∷ ks) ascending zero (suc j) d less within = first_below k ks ascen
     first_below : (k : ℕ) (ks : List ℕ) → IsAscending (k ∷ ks) → (j d : ℕ) → j < length ks → k < get_or ks j d
     first_below k [] ascending j d within = absurd (omega (arith, within))
     first_below k (m ∷ ks) ascending zero d within = ascending.0
-    first_below k (m ∷ ks) ascending (suc j) d within =
-        omega (arith, ascending.0, first_below m ks ascending.1 j d (omega (arith, within)))
-ascends (k ∷ ks) ascending (suc i) (suc j) d less within =
-    ascends ks (later k ks ascending) i j d (omega (arith, less)) (omega (arith, within))
+    first_below k (m ∷ ks) ascending (suc j) d within = omega (arith, ascending.0, first_below m ks ascending.1 j d (omega (arith, within)))
+ascends (k ∷ ks) ascending (suc i) (suc j) d less within = ascends ks (later k ks ascending) i j d (omega (arith, less)) (omega (arith, within))
   where
     later : (k : ℕ) (ks : List ℕ) → IsAscending (k ∷ ks) → IsAscending ks
     later k [] ascending = tt

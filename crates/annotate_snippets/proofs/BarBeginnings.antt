@@ -1,6 +1,6 @@
 -- A bar begins in one of its rows: in the words of the laws and in those of the painters.
 use Rattle.std.proofs.lemmas.Grind.{common_steps}
-use Rattle.annotate_snippets.proofs.Common.{List, inl, inr, arith, cases_eq, cond-false, cond-true, eq-eqb, Cell, cell_at, Layout, bar_cell, strokes_of, Bar}
+use Rattle.annotate_snippets.proofs.Common.{List, inl, inr, arith, cases_eq, cond-false, cond-true, eq-eqb, Cell, Layout, strokes_of, Bar}
 use Rattle.annotate_snippets.proofs.Common.{BarBegins, above_zero, BarStarts, part_of_bar}
 
 -- the top of a bar, beside a line that is marked as a whole
@@ -14,11 +14,4 @@ begins_so layout bar rows (inr below) =
     grind (arith, cond-false, above_zero, below.corner, below.within, below.corner_is, below.below, below.source, below.beside)
 
 pub starts_so : (layout : Layout) (bar : Bar) (rows : List (List Cell)) → BarStarts layout bar rows → BarBegins layout bar rows
-starts_so layout bar rows starts =
-    elim (cases_eq starts.at 0) [
-      | inl top ↦ inl (record {
-        alone = starts.alone top;
-        top = grind (arith, common_steps, cell_at, bar_cell, top, cond-true, eq-eqb, bar.depth, starts.is, starts.at);
-      })
-      | inr some ↦ grind (arith, common_steps, cond-false, above_zero, starts.at, starts.within, starts.is, starts.source, starts.beside)
-    ]
+starts_so layout bar rows starts = grind (arith, common_steps, cases_eq, cond-true, eq-eqb, cond-false, above_zero)

@@ -1,13 +1,12 @@
 -- When a report is within bounds: laws for those who make one.
-use Rattle.annotate_snippets.proofs.Common.{◌≡◌, ◌⊎◌, ℕ, suc, ◌+◌, ◌^◌, ◌<◌, ◌≤◌, ◌||◌, ◌==◌, nat_lt, Bool, true, false}
-use Rattle.annotate_snippets.proofs.Common.{List, [], ◌∷◌, ◌++◌, None, All, length, map, slice_index, refl, ap, ◌∙◌, arith, inl, inr}
-use Rattle.annotate_snippets.proofs.Common.{if◌then◌else◌, cow_str_bytes, position_from, sum_by, option_map, option_to_list, IsCharBoundary, Range}
-use Rattle.annotate_snippets.proofs.Common.{cases_lt, le-leb, le-ltb, nat_tests, get_or_past, All-head, All-tail, All-weaker, count_by-le-length}
-use Rattle.annotate_snippets.proofs.Common.{sum_by-le-sum_by, max_usize, Lf, Line, lines_of, source_lines, with_first_byte, is_span_border, is_character_border}
-use Rattle.annotate_snippets.proofs.Common.{span_fault, Annotation, Cause, Suggestion, Group, Patch, Snippet, put_in, Edit, edit_of, in_order, precedes}
-use Rattle.annotate_snippets.proofs.Common.{AreApart, first_overlap, first_overlap_from, overlap, IsWithinBounds, added_lines, element_faults, faults_from}
-use Rattle.annotate_snippets.proofs.Common.{first_fault, IsGroupWithinBounds, number_after_lines, number_faults, overlap_faults, span_faults, plain_settings}
-use Rattle.annotate_snippets.proofs.Common.{RenderError, LineNumberTooLarge, PatchesOverlap}
+use Rattle.annotate_snippets.proofs.Common.{◌≡◌, ◌⊎◌, ℕ, suc, ◌+◌, ◌^◌, ◌<◌, ◌≤◌, ◌||◌, ◌==◌, nat_lt, Bool, true, false, List, [], ◌∷◌, ◌++◌, None, All, length}
+use Rattle.annotate_snippets.proofs.Common.{map, slice_index, refl, ap, ◌∙◌, arith, inl, inr, if◌then◌else◌, cow_str_bytes, position_from, sum_by, option_map}
+use Rattle.annotate_snippets.proofs.Common.{option_to_list, IsCharBoundary, Range, cases_lt, le-leb, le-ltb, nat_tests, get_or_past, All-head, All-tail}
+use Rattle.annotate_snippets.proofs.Common.{All-weaker, count_by-le-length, sum_by-le-sum_by, max_usize, Lf, Line, lines_of, source_lines, with_first_byte}
+use Rattle.annotate_snippets.proofs.Common.{is_span_border, is_character_border, span_fault, Annotation, Cause, Suggestion, Group, Patch, Snippet, put_in, Edit}
+use Rattle.annotate_snippets.proofs.Common.{edit_of, in_order, precedes, AreApart, first_overlap, first_overlap_from, overlap, IsWithinBounds, added_lines}
+use Rattle.annotate_snippets.proofs.Common.{element_faults, faults_from, first_fault, IsGroupWithinBounds, number_after_lines, number_faults, overlap_faults}
+use Rattle.annotate_snippets.proofs.Common.{span_faults, plain_settings, RenderError, LineNumberTooLarge, PatchesOverlap}
 use Rattle.std.specs.List.{count_by}
 
 -- a place between characters of a source is a border of spans
@@ -28,8 +27,7 @@ border-between source b between = by_cases (cases_lt b (length source))
       | inl small ↦ border (low between.0 small)
       | inr great ↦ border (high between.0 (between.1 inside great))
     ]
-    by_cases (inr past) =
-        border (low between.0 (let none : slice_index source b ≡ 0 = get_or_past source b 0 past in omega (arith, none)))
+    by_cases (inr past) = border (low between.0 (let none : slice_index source b ≡ 0 = get_or_past source b 0 past in omega (arith, none)))
 
 -- a part of a source that starts and ends between characters is a span without a fault
 pub span-faultless : (source : List ℕ) (start end : ℕ) → start ≤ end → IsCharBoundary source start → IsCharBoundary source end
@@ -77,9 +75,7 @@ source_lines-few (b ∷ bs) = omega (arith, lines-few (b ∷ bs))
 -- things none of which has a fault
 none-clear : {X : Type 0} (f : ℕ → X → List RenderError) (n : ℕ) (xs : List X) → All (λ x. (m : ℕ) → f m x ≡ []) xs → faults_from f n xs ≡ []
 none-clear f n [] all = refl
-none-clear f n (x ∷ xs) all =
-    ap (λ l. l ++ faults_from f (n + 1) xs) (All-head (λ y. (m : ℕ) → f m y ≡ []) x xs all n)
-    ∙ none-clear f (n + 1) xs (All-tail (λ y. (m : ℕ) → f m y ≡ []) x xs all)
+none-clear f n (x ∷ xs) all = cc (All-head (λ y. (m : ℕ) → f m y ≡ []) x xs all n, none-clear f (n + 1) xs (All-tail (λ y. (m : ℕ) → f m y ≡ []) x xs all))
 
 -- markers none of whose spans has a fault
 spans-clear : {X : Type 0} (span_of : X → Range ℕ) (group element : ℕ) (source : List ℕ) (marks : List X)
@@ -97,9 +93,7 @@ pub cause-clear : (group element : ℕ) (s : Snippet Annotation)
 cause-clear group element s spans numbers =
     let few = source_lines-few (cow_str_bytes s.source.text) in
     let fits : number_after_lines s.line_start (cow_str_bytes s.source.text) < 2 ^ 64 = omega (arith, few, numbers) in
-    ap (λ l. l ++ number_faults group element (number_after_lines s.line_start (cow_str_bytes s.source.text)))
-    (spans-clear (λ (a : Annotation). a.span) group element (cow_str_bytes s.source.text) s.markers.items spans)
-    ∙ number-clear group element _ fits
+    cc (spans-clear (λ (a : Annotation). a.span) group element (cow_str_bytes s.source.text) s.markers.items spans, number-clear group element _ fits)
 
 -- a suggestion without a fault: none of its spans has one, its patches stand one after the other, and the numbers of so many
 -- lines fit as it and they have bytes
@@ -118,8 +112,7 @@ suggestion-clear group element s spans apart numbers =
     ap (λ l. l ++ overlap_faults group element s.markers.items ++ number_faults group element last)
     (spans-clear (λ (p : Patch). p.span) group element (cow_str_bytes s.source.text) s.markers.items spans)
     ∙ ap (λ p. option_to_list (option_map (λ pair. PatchesOverlap group element pair.0 pair.1) p) ++ number_faults group element last)
-    (apart-clear 0 (map edit_of s.markers.items) apart)
-    ∙ number-clear group element last fits
+    (apart-clear 0 (map edit_of s.markers.items) apart) ∙ number-clear group element last fits
 
 -- a report of groups that are within bounds, in the graphic form
 pub within-bounds : (groups : List Group) → All IsGroupWithinBounds groups → IsWithinBounds plain_settings groups
@@ -133,11 +126,9 @@ not-before d e first apart second = grind (arith, nat_lt, le-ltb, nat_tests, e.s
 -- so it is put before those that come after it
 first-in : (d : Edit) (es : List Edit) → d.start ≤ d.end → AreApart d.end es → put_in precedes d es ≡ d ∷ es
 first-in d [] ordered apart = refl
-first-in d (e ∷ es) ordered apart =
-    ap (λ t. if t then e ∷ put_in precedes d es else d ∷ e ∷ es) (not-before d e ordered apart.0 apart.1)
+first-in d (e ∷ es) ordered apart = ap (λ t. if t then e ∷ put_in precedes d es else d ∷ e ∷ es) (not-before d e ordered apart.0 apart.1)
 
 -- edits one after the other are in order
 pub in_order-apart : (at : ℕ) (es : List Edit) → AreApart at es → in_order es ≡ es
 in_order-apart at [] apart = refl
-in_order-apart at (e ∷ es) apart =
-    ap (put_in precedes e) (in_order-apart e.end es apart.2) ∙ first-in e es apart.1 apart.2
+in_order-apart at (e ∷ es) apart = ap (put_in precedes e) (in_order-apart e.end es apart.2) ∙ first-in e es apart.1 apart.2

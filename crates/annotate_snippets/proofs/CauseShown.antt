@@ -1,16 +1,15 @@
 -- The rows of an annotated snippet show it.
 use Rattle.std.proofs.lemmas.Grind.{common_steps}
-use Rattle.annotate_snippets.proofs.Common.{◌≡◌, ℕ, ◌+◌, ◌≤◌, ◌==◌, ◌&&◌, Bool, true, false, cond, Option, None, Some, List, []}
-use Rattle.annotate_snippets.proofs.Common.{◌∷◌, ◌++◌, drop, map, refl, sym, ap, subst, ◌∙◌, arith, Contains, list_any, IsSomeAnd}
-use Rattle.annotate_snippets.proofs.Common.{cow_str_bytes, IsUtf8, All-append, All-cons, All-head, All-map, All-nil, All-tail, Annotation, Snippet, Cause}
-use Rattle.annotate_snippets.proofs.Common.{row_at, Cell}
-use Rattle.annotate_snippets.proofs.Common.{IsSpan, KeptLine, annotated_lines, is_long, shown_lines, is_marking, first_line, last_line, IsLocation}
-use Rattle.annotate_snippets.proofs.Common.{primary_place, IsFree, Location, primary_place-location, HasBarRoom, LineView, CanBeShown, infos_free, origin_row}
-use Rattle.annotate_snippets.proofs.Common.{primary_start, snippet_head, OriginLayout, OriginLocation, origin_row-text, snippet_head-free, closing_row-free}
-use Rattle.annotate_snippets.proofs.Common.{separator_row-free, Renderer, Layout, ElementContext, closes_after, closes_with, is_before_message, path_bytes}
-use Rattle.annotate_snippets.proofs.Common.{HasRoomFor, code_after, is_first_group, margin_in, rows_of_lines, depth_of_element, line_numbers, numbered_source}
-use Rattle.annotate_snippets.proofs.Common.{NamedRow, cells_of, lines_named, others, IsDrawable, cause_head, origin_layout, place_found, rows_after_cause}
-use Rattle.annotate_snippets.proofs.Common.{place_named, NamesLocation, HasNoFeed, closing_row, separator_row}
+use Rattle.annotate_snippets.proofs.Common.{◌≡◌, ℕ, ◌+◌, ◌≤◌, ◌==◌, ◌&&◌, Bool, true, false, cond, Option, None, Some, List, [], ◌∷◌, ◌++◌, map, refl}
+use Rattle.annotate_snippets.proofs.Common.{sym, ap, subst, ◌∙◌, arith, Contains, list_any, IsSomeAnd, cow_str_bytes, IsUtf8, All-append, All-cons, All-head}
+use Rattle.annotate_snippets.proofs.Common.{All-map, All-nil, All-tail, Annotation, Snippet, Cause, row_at, Cell, IsSpan, KeptLine, annotated_lines, is_long}
+use Rattle.annotate_snippets.proofs.Common.{shown_lines, is_marking, first_line, last_line, IsLocation, primary_place, IsFree, Location, primary_place-location}
+use Rattle.annotate_snippets.proofs.Common.{HasBarRoom, LineView, CanBeShown, infos_free, origin_row, primary_start, snippet_head, OriginLayout, OriginLocation}
+use Rattle.annotate_snippets.proofs.Common.{origin_row-text, snippet_head-free, closing_row-free, separator_row-free, Renderer, Layout, ElementContext}
+use Rattle.annotate_snippets.proofs.Common.{closes_after, closes_with, is_before_message, path_bytes, HasRoomFor, code_after, is_first_group, margin_in}
+use Rattle.annotate_snippets.proofs.Common.{rows_of_lines, depth_of_element, line_numbers, numbered_source, NamedRow, cells_of, lines_named, others, IsDrawable}
+use Rattle.annotate_snippets.proofs.Common.{cause_head, origin_layout, place_found, rows_after_cause, place_named, NamesLocation, HasNoFeed, closing_row}
+use Rattle.annotate_snippets.proofs.Common.{separator_row}
 use Rattle.std.specs.List.{All}
 use Rattle.annotate_snippets.proofs.PageWords.{snippet_rows}
 use Rattle.annotate_snippets.proofs.Ascending.{IsAscending, ascends}
@@ -30,8 +29,7 @@ path_first : (layout : OriginLayout) (primary first : Bool) (named : Option (Lis
     → primary ≡ true → named ≡ Some path → row_at (cells_of (others (snippet_head layout primary first named place) ++ more))
     0 ≡ origin_row layout (primary_start first) path place
 path_first layout true first None place more path is has = cc
-path_first layout true first (Some other) place more path is has =
-    ap (λ own. origin_row layout (primary_start first) own place) (same_path other path has)
+path_first layout true first (Some other) place more path is has = ap (λ own. origin_row layout (primary_start first) own place) (same_path other path has)
   where
     same_path : (x y : List ℕ) → Some x ≡ Some y → x ≡ y
     same_path x y same = cc
@@ -69,9 +67,7 @@ module _ (r : Renderer) (layout : Layout) (around : ElementContext) (s : Snippet
       either false false = All-nil IsFree
 
   head_free : All IsFree (cause_head r layout around s)
-  head_free =
-      snippet_head-free (origin_layout r layout) around.primary around.first (path_bytes s.path)
-      (place_named around.primary (annotated_lines s.fold (numbered_source s) s.markers.items))
+  head_free = snippet_head-free _ around.primary around.first _ _
 
   -- the first row names the first place of the snippet's spans
   names_place : All (λ a. IsSpan (cow_str_bytes s.source.text) a.span.start a.span.end) s.markers.items → (more : List NamedRow) → around.primary ≡ true
@@ -84,12 +80,7 @@ module _ (r : Renderer) (layout : Layout) (around : ElementContext) (s : Snippet
       (primary_place-location s.fold (numbered_source s) s.markers.items lines spans refl some none) in
       let named : place_named around.primary lines ≡ place_found (Some found.0) = place_of_primary around.primary lines primary ∙ ap place_found found.1 in
       let first = path_first (origin_layout r layout) around.primary around.first (path_bytes s.path)
-      (place_named around.primary lines) more path primary has in
-      record {
-        place = found.0;
-        is = found.2;
-        text = grind (arith, common_steps, drop, first, origin_row-text, place_named, lines, named);
-      }
+      (place_named around.primary lines) more path primary has in grind (arith, common_steps, origin_row-text, first, lines, named)
 
 -- code stands right of the gutter, the separator and a space
 pub code_right : (gutter depth : ℕ) → gutter + 3 ≤ code_after gutter depth

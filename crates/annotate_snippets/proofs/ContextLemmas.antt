@@ -41,8 +41,7 @@ shared_at (x ∷ es) (suc k) e is = shared_at es k e is
 -- whether the one after shares a row with this one
 shared_here : (es : List Element) (i : ℕ) (e : Element) (after : Option Element) → slice_get es i ≡ Some e → slice_get es (i + 1) ≡ after
     → first_two_share (drop i es) ≡ first_two_share (e ∷ option_to_list after)
-shared_here es i e after here then =
-    shared_at es i e here ∙ ap (λ o. first_two_share (e ∷ option_to_list o)) (ap (slice_get es) (sym (add-one i)) ∙ then)
+shared_here es i e after here then = shared_at es i e here ∙ ap (λ o. first_two_share (e ∷ option_to_list o)) (ap (slice_get es) (sym (add-one i)) ∙ then)
 
 -- what a walk says of the element that it has come to
 pub walk_around : (place : GroupPosition) (file : Option (List ℕ)) (es : List Element) (i : ℕ) (walk : ContextWalk) (e : Element) (after : Option Element)
@@ -55,8 +54,7 @@ walk_around place file es i walk e after start shared next at here then starts p
 primary_next : (es : List Element) (i : ℕ) (e : Element) (primary : Bool) → slice_get es i ≡ Some e → primary ≡ primary_before es i
     → (primary && not (has_file e)) ≡ primary_before es (i + 1)
 primary_next es i e primary at is =
-    let more : take (i + 1) es ≡ take i es ++ e ∷ [] = take_more es i e (slice_get_within es i e at)
-    ∙ ap (λ (d : Element). take i es ++ d ∷ []) (get_or_from_slice_get es i e e at) in
+    let more : take (i + 1) es ≡ take i es ++ e ∷ [] = cc (take_more es i e (slice_get_within es i e at), get_or_from_slice_get es i e e at) in
     let either : list_any has_file (take (i + 1) es) ≡ (list_any has_file (take i es) || has_file e) = ap (list_any has_file) more
     ∙ list_any-append has_file (take i es) (e ∷ []) ∙ ap (λ b. list_any has_file (take i es) || b) (last (has_file e)) in
     ap (λ b. b && not (has_file e)) is ∙ neither (list_any has_file (take i es)) (has_file e) ∙ ap not (sym either)

@@ -1,18 +1,18 @@
 -- A report with the lines around those that it keeps: what it has in common with the one in whose place it is shown, and that a page has just
 -- the source rows of the lines near one that is kept, and of each single line between two of these.
-use Rattle.annotate_snippets.proofs.Common.{◌≡◌, ◌∙◌, ℕ, ◌+◌, Bool, true, false, List, [], ◌∷◌, ◌++◌, Option, None, Some, All}
-use Rattle.annotate_snippets.proofs.Common.{IfSome, length, map, arith, refl, sym, ap, ap₂, subst, if◌then◌else◌, All-cons, All-head, All-nil, All-tail}
-use Rattle.annotate_snippets.proofs.Common.{All-weaker, filter_agree, filter_map-append, cow_str_bytes, AllZip, list_any, slice_get, slice_index_or, option_map}
-use Rattle.annotate_snippets.proofs.Common.{option_to_list, Range, keeps-around, context_spans, visible_mark, Stays, HoldsSpan, IsElementWithContext}
-use Rattle.annotate_snippets.proofs.Common.{IsGroupWithContext, IsSnippetWithContext, IsAnyTitle, IsElementSound, IsGroupSound, Layout, length-source_lines}
-use Rattle.annotate_snippets.proofs.Common.{SpanFault, AnnotationFits, ElementFits, ReportFits, TitleFits, SourceSeen, trusted_of_element, trusted_of_title}
-use Rattle.annotate_snippets.proofs.Common.{Annotation, Element, Message, Cause, Suggestion, Origin, Padding, Group, Snippet, Title, kept_lines, keeps}
-use Rattle.annotate_snippets.proofs.Common.{with_between, IsGroupMasked, IsAnnotationAsSet, IsElementAsSet, IsSnippetAsSet, IsTitleAsSet, IsElementWrapped}
-use Rattle.annotate_snippets.proofs.Common.{IsGroupWrapped, IsTitleWrapped, Cell, id_links, IsRemade, IsStep, adds_context, wraps, context_at, drawn_elements}
-use Rattle.annotate_snippets.proofs.Common.{file_of_group, position_of_group, is_drawn, element_faults, faults_from, first_fault, number_after_lines}
-use Rattle.annotate_snippets.proofs.Common.{number_faults, refusal_of, span_faults, gutter_of_report, layout_of_group, ShowsLinesAround, lines_with_context}
-use Rattle.annotate_snippets.proofs.Common.{HasOneLineTexts, PageLaws, ShowsSnippet, GroupPage, NamedRow, lines_named, others, IsElementDrawable, cause_head}
-use Rattle.annotate_snippets.proofs.Common.{rows_after_cause, Renderer, ElementContext, RenderError, Form}
+use Rattle.std.proofs.lemmas.Grind.{common_steps}
+use Rattle.annotate_snippets.proofs.Common.{◌≡◌, ◌∙◌, ℕ, ◌+◌, Bool, true, false, List, [], ◌∷◌, ◌++◌, Option, None, Some, All, IfSome, map, arith, refl, sym}
+use Rattle.annotate_snippets.proofs.Common.{ap, ap₂, subst, if◌then◌else◌, All-cons, All-head, All-nil, All-tail, All-weaker, filter_agree, filter_map-append}
+use Rattle.annotate_snippets.proofs.Common.{cow_str_bytes, AllZip, list_any, slice_get, slice_index_or, option_map, option_to_list, Range, keeps-around}
+use Rattle.annotate_snippets.proofs.Common.{context_spans, visible_mark, Stays, HoldsSpan, IsElementWithContext, IsGroupWithContext, IsSnippetWithContext}
+use Rattle.annotate_snippets.proofs.Common.{IsAnyTitle, IsElementSound, IsGroupSound, Layout, length-source_lines, SpanFault, AnnotationFits, ElementFits}
+use Rattle.annotate_snippets.proofs.Common.{ReportFits, TitleFits, SourceSeen, trusted_of_element, Annotation, Element, Message, Cause, Suggestion, Origin}
+use Rattle.annotate_snippets.proofs.Common.{Padding, Group, Snippet, Title, kept_lines, keeps, with_between, IsGroupMasked, IsAnnotationAsSet, IsElementAsSet}
+use Rattle.annotate_snippets.proofs.Common.{IsSnippetAsSet, IsTitleAsSet, IsElementWrapped, IsGroupWrapped, IsTitleWrapped, Cell, IsRemade, IsStep}
+use Rattle.annotate_snippets.proofs.Common.{adds_context, drawn_elements, is_drawn, element_faults, faults_from, first_fault, number_after_lines, number_faults}
+use Rattle.annotate_snippets.proofs.Common.{refusal_of, span_faults, ShowsLinesAround, lines_with_context, HasOneLineTexts, PageLaws, ShowsSnippet, GroupPage}
+use Rattle.annotate_snippets.proofs.Common.{NamedRow, lines_named, others, IsElementDrawable, cause_head, rows_after_cause, Renderer, ElementContext}
+use Rattle.annotate_snippets.proofs.Common.{RenderError, Form}
 use Rattle.std.proofs.Common.{append-nil}
 use Rattle.annotate_snippets.proofs.BoundsLaws.{span-faultless}
 use Rattle.annotate_snippets.proofs.FaultLemmas.{groups-drawable}
@@ -35,15 +35,13 @@ module _ (group element : ℕ) (source : List ℕ) where
   parts-clear n (span ∷ spans) parts =
       let part : HoldsSpan source span = All-head (HoldsSpan source) span spans parts in
       ap (λ (fault : Option SpanFault). option_to_list (option_map (refusal_of group element n) fault) ++ faults_of (n + 1) (map visible_mark spans))
-      (span-faultless source span.start span.end part.ordered part.from part.to)
-      ∙ parts-clear (n + 1) spans (All-tail (HoldsSpan source) span spans parts)
+      (span-faultless source span.start span.end part.ordered part.from part.to) ∙ parts-clear (n + 1) spans (All-tail (HoldsSpan source) span spans parts)
 
   -- so they add none to those before them
   added-clear : (n : ℕ) (marks : List Annotation) (spans : List (Range ℕ)) → All (HoldsSpan source) spans
       → faults_of n (marks ++ map visible_mark spans) ≡ faults_of n marks
   added-clear n [] spans parts = parts-clear n spans parts
-  added-clear n (a ∷ marks) spans parts =
-      ap (λ (faults : List RenderError). span_faults group element source n a.span ++ faults) (added-clear (n + 1) marks spans parts)
+  added-clear n (a ∷ marks) spans parts = cc (added-clear (n + 1) marks spans parts)
 
 module _ (before after : ℕ) where
   -- an annotated snippet with the lines around those that it keeps has the faults that it had
@@ -51,8 +49,7 @@ module _ (before after : ℕ) where
       → element_faults group element (Cause b) ≡ element_faults group element (Cause a)
   cause-around group element a b is =
       let text : cow_str_bytes b.source.text ≡ cow_str_bytes a.source.text = ap (λ (s : SourceSeen). cow_str_bytes s.text) is.source in
-      ap₂ (λ (x y : List RenderError). x ++ y)
-      (ap (λ (source : List ℕ). faults_of group element source 0 b.markers.items) text
+      ap₂ (λ (x y : List RenderError). x ++ y) (ap (λ (source : List ℕ). faults_of group element source 0 b.markers.items) text
       ∙ ap (faults_of group element (cow_str_bytes a.source.text) 0) is.markers
       ∙ added-clear group element (cow_str_bytes a.source.text) 0 a.markers.items (context_spans before after a) is.spans)
       (ap₂ (λ start source. number_faults group element (number_after_lines start source)) is.line_start text)
@@ -86,13 +83,7 @@ module _ (before after : ℕ) where
   drawn-around a b is = absurd is
 
   pub context-faithful : IsFaithful Stays (IsElementWithContext before after)
-  context-faithful = record {
-    faults = element-around;
-    links = λ a b is. ap (λ (t : Title). id_links true t.id) is;
-    trusted_title = λ a b is. subst (λ t. AllZip IsTextOf (trusted_of_title a) (trusted_of_title t)) (sym is) (own-texts (trusted_of_title a));
-    trusted = trusted-around;
-    drawn = drawn-around;
-  }
+  context-faithful = grind (arith, common_steps, element-around, own-texts, trusted-around, drawn-around)
 
 -- ---- what finding lines asks
 
@@ -115,8 +106,7 @@ groups-sound groups fits none = grind (arith, All-weaker, element-sound, groups-
 
 added-fit : (marks : List Annotation) (spans : List (Range ℕ)) → All AnnotationFits marks → All AnnotationFits (marks ++ map visible_mark spans)
 added-fit [] [] fit = All-nil AnnotationFits
-added-fit [] (span ∷ spans) fit =
-    All-cons AnnotationFits (visible_mark span) (map visible_mark spans) tt (added-fit [] spans fit)
+added-fit [] (span ∷ spans) fit = All-cons AnnotationFits (visible_mark span) (map visible_mark spans) tt (added-fit [] spans fit)
 added-fit (a ∷ marks) spans fit = grind (arith, added-fit marks spans (All-tail AnnotationFits a marks fit), All-cons, map, All-head, All-tail)
 
 module _ (before after : ℕ) where
@@ -140,8 +130,7 @@ module _ (before after : ℕ) where
 
   added-plain : (marks : List Annotation) (spans : List (Range ℕ)) → All IsOneLineLabel marks → All IsOneLineLabel (marks ++ map visible_mark spans)
   added-plain [] [] plain = All-nil IsOneLineLabel
-  added-plain [] (span ∷ spans) plain =
-      All-cons IsOneLineLabel (visible_mark span) (map visible_mark spans) tt (added-plain [] spans plain)
+  added-plain [] (span ∷ spans) plain = All-cons IsOneLineLabel (visible_mark span) (map visible_mark spans) tt (added-plain [] spans plain)
   added-plain (a ∷ marks) spans plain = grind (arith, added-plain marks spans (All-tail IsOneLineLabel a marks plain), All-cons, map, All-head, All-tail)
 
   cause-plain : (a b : Snippet Annotation) → IsSnippetWithContext before after a b → IsOneLineElement false (Cause a) → IsOneLineElement false (Cause b)
@@ -284,10 +273,7 @@ around-set form r groups shown page made masks set laws asked =
     by_step i n part s two there =
         let found : IsAround before after s two.other = two.found in
         let three : DrawnPair (λ a b. b ≡ a) shown i n (Cause found.shown) =
-        cause-wrapped (wraps form r) r.term_width (gutter_of_report r made.around) made.around shown found.shown made.wrap i n two.group two.there
-        (two.drawn ∙ ap (λ (e : Element). Some e) found.is) in
+        cause-wrapped _ r.term_width _ made.around shown found.shown made.wrap i n two.group two.there (two.drawn ∙ ap (λ (e : Element). Some e) found.is) in
         let shows = (laws.shows.each i three.group part three.there there).elements.each n (Cause found.shown)
         (three.drawn ∙ ap (λ (e : Element). Some e) three.pair) in
-        named-shown before after r (layout_of_group r shown three.group)
-        (context_at (position_of_group (length shown) i) (file_of_group shown three.group) (drawn_elements three.group) n (Cause found.shown)) found.shown
-        (slice_index_or part.elements n []) shows ∙ found.lines
+        named-shown before after r _ _ found.shown _ shows ∙ found.lines

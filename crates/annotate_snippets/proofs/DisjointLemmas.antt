@@ -1,7 +1,6 @@
 -- Edits of which no pair is named don't overlap.
-use Rattle.annotate_snippets.proofs.Common.{◌≡◌, ℕ, zero, suc, ◌+◌, ◌<◌, Bool, true, false, cond, List, [], ◌∷◌, Option, Some, None}
-use Rattle.annotate_snippets.proofs.Common.{length, get_or, refl, arith, position_from, option_map, option_or, Edit, first_overlap, first_overlap_from, overlap}
-use Rattle.annotate_snippets.proofs.Common.{AreDisjoint, no_edit}
+use Rattle.annotate_snippets.proofs.Common.{◌≡◌, ℕ, zero, suc, ◌+◌, ◌<◌, Bool, true, false, cond, List, [], ◌∷◌, Option, Some, None, length, get_or, refl}
+use Rattle.annotate_snippets.proofs.Common.{arith, position_from, option_map, option_or, Edit, first_overlap, first_overlap_from, overlap, AreDisjoint, no_edit}
 
 -- neither of two that give nothing
 neither : {X : Type 0} (a b : Option X) → option_or a b ≡ None → (a ≡ None) × (b ≡ None)
@@ -16,8 +15,7 @@ unmapped f (Some x) none = cc
 -- where no place is found, each element fails
 each_fails : (test : Edit → Bool) (i : ℕ) (es : List Edit) → position_from test i es ≡ None → (k : ℕ) → k < length es → test (get_or es k no_edit) ≡ false
 each_fails test i [] none k within = absurd (omega arith)
-each_fails test i (e ∷ es) none k within =
-    by_cases (test e) refl none (λ rest j low. each_fails test (i + 1) es rest j low) k within
+each_fails test i (e ∷ es) none k within = by_cases (test e) refl none (λ rest j low. each_fails test (i + 1) es rest j low) k within
   where
     by_cases : (t : Bool) → test e ≡ t → cond t (Some i) (position_from test (i + 1) es) ≡ None
         → (position_from test (i + 1) es ≡ None → (j : ℕ) → j < length es → test (get_or es j no_edit) ≡ false) → (k : ℕ) → k < length (e ∷ es)

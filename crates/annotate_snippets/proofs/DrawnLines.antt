@@ -29,8 +29,7 @@ module _ (r : Renderer) (layout : Layout) (s : Snippet Annotation) (margin : Mar
   line_drawn closes open_bars k info rows seen shows =
       let text : List ℕ = norm (chars info.line.now) in
       let es : List LineAnnotation = info.annotations.items in
-      let number : shown_number numbers layout.gutter info.line_index
-      ≡ number_text r s.line_numbering layout.gutter (s.line_start + k) = ap (λ n.
+      let number : shown_number numbers layout.gutter info.line_index ≡ number_text r s.line_numbering layout.gutter (s.line_start + k) = ap (λ n.
       shown_number numbers layout.gutter n) (ap (λ (l : KeptLine). l.number) seen) in
       record {
         entries = es;

@@ -57,13 +57,9 @@ module _ (r : Renderer) (layout : Layout) (place : GroupPosition) (file : Option
       let shares : Bool = first_two_share (drop n es) in
       let end : List Cell = last_row r layout (not (is_end (next_of (drop (n + 1) es)))) (Some e) in
       let next : List Cell = found_at r layout es (n + 1) in
-      let ends : shares ≡ true → end ≡ next = λ shared. ap (λ ends. last_row r layout (not ends) (Some e)) (shared_goes_on es n shared)
-      ∙ ap (λ x. last_row r layout true x) (sym here ∙ ap (slice_get es) (one_back n)) in
-      let tail : shared_row shares end ≡ shared_row (shares_before es (n + 1)) next = shared_same shares end next ends
-      ∙ ap (λ b. shared_row b next) (sym (shares_after es n)) in
-      adds ∙ sym (append_assoc (old ++ before) (cells_of part) (shared_row shares end))
-      ∙ ap (λ rows. rows ++ shared_row shares end) (append_assoc old before (cells_of part) ∙ ap (λ rows. old ++ rows) (sym joined))
-      ∙ ap (λ rows. (old ++ flat_map cells_of (take (n + 1) parts)) ++ rows) tail
+      let ends : shares ≡ true → end ≡ next = λ shared. cc (shared_goes_on es n shared, here, one_back n) in
+      let tail : shared_row shares end ≡ shared_row (shares_before es (n + 1)) next = cc (shared_same shares end next ends, shares_after es n) in
+      cc (adds, append_assoc (old ++ before) (cells_of part) (shared_row shares end), append_assoc old before (cells_of part), joined, tail)
     where
       one_back : (n : ℕ) → n ≡ n + 1 - 1
       one_back n = omega arith
@@ -107,8 +103,7 @@ left_all ps left walk all begun = record { left_are = sym all; within = omega ar
 
 -- after the last
 pub left_none : (ps left : List PreparedElement) (n : ℕ) (walk : ContextWalk) → AreLeft ps n left walk → length left ≡ 0 → n ≡ length ps
-left_none ps left n walk at none =
-    omega (arith, at.within, length-drop n ps, ap length at.left_are, none)
+left_none ps left n walk at none = omega (arith, at.within, length-drop n ps, ap length at.left_are, none)
 
 -- an element is passed: it is the next one, and what stands around it is known
 pub record IsPassed (place : GroupPosition) (file : Option (List ℕ)) (ps : List PreparedElement) (n : ℕ) (p : PreparedElement) (at : ElementContext)

@@ -1,9 +1,9 @@
 -- The entries of a line end where its spans do.
-use Rattle.annotate_snippets.proofs.Common.{◌≡◌, ℕ, ◌+◌, ◌-◌, ◌<◌, ◌≤◌, ◌==◌, ◌||◌, Bool, true, false, List, map, get_or, refl, sym, subst}
-use Rattle.annotate_snippets.proofs.Common.{arith, inl, inr, cases_Bool, eqb-true, filter_passes, All-contains, All-filter, All-map, Annotation}
-use Rattle.annotate_snippets.proofs.Common.{Contains, Source, first_line, start_column, is_bar, is_long, is_start_part, locations_of, long_entry, made-all}
-use Rattle.annotate_snippets.proofs.Common.{made_parts}
-use Rattle.annotate_snippets.proofs.Common.{parts_on, LineAnnotation, Layout, shifted}
+use Rattle.std.proofs.lemmas.Grind.{common_steps}
+use Rattle.annotate_snippets.proofs.Common.{◌≡◌, ℕ, ◌+◌, ◌-◌, ◌<◌, ◌≤◌, ◌==◌, ◌||◌, Bool, true, false, List, map, get_or, refl, sym, subst, arith}
+use Rattle.annotate_snippets.proofs.Common.{cases_Bool, eqb-true, filter_passes, All-contains, All-filter, All-map, Annotation, Contains, Source, first_line}
+use Rattle.annotate_snippets.proofs.Common.{start_column, is_bar, is_long, is_start_part, locations_of, long_entry, made-all, made_parts, parts_on}
+use Rattle.annotate_snippets.proofs.Common.{LineAnnotation, Layout, shifted}
 use Rattle.std.specs.List.{All}
 use Rattle.snippet_parts.proofs.MarkLemmas.{first_line-from, start_column-from}
 use Rattle.snippet_strokes.proofs.SeenLabels.{EndsBy}
@@ -55,14 +55,4 @@ module _ (s : Source) (marks : List Annotation) (k dropped edge : ℕ) (layout :
     where
       one : (p : LineAnnotation) → HasColumns p → is_on_line p ≡ true
           → (is_before_end p ≡ false → layout.code + (p.end.display - dropped) ≤ edge) → EndsBy layout edge (shifted dropped p)
-      one p has line ends =
-          elim (cases_Bool (is_before_end p)) [
-            | inl before ↦ record {
-              begins = has.begins before line;
-              ends = omega (arith, has.begins before line, has.narrow before);
-            }
-            | inr ending ↦ record {
-              begins = omega (arith, has.ending ending, ends ending, right);
-              ends = ends ending;
-            }
-          ]
+      one p has line ends = grind (arith, common_steps, cases_Bool)

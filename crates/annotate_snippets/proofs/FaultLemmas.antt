@@ -70,32 +70,24 @@ border source b test = by_cases (is_character_border source b) refl
 -- a span without a fault is a span
 pub IsSpan-faultless : (source : List ℕ) (start end : ℕ) → span_fault source start end ≡ None → IsSpan source start end
 unfolding span_fault
-IsSpan-faultless source start end none = by_cases (nat_lt end start) (nat_lt (length source + 1) end) (is_span_border source start)
-    (is_span_border source end) refl refl refl refl none
+IsSpan-faultless source start end none = by_cases _ _ _ _ refl refl refl refl none
   where
     by_cases : (reversed past from to : Bool) → nat_lt end start ≡ reversed → nat_lt (length source + 1) end ≡ past
         → is_span_border source start ≡ from → is_span_border source end ≡ to
         → cond reversed (Some Reversed) (cond past (Some PastEnd) (cond (from && to) None (Some OffBoundary))) ≡ None → IsSpan source start end
     by_cases true past from to r p f t h = cc
     by_cases false true from to r p f t h = cc
-    by_cases false false true true r p f t h = record {
-      ordered = grind (arith, nat_tests);
-      within = grind (arith, nat_tests);
-      from = border source start f;
-      to = border source end t;
-    }
+    by_cases false false true true r p f t h = grind (arith, common_steps, border)
     by_cases false false true false r p f t h = cc
     by_cases false false false to r p f t h = cc
 
 -- things whose spans have no faults have spans
 pub spans-faultless : {X : Type 0} (span_of : X → Range ℕ) (group element n : ℕ) (source : List ℕ) (marks : List X)
     → faults_from (λ m x. span_faults group element source m (span_of x)) n marks ≡ [] → All (λ x. IsSpan source (span_of x).start (span_of x).end) marks
-spans-faultless span_of group element n source [] none =
-    All-nil (λ x. IsSpan source (span_of x).start (span_of x).end)
+spans-faultless span_of group element n source [] none = All-nil (λ x. IsSpan source (span_of x).start (span_of x).end)
 spans-faultless span_of group element n source (x ∷ marks) none =
     All-cons (λ y. IsSpan source (span_of y).start (span_of y).end)
-    x marks (IsSpan-faultless source (span_of x).start (span_of x).end
-    (no_refusal group element n (span_fault source (span_of x).start (span_of x).end) (front_none _ _ none)))
+    x marks (IsSpan-faultless source _ _ (no_refusal group element n (span_fault source (span_of x).start (span_of x).end) (front_none _ _ none)))
     (spans-faultless span_of group element (n + 1) source marks (back_none _ _ none))
 
 -- the first refusal of patches of which two overlap, after no refusal of their spans
@@ -136,8 +128,7 @@ suggestion-drawable group element s none fits =
     let last : ℕ = number_after_lines s.line_start (cow_str_bytes s.source.text) in
     let all = number-faultless group element (last + added_lines s.markers.items) (back_none _ _ none) in
     let spans = spans-faultless (λ (p : Patch). p.span) group element 0 (cow_str_bytes s.source.text) s.markers.items (front_none _ _ (front_none _ _ none)) in
-    let disjoint = first_overlap-clear (map edit_of s.markers.items)
-    (no_overlap group element (first_overlap (map edit_of s.markers.items)) (back_none _ _ (front_none _ _ none))) in
+    let disjoint = first_overlap-clear _ (no_overlap group element (first_overlap (map edit_of s.markers.items)) (back_none _ _ (front_none _ _ none))) in
     record { source = fits.0; lines = without_more last _ all; spans = spans; disjoint = disjoint; numbers = numbers-bound s spans disjoint all }
 
 -- and any element

@@ -39,8 +39,7 @@ cells_plain role cs plain = All-text_cells HoldsNoFeed role cs plain
 
 -- spaces before cells without line feeds add none
 pub after_spaces : (n : ℕ) (cells : List Cell) → HasNoFeed cells → HasNoFeed (replicate n SPACE ++ cells)
-after_spaces n cells all =
-    All-append HoldsNoFeed (replicate n SPACE) cells (All-replicate HoldsNoFeed n SPACE refl) all
+after_spaces n cells all = All-append HoldsNoFeed (replicate n SPACE) cells (All-replicate HoldsNoFeed n SPACE refl) all
 
 one : (cell : Cell) → HoldsNoFeed cell → HasNoFeed (cell ∷ [])
 one cell holds = All-cons HoldsNoFeed cell [] holds (All-nil HoldsNoFeed)

@@ -2,15 +2,14 @@
 -- shown no text of it that may be on one line only holds one.
 use Rattle.std.proofs.lemmas.Grind.{common_steps}
 use Rattle.std.proofs.Common.{arith, append-nil}
-use Rattle.annotate_snippets.proofs.Common.{◌≡◌, ◌∙◌, ℕ, ◌+◌, ◌==◌, Bool, true, false, List, [], ◌∷◌, ◌++◌, Option, None, Some}
-use Rattle.annotate_snippets.proofs.Common.{All, IfSome, codes, if◌then◌else◌, not, map, refl, sym, ap, ap₂, subst, eqb-true, All-cons, All-nil}
-use Rattle.annotate_snippets.proofs.Common.{sum_by-cons, cow_str_bytes, AllZip, flat_map, option_map, option_to_list, Global, CowStr, shown_name, SameOption}
-use Rattle.annotate_snippets.proofs.Common.{SamePatch, SameText, standard_name_of, trusted_of_element, trusted_of_title, LevelName, Standard, Own, Annotation}
-use Rattle.annotate_snippets.proofs.Common.{Element, Message, Cause, Suggestion, Origin, Padding, Group, Id, Patch, Snippet, Title, IsAnnotationAsSet}
-use Rattle.annotate_snippets.proofs.Common.{IsElementAsSet, IsGroupAsSet, IsIdAsSet, IsNameAsSet, IsSnippetAsSet, IsTitleAsSet, IsOptionAsSet, IsTextAsSet}
-use Rattle.annotate_snippets.proofs.Common.{picture_of, with_line_feeds_shown, Edit, edit_of, first_overlap, LevelInner, Error, Warning, Info, Note, Help, norm}
-use Rattle.annotate_snippets.proofs.Common.{shown, each-fails, id_chars, id_links, text_links, is_drawn, added_lines, element_faults, number_after_lines}
-use Rattle.annotate_snippets.proofs.Common.{number_faults, overlap_faults, span_faults, HasOneLineTexts, RenderError, PatchesOverlap}
+use Rattle.annotate_snippets.proofs.Common.{◌≡◌, ◌∙◌, ℕ, ◌==◌, Bool, true, false, List, [], ◌∷◌, ◌++◌, Option, None, Some, All, IfSome, codes, if◌then◌else◌}
+use Rattle.annotate_snippets.proofs.Common.{not, map, refl, sym, ap, ap₂, subst, eqb-true, All-cons, All-nil, sum_by-cons, cow_str_bytes, AllZip, flat_map}
+use Rattle.annotate_snippets.proofs.Common.{option_map, option_to_list, Global, CowStr, shown_name, SameOption, SamePatch, SameText, standard_name_of}
+use Rattle.annotate_snippets.proofs.Common.{trusted_of_element, trusted_of_title, LevelName, Standard, Own, Annotation, Element, Message, Cause, Suggestion}
+use Rattle.annotate_snippets.proofs.Common.{Origin, Padding, Group, Id, Patch, Snippet, Title, IsAnnotationAsSet, IsElementAsSet, IsGroupAsSet, IsIdAsSet}
+use Rattle.annotate_snippets.proofs.Common.{IsNameAsSet, IsSnippetAsSet, IsTitleAsSet, IsOptionAsSet, IsTextAsSet, picture_of, with_line_feeds_shown, Edit}
+use Rattle.annotate_snippets.proofs.Common.{edit_of, LevelInner, Error, Warning, Info, Note, Help, norm, shown, each-fails, id_links, text_links, is_drawn}
+use Rattle.annotate_snippets.proofs.Common.{added_lines, element_faults, HasOneLineTexts}
 use Rattle.std.specs.Str.{chars}
 use Rattle.snippet_model.specs.declared.level.LevelName.TheVariants.{Hidden}
 use Rattle.annotate_snippets.proofs.OneLineTexts.{IsNoFeed, IsOneLineElement, IsOneLineGroup, IsOneLineId, IsOneLineLabel, IsOneLineText, IsOneLineTitle}
@@ -46,18 +45,7 @@ module _ (feeds : Bool) (group element : ℕ) where
   -- and so has a suggestion
   suggestion-same : (a b : Snippet Patch) → IsSnippetAsSet feeds SamePatch a b
       → element_faults group element (Suggestion b) ≡ element_faults group element (Suggestion a)
-  suggestion-same a b is =
-      let spans = faults-same SamePatch (λ n m. span_faults group element (cow_str_bytes a.source.text) n m.span)
-      (λ n m. span_faults group element (cow_str_bytes b.source.text) n m.span)
-      (λ n x y pair. ap₂ (λ text span. span_faults group element text n span) is.2.text pair.0) 0 a.markers.items b.markers.items is.3 in
-      let overlaps : overlap_faults group element b.markers.items ≡ overlap_faults group element a.markers.items =
-      ap (λ (es : List Edit). option_to_list (option_map (λ pair. PatchesOverlap group element pair.0 pair.1) (first_overlap es)))
-      (edits-same a.markers.items b.markers.items is.3) in
-      let numbers : number_faults group element (number_after_lines b.line_start (cow_str_bytes b.source.text) + added_lines b.markers.items)
-      ≡ number_faults group element (number_after_lines a.line_start (cow_str_bytes a.source.text) + added_lines a.markers.items) =
-      ap (number_faults group element) (ap₂ (λ (m n : ℕ). m + n) (ap₂ number_after_lines is.1 is.2.text)
-      (added-same a.markers.items b.markers.items is.3)) in
-      ap₂ (λ (x y : List RenderError). x ++ y) (ap₂ (λ (x y : List RenderError). x ++ y) spans overlaps) numbers
+  suggestion-same a b is = grind (arith, common_steps, faults-same, edits-same, added-same)
 
   -- and each element
   element-faults : (a b : Element) → IsElementAsSet feeds a b → element_faults group element b ≡ element_faults group element a
@@ -79,19 +67,16 @@ text_links-after address (c ∷ front) xs ys same = refl
 links-picture : (address : Option (List ℕ)) (c : ℕ) (feed : Bool) (xs ys : List ℕ) → (c == 10) ≡ feed → text_links address ys ≡ text_links address xs
     → text_links address (shown (picture_of c) ++ ys) ≡ text_links address (shown c ++ xs)
 links-picture address c true xs ys is same = grind (arith, eqb-true)
-links-picture address c false xs ys is same =
-    ap (λ (t : Bool). text_links address (shown (if t then 0x240A else c) ++ ys)) is ∙ text_links-after address (shown c) xs ys same
+links-picture address c false xs ys is same = cc (is, text_links-after address (shown c) xs ys same)
 
 links-fed : (address : Option (List ℕ)) (cs : List ℕ) → text_links address (norm (with_line_feeds_shown cs)) ≡ text_links address (norm cs)
 unfolding norm
 links-fed address [] = refl
-links-fed address (c ∷ cs) =
-    links-picture address c (c == 10) (flat_map shown cs) (flat_map shown (map picture_of cs)) refl (links-fed address cs)
+links-fed address (c ∷ cs) = links-picture address c (c == 10) (flat_map shown cs) (flat_map shown (map picture_of cs)) refl (links-fed address cs)
 
 links-text : (feeds : Bool) (address : Option (List ℕ)) (a b : CowStr Global) → IsTextAsSet feeds a b
     → text_links address (norm (chars (cow_str_bytes b))) ≡ text_links address (norm (chars (cow_str_bytes a)))
-links-text true address a b is =
-    ap (λ (cs : List ℕ). text_links address (norm cs)) is ∙ links-fed address (chars (cow_str_bytes a))
+links-text true address a b is = ap (λ (cs : List ℕ). text_links address (norm cs)) is ∙ links-fed address (chars (cow_str_bytes a))
 links-text false address a b is = ap (λ (bytes : List ℕ). text_links address (norm (chars bytes))) is
 
 links-id-text : (feeds : Bool) (address : Option (List ℕ)) (a b : Option (CowStr Global)) → IsOptionAsSet feeds a b
@@ -101,8 +86,7 @@ links-id-text feeds address None None is = refl
 links-id-text feeds address None (Some b) is = cc
 links-id-text feeds address (Some a) None is = absurd is
 links-id-text feeds address (Some a) (Some b) is =
-    ap (text_links address) (append-nil (norm (chars (cow_str_bytes b)))) ∙ links-text feeds address a b is
-    ∙ ap (text_links address) (sym (append-nil (norm (chars (cow_str_bytes a)))))
+    cc (append-nil (norm (chars (cow_str_bytes b))), links-text feeds address a b is, append-nil (norm (chars (cow_str_bytes a))))
 
 url-same : (a b : Option (CowStr Global)) → SameOption SameText a b → option_map (cow_str_bytes {Z = Global}) b ≡ option_map cow_str_bytes a
 url-same None None is = refl
@@ -114,9 +98,7 @@ links-id : (feeds : Bool) (a b : Option Id) → SameOption (IsIdAsSet feeds) a b
 links-id feeds None None is = refl
 links-id feeds None (Some b) is = cc
 links-id feeds (Some a) None is = absurd is
-links-id feeds (Some a) (Some b) is =
-    ap (λ (address : Option (List ℕ)). text_links address (id_chars (Some b))) (url-same a.url b.url is.1)
-    ∙ links-id-text feeds (option_map cow_str_bytes a.url) a.id b.id is.0
+links-id feeds (Some a) (Some b) is = cc (url-same a.url b.url is.1, links-id-text feeds (option_map cow_str_bytes a.url) a.id b.id is.0)
 
 -- ---- what the report keeps
 

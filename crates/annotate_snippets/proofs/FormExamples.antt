@@ -1,9 +1,8 @@
 -- The graphic form, computed on small sources. In these LF is 10.
-use Rattle.annotate_snippets.proofs.Common.{◌≡◌, ℕ, ◌<◌, ◌^◌, true, false, None, Some, Vec, List, [], ◌∷◌, codes, length, map, refl}
-use Rattle.annotate_snippets.proofs.Common.{arith, Global, Ascii, row_text, unindexed, Annotation, AnnotationKind, Primary, Context, Snippet, norm, char_width}
-use Rattle.annotate_snippets.proofs.Common.{unicode_width, start_of, end_location, line_of, location_of, locations_of, place_of, start_location}
-use Rattle.annotate_snippets.proofs.Common.{steps_after_text, written, text_of, rows_of_lines, begins_with_number, Elision, NamedRow, Other, RowName, SourceRow}
-use Rattle.annotate_snippets.proofs.Common.{plain_settings}
+use Rattle.annotate_snippets.proofs.Common.{◌≡◌, ℕ, ◌<◌, ◌^◌, true, false, None, Some, Vec, List, [], ◌∷◌, codes, length, map, refl, arith, Global, Ascii}
+use Rattle.annotate_snippets.proofs.Common.{row_text, unindexed, Annotation, AnnotationKind, Primary, Context, Snippet, norm, char_width, unicode_width}
+use Rattle.annotate_snippets.proofs.Common.{start_of, end_location, line_of, location_of, locations_of, place_of, start_location, steps_after_text, written}
+use Rattle.annotate_snippets.proofs.Common.{text_of, rows_of_lines, begins_with_number, Elision, NamedRow, Other, RowName, SourceRow, plain_settings}
 use Rattle.std.specs.Fmt.{digits}
 use Rattle.std.specs.Str.{chars}
 use Rattle.annotate_snippets.proofs.NotShown.{layout, labelled_span, span_of}

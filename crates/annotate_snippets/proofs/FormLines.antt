@@ -1,9 +1,9 @@
 -- The rows of a snippet's lines, read one by one: each source row with those below it is all rows of its line.
-use Rattle.annotate_snippets.proofs.Common.{◌≡◌, ℕ, ◌+◌, ◌<◌, ◌==◌, ◌&&◌, cond, nat_lt, Bool, true, false, List, [], ◌∷◌}
-use Rattle.annotate_snippets.proofs.Common.{◌++◌, length, map, refl, sym, ap, subst, ◌∙◌, arith, cow_str_bytes, Annotation, Snippet, Cell, norm}
-use Rattle.annotate_snippets.proofs.Common.{width_of, chars_at, dropped_part, Margin, Bar, open_past, gap_row, Layout, Renderer, gap_below, margin_in}
-use Rattle.annotate_snippets.proofs.Common.{named_line, rows_of_line, rows_of_lines, Elision, NamedRow, OfferedLine, Other, RemovedLine, RowName, SourceRow}
-use Rattle.annotate_snippets.proofs.Common.{others, rows_below, shows_lines}
+use Rattle.std.proofs.lemmas.Grind.{common_steps}
+use Rattle.annotate_snippets.proofs.Common.{◌≡◌, ℕ, ◌+◌, ◌<◌, ◌==◌, ◌&&◌, cond, nat_lt, Bool, List, [], ◌∷◌, ◌++◌, length, map, refl, sym, ap}
+use Rattle.annotate_snippets.proofs.Common.{subst, ◌∙◌, arith, cow_str_bytes, Annotation, Snippet, Cell, norm, width_of, chars_at, dropped_part, Margin, Bar}
+use Rattle.annotate_snippets.proofs.Common.{open_past, Layout, Renderer, gap_below, margin_in, named_line, rows_of_line, rows_of_lines, Elision}
+use Rattle.annotate_snippets.proofs.Common.{NamedRow, OfferedLine, Other, RemovedLine, RowName, SourceRow, others, rows_below, shows_lines}
 use Rattle.std.proofs.Common.{filter}
 use Rattle.annotate_snippets.proofs.LineWords.{bars_on, entries_on}
 use Rattle.annotate_snippets.proofs.LabelLemmas.{head_same, tail_same}
@@ -65,20 +65,13 @@ module _ (r : Renderer) (layout : Layout) (s : Snippet Annotation) where
 
   gap_begun : (open_bars : List Bar) (j : ℕ) (ks : List ℕ) (rows : List NamedRow) → IsBegun rows → IsBegun (gap_below r layout open_bars j ks ++ rows)
   gap_begun open_bars j [] rows rest = rest
-  gap_begun open_bars j (k ∷ ks) rows rest =
-      elim (nat_lt (j + 1) k) as (λ b.
-      IsBegun (cond b (record { name = Elision; cells = gap_row layout open_bars } ∷ []) [] ++ rows)) [
-        | true ↦ record { begins = refl; are = (rest.begins, rest.are) }
-        | false ↦ rest
-      ]
+  gap_begun open_bars j (k ∷ ks) rows rest = grind (arith, common_steps)
 
   lines_begun : (closes : Bool) (open_bars : List Bar) (ks : List ℕ) → IsBegun (rows_of_lines r layout closes s open_bars ks)
   lines_begun closes open_bars [] = record { begins = refl; are = tt }
   lines_begun closes open_bars (k ∷ ks) =
       let past : List Bar = open_past open_bars (bars_on s k) in
-      line_begun (closes && length ks == 0) open_bars k (rows_of_line r layout (closes && length ks == 0) s open_bars k) refl
-      (gap_below r layout past k ks ++ rows_of_lines r layout closes s past ks)
-      (gap_begun past k ks (rows_of_lines r layout closes s past ks) (lines_begun closes past ks))
+      line_begun _ open_bars k _ refl _ (gap_begun past k ks (rows_of_lines r layout closes s past ks) (lines_begun closes past ks))
 
   -- what is known of each is known of one among them
   one_of : (rows : List NamedRow) → AreLinesOf rows → (above : List NamedRow) (row : NamedRow) (below : List NamedRow) → rows ≡ above ++ row ∷ below
@@ -104,8 +97,7 @@ module _ (r : Renderer) (layout : Layout) (s : Snippet Annotation) where
   line_some closes open_bars k =
       let margin : Margin = margin_in r layout s in
       let text : List ℕ = norm (chars_at (cow_str_bytes s.source.text) k) in
-      line_rows-some layout margin.term_width closes text (width_of (dropped_part margin.computed_left text)) _ open_bars
-      (entries_on s k)
+      line_rows-some layout margin.term_width closes text (width_of (dropped_part margin.computed_left text)) _ open_bars (entries_on s k)
 
   -- and these are the names of those that show lines, or stand in place of lines
   pub names_of_rows : (closes : Bool) (open_bars : List Bar) (ks : List ℕ) → names_in (rows_of_lines r layout closes s open_bars ks) ≡ names_of_lines ks
@@ -128,10 +120,4 @@ module _ (r : Renderer) (layout : Layout) (s : Snippet Annotation) where
       gap_name : (open_bars : List Bar) (j : ℕ) (ks : List ℕ) (rows : List NamedRow) → names_in rows ≡ names_of_lines ks
           → SourceRow j ∷ names_in (gap_below r layout open_bars j ks ++ rows) ≡ names_of_lines (j ∷ ks)
       gap_name open_bars j [] rows named = ap (λ names. SourceRow j ∷ names) named
-      gap_name open_bars j (k ∷ ks) rows named =
-          elim (nat_lt (j + 1) k) as (λ b.
-          SourceRow j ∷ names_in (cond b (record { name = Elision; cells = gap_row layout open_bars } ∷ []) [] ++ rows)
-          ≡ cond b (SourceRow j ∷ Elision ∷ names_of_lines (k ∷ ks)) (SourceRow j ∷ names_of_lines (k ∷ ks))) [
-            | true ↦ ap (λ names. SourceRow j ∷ Elision ∷ names) named
-            | false ↦ ap (λ names. SourceRow j ∷ names) named
-          ]
+      gap_name open_bars j (k ∷ ks) rows named = grind (arith, common_steps)

@@ -50,14 +50,7 @@ pub element_added : (r : Renderer) (file : Option (List ℕ)) (es : List Element
     → new ≡ form ++ element_form r file before followed e → after ≡ before_next before e → ElementsSoFar r file es i old form before
     → ElementsSoFar r file es (i + 1) old new after
 element_added r file es i e old form new before after followed within is drawn shares added follows so_far =
-    let others : List Element = filter is_drawn (drop (i + 1) es) in
-    let rest : filter is_drawn (drop i es) ≡ e ∷ others = drawn_left es i e true within is drawn in
-    let later : List FormPiece = elements_form r file (before_next before e) others in
-    let own : element_form r file before followed e ≡ element_form r file before (first_two_share (e ∷ others)) e = grind (arith, common_steps) in
-    record {
-      left = grind (arith, common_steps, others, later, own, append_assoc, rest, so_far.left);
-      numbered = grind (arith, common_steps, next_within, so_far.numbered);
-    }
+    grind (arith, common_steps, drawn_left, append_assoc, next_within)
 
 -- one that isn't drawn
 pub element_passed : (r : Renderer) (file : Option (List ℕ)) (es : List Element) (i : ℕ) (e : Element) (old form : List FormPiece)
@@ -81,8 +74,7 @@ all_added r file es i old form before past so_far = grind (arith, append-nil, dr
 
 -- a suggestion that is drawn has patches
 pub has_patches : (patches : List Patch) → not (length patches == 0) ≡ true → patches ≢ []
-has_patches patches drawn none =
-    both_ways (not (length patches == 0)) (ap (λ (ps : List Patch). not (length ps == 0)) none) drawn
+has_patches patches drawn none = both_ways (not (length patches == 0)) (ap (λ (ps : List Patch). not (length ps == 0)) none) drawn
 
 -- so the number of the suggestion right before is small
 pub number_small : (before : Option code.PreviousSuggestion) (i count : ℕ) → IfSome (before_seen before) (λ (b : PreviousSuggestion). b.number ≤ i) → i < count
@@ -102,8 +94,7 @@ title_added r title t old new is added = grind (arith, append-nil, r.hyperlink)
 
 -- a group without a title adds nothing for it
 pub no_title_added : (r : Renderer) (title : Option Title) (old new : List FormPiece) → title ≡ None → new ≡ old → new ≡ old ++ title_form r title
-no_title_added r title old new is same =
-    same ∙ sym (append-nil old) ∙ ap (λ (x : Option Title). old ++ title_form r x) (sym is)
+no_title_added r title old new is same = same ∙ sym (append-nil old) ∙ ap (λ (x : Option Title). old ++ title_form r x) (sym is)
 
 -- a group is added: after its title its elements
 pub group_added : (r : Renderer) (groups : List Group) (g : Group) (file : Option (List ℕ)) (es : List Element) (old titled new : List FormPiece)

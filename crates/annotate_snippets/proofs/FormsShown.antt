@@ -1,4 +1,5 @@
 -- The texts of a report show it in its form, and have the laws of that.
+use Rattle.std.proofs.lemmas.Grind.{common_steps}
 use Rattle.annotate_snippets.proofs.Common.{◌≡◌, ◌<◌, ◌≤◌, ℕ, arith, get_or, Option, None, Some, refl, sym, List, [], ◌∷◌, subst}
 use Rattle.annotate_snippets.proofs.Common.{length, nil_from_length, All-nil, AllZip, trusted_texts, Group, Title, IsWoven, plain_woven, Stylesheet, Renderer}
 use Rattle.annotate_snippets.proofs.Common.{Form, Graphic, Short, Text, missing_title, FormLaws, LawsIn, IsTextUnder, AreFree, ShortShown, ShowsForm, links_in}
@@ -12,8 +13,7 @@ use Rattle.annotate_snippets.proofs.ShortShown.{page_is}
 titled-none : (r : Renderer) (g : Group) (groups : List Group) (title : Option Title) → missing_title Short (g ∷ groups) ≡ None → g.title ≡ title
     → ShortShown r (g ∷ groups) [] []
 titled-none r g groups None given titled = absurd (title-there (g ∷ groups) g given refl titled)
-titled-none r g groups (Some title) given titled =
-    record { group = g; title = title; first = refl; titled = titled; printed = tt }
+titled-none r g groups (Some title) given titled = record { group = g; title = title; first = refl; titled = titled; printed = tt }
 
 short-none : (r : Renderer) (groups : List Group) → missing_title Short groups ≡ None → ShortShown r groups [] []
 short-none r [] given = absurd (first-there [] given refl)
@@ -28,11 +28,7 @@ module _ (r : Renderer) (groups : List Group) where
       let page : Page = graphic_form r groups in
       let links : List (List ℕ) = report_links r groups in
       let woven : IsWoven sheet text (page_text page) links = page_woven sheet page links text laws.links prints in
-      record {
-        form_laws = laws;
-        woven = woven;
-        plain = λ none plain. plain_woven sheet text (page_text page) links plain none woven;
-      }
+      record { form_laws = laws; woven = woven; plain = λ none plain. plain_woven sheet text (page_text page) links plain none woven }
 
   -- where no title is missing, no texts show a report under no sheets
   pub none-in : (form : Form) → missing_title form groups ≡ None → ShowsForm form r groups [] []
@@ -44,10 +40,7 @@ module _ (r : Renderer) (groups : List Group) where
 pub page-shown : (r : Renderer) (groups : List Group) (sheets : List Stylesheet) (texts : List (List ℕ)) → AllZip (IsTextUnder Graphic r groups) sheets texts
     → ShowsForm Graphic r groups sheets texts
 page-shown r groups sheets texts are =
-    record {
-      printed = AllZip-weaker (IsTextUnder Graphic r groups) (λ sheet text. PrintsPage sheet (graphic_form r groups) text)
-          (λ sheet text is. is.shows.printed.0) sheets texts are;
-    }
+    record { printed = AllZip-weaker _ (λ sheet text. PrintsPage sheet (graphic_form r groups) text) (λ sheet text is. is.shows.printed.0) sheets texts are }
 
 -- each form's laws say that its plain text is free
 pub free-in : (r : Renderer) (groups : List Group) (form : Form) → FormLaws form r groups → IsFreeBut (trusted_texts groups) (plain_in form r groups)
@@ -62,18 +55,12 @@ pub are-free : (r : Renderer) (groups : List Group) (form : Form) (sheets : List
 are-free r groups form [] [] laws = grind (arith, All-nil)
 are-free r groups form [] (text ∷ texts) laws = absurd laws
 are-free r groups form (sheet ∷ sheets) [] laws = absurd laws
-are-free r groups form (sheet ∷ sheets) (text ∷ texts) laws = record {
-  plain = plain_in form r groups;
-  woven = AllZip-weaker (LawsIn form r groups) (λ sheet text. IsWoven sheet text (plain_in form r groups) (links_in form r groups))
-      (λ sheet text law. law.woven) (sheet ∷ sheets) (text ∷ texts) laws;
-  free = free-in r groups form laws.0.form_laws;
-}
+are-free r groups form (sheet ∷ sheets) (text ∷ texts) laws = grind (arith, common_steps, AllZip-weaker, free-in)
 
 -- under no sheets no texts show a report that isn't refused
 pub none-shown : (form : Form) (r : Renderer) (groups : List Group) (sheets : List Stylesheet) → length sheets ≡ 0 → missing_title form groups ≡ None
     → ShowsForm form r groups sheets []
-none-shown form r groups sheets none given =
-    subst (λ ss. ShowsForm form r groups ss []) (sym (nil_from_length sheets none)) (none-in r groups form given)
+none-shown form r groups sheets none given = subst (λ ss. ShowsForm form r groups ss []) (sym (nil_from_length sheets none)) (none-in r groups form given)
 
 -- and have its laws
 pub none-laws : (form : Form) (r : Renderer) (groups : List Group) (sheets : List Stylesheet) → length sheets ≡ 0 → AllZip (LawsIn form r groups) sheets []

@@ -1,13 +1,12 @@
 -- The groups of a report, in order, as they are drawn.
 use Rattle.std.proofs.lemmas.Grind.{common_steps}
-use Rattle.annotate_snippets.proofs.Common.{◌≡◌, ℕ, ◌+◌, ◌<◌, ◌==◌, All, Bool, true, false, Option, None, Some, List, [], ◌∷◌}
-use Rattle.annotate_snippets.proofs.Common.{◌++◌, length, get_or, map, take, drop, Bor, refl, sym, ap, ◌∙◌, arith, subst, if◌then◌else◌, ◌||◌}
-use Rattle.annotate_snippets.proofs.Common.{enumerate_from, slice_get, option_copied, option_or, zero-add, nat_tests, append_assoc, get_or-map, length-map}
-use Rattle.annotate_snippets.proofs.Common.{length-take, take-append-drop, take_more, get_or-enumerate_from, length-enumerate_from, get_or_from_slice_get}
-use Rattle.annotate_snippets.proofs.Common.{slice_get-get_or, slice_get_within, Layout, Group, All-unmapped, drawn_elements, file_of_group}
-use Rattle.annotate_snippets.proofs.Common.{position_of_group, HasRoomFor, code_after, is_first_group, graphic_form, group_page, layout_of_group}
-use Rattle.annotate_snippets.proofs.Common.{gutter_of_report, GroupPage, IsGroupDrawable, IsGroupPrepared, element_of, Renderer, GroupPosition, Only}
-use Rattle.annotate_snippets.proofs.Common.{PreparedGroup}
+use Rattle.annotate_snippets.proofs.Common.{◌≡◌, ℕ, ◌+◌, ◌<◌, ◌==◌, All, Bool, true, false, Option, None, Some, List, [], ◌∷◌, ◌++◌, length, get_or, map, take}
+use Rattle.annotate_snippets.proofs.Common.{drop, Bor, refl, sym, ap, ◌∙◌, arith, subst, if◌then◌else◌, ◌||◌, enumerate_from, slice_get, option_copied}
+use Rattle.annotate_snippets.proofs.Common.{option_or, zero-add, nat_tests, append_assoc, get_or-map, length-map, length-take, take-append-drop, take_more}
+use Rattle.annotate_snippets.proofs.Common.{get_or-enumerate_from, length-enumerate_from, get_or_from_slice_get, slice_get-get_or, slice_get_within, Layout}
+use Rattle.annotate_snippets.proofs.Common.{Group, All-unmapped, drawn_elements, file_of_group, position_of_group, HasRoomFor, code_after, is_first_group}
+use Rattle.annotate_snippets.proofs.Common.{graphic_form, group_page, layout_of_group, gutter_of_report, GroupPage, IsGroupDrawable, IsGroupPrepared}
+use Rattle.annotate_snippets.proofs.Common.{element_of, Renderer, GroupPosition, Only, PreparedGroup}
 use Rattle.annotate_snippets.specs.declared.renderer.element_context.GroupPosition.TheVariants.{First, Later}
 use Rattle.annotate_snippets.proofs.ElementRows.{get-mapped, turn_item}
 use Rattle.annotate_snippets.proofs.PageWords.{depth_of_group, page_at}
@@ -16,8 +15,7 @@ use Rattle.annotate_snippets.proofs.RoomLemmas.{room_in_report}
 
 -- the page of a report, by its groups
 pub page_count : (r : Renderer) (groups : List Group) → length (graphic_form r groups) ≡ length groups
-page_count r groups =
-    length-map (enumerate_from 0 groups) (λ (pair : ℕ × Group). page_at r groups pair.0 pair.1) ∙ length-enumerate_from 0 groups
+page_count r groups = length-map (enumerate_from 0 groups) (λ (pair : ℕ × Group). page_at r groups pair.0 pair.1) ∙ length-enumerate_from 0 groups
 
 -- each is that of its group
 page_of : (r : Renderer) (groups : List Group) (n : ℕ) (g : Group) (d : GroupPage) → slice_get groups n ≡ Some g
@@ -39,16 +37,14 @@ copied_or (Some x) b = refl
 pub layout_is : (r : Renderer) (groups : List Group) (g : Group) (layout : Layout) (gutter depth : ℕ) → gutter ≡ gutter_of_report r groups
     → depth ≡ depth_of_group g → layout.gutter ≡ gutter → layout.code ≡ code_after gutter depth → layout.decor ≡ r.decor_style
     → layout.label_lines ≡ (r.label_lines || r.wrap) → layout.label_end ≡ (if r.wrap then r.term_width else 0) → layout ≡ layout_of_group r groups g
-layout_is r groups g layout gutter depth wide deep left code decor lines ends =
-    grind (arith, layout.code, layout.decor, layout.label_lines, layout.label_end)
+layout_is r groups g layout gutter depth wide deep left code decor lines ends = grind (arith, layout.code, layout.decor, layout.label_lines, layout.label_end)
 
 -- it has room for the group's elements
 pub room_at : (r : Renderer) (groups : List Group) (n : ℕ) (p : PreparedGroup) (layout : Layout) → All IsGroupDrawable groups → IsGroupPrepared p
     → slice_get groups n ≡ Some p.group.now → layout ≡ layout_of_group r groups p.group.now
     → All (λ e. HasRoomFor r layout (element_of e)) p.elements.items
 room_at r groups n p layout drawable prepared here is =
-    All-unmapped (HasRoomFor r layout) element_of p.elements.items (subst (λ es.
-    All (HasRoomFor r layout) es) (sym prepared.elements_are) (subst (λ f.
+    All-unmapped (HasRoomFor r layout) element_of p.elements.items (subst (λ es. All (HasRoomFor r layout) es) (sym prepared.elements_are) (subst (λ f.
     All (HasRoomFor r f) (drawn_elements p.group.now)) (sym is) (room_in_report r groups drawable n p.group.now here)))
 
 -- the page of a group that is drawn in that layout, at its place and for its file, is the report's
@@ -74,8 +70,7 @@ turn_prepared ps n i p all turn =
     let item : slice_get ps n ≡ Some p = (turn_item ps n i p turn).1 in
     let within : n < length ps = slice_get_within ps n p item in
     let found : Some (get_or ps n p) ≡ Some p = sym (slice_get-get_or ps n p within) ∙ item in
-    let is : get_or ps n p ≡ p = cc in
-    subst IsGroupPrepared is (all n p within)
+    let is : get_or ps n p ≡ p = cc in subst IsGroupPrepared is (all n p within)
 
 -- after the last turn as many groups were drawn as the report has
 pub turns_all : (groups : List Group) (ps : List PreparedGroup) (n : ℕ) → map group_of ps ≡ groups → n ≡ length (enumerate_from 0 ps) → n ≡ length groups
@@ -90,12 +85,7 @@ pub taken_here : (r : Renderer) (groups : List Group) (ps : List PreparedGroup) 
     → (T : Bool → GroupPage → Type 0) → T (is_first_group place) (group_page r layout place file p.group.now)
     → T (n == 0) (page_at r groups n p.group.now)
 taken_here r groups ps n i p layout place file same turn layout_here place_here file_here T taken =
-    let at : i ≡ n = (turn_item ps n i p turn).0 in
-    let here : group_page r layout place file p.group.now ≡ page_at r groups n p.group.now =
-    page_here r groups i p.group.now layout place file layout_here place_here file_here ∙ ap (λ k. page_at r groups k p.group.now) at in
-    let first : is_first_group place ≡ (n == 0) = ap is_first_group place_here ∙ ap (λ k. is_first_group (position_of_group (length groups) k)) at
-    ∙ first_at (length groups) n (turn_within groups ps n i p same turn) in
-    subst (λ page. T (n == 0) page) here (subst (λ b. T b (group_page r layout place file p.group.now)) first taken)
+    grind (arith, common_steps, turn_item, page_at, page_here, first_at, turn_within)
   where
     first_of : (b c : Bool) → (b ≡ true → c ≡ true) → is_first_group (if b then Only else (if c then First else Later)) ≡ c
     first_of true c alone = sym (alone refl)

@@ -70,8 +70,7 @@ no_links rows none =
 -- the rows of an element link to nothing
 element-unlinked : (r : Renderer) (layout : Layout) (around : ElementContext) (found : List Cell) (e : Element) (part : List NamedRow)
     → ShowsElement r layout around found e part → IsFreeElement e part → All IsUnlinked (cells_of part)
-element-unlinked r layout around found (Message message) part shows free =
-    grind (arith, message_rows-unlinked, shows.shows.rows_are, r.hyperlink, around.next)
+element-unlinked r layout around found (Message message) part shows free = grind (arith, message_rows-unlinked, shows.shows.rows_are, r.hyperlink, around.next)
 element-unlinked r layout around found (Cause snippet) part shows free =
     free_unlinked (cells_of part) (All-map IsFree (λ (row : NamedRow). row.cells) part free)
 element-unlinked r layout around found (Suggestion snippet) part shows free =
@@ -83,8 +82,7 @@ element-unlinked r layout around found (Padding padding) part shows free =
 
 -- what stands below rows that link to nothing doesn't link
 links-append : (xs ys : List (List Cell)) → All IsUnlinked ys → links_of (xs ++ ys) ≡ links_of xs
-links-append xs ys none =
-    flat_map-append (λ row. links_after None row) xs ys ∙ ap (λ urls. links_of xs ++ urls) (no_links ys none) ∙ append-nil (links_of xs)
+links-append xs ys none = flat_map-append (λ row. links_after None row) xs ys ∙ ap (λ urls. links_of xs ++ urls) (no_links ys none) ∙ append-nil (links_of xs)
 
 -- a title's part of a group links to what the title's id links to
 title_part-links : (r : Renderer) (layout : Layout) (place : GroupPosition) (follows : Next) (title : Option Title)
@@ -152,8 +150,7 @@ module _ (r : Renderer) (layout : Layout) (place : GroupPosition) (file : Option
 
     -- and no line feed, where no text of the elements brings one
     parts_one_line : All (IsOneLineElement layout.label_lines) es → All HasNoFeed (flat_map cells_of parts)
-    parts_one_line plain =
-        parts_each HasNoFeed (λ i e is. (part_shown i e is).one_line (own_of (IsOneLineElement layout.label_lines) plain i e is))
+    parts_one_line plain = parts_each HasNoFeed (λ i e is. (part_shown i e is).one_line (own_of (IsOneLineElement layout.label_lines) plain i e is))
 
 -- the page of a group shows it: each part shows its element
 pub group_shown : (r : Renderer) (layout : Layout) (place : GroupPosition) (file : Option (List ℕ)) (g : Group) → IsGroupDrawable g
@@ -176,6 +173,5 @@ group_shown r layout place file g drawable room texts =
       links = links-append title below (parts-unlinked r layout place file es own drawn room texts) ∙ title_part-links r layout place (next_of es) g.title;
       free = subst (λ ts. IsFreeBut ts (plain_text (title ++ below))) (sym (append-nil trusted)) (free_text trusted (title ++ below) free);
       one_line = λ plain. All-append HasNoFeed title below (title_part-one_line r layout place (next_of es) g.title plain.0)
-          (parts_one_line r layout place file es own drawn room texts
-          (All-filter is_drawn (IsOneLineElement layout.label_lines) g.elements.items plain.1));
+          (parts_one_line r layout place file es own drawn room texts (All-filter is_drawn (IsOneLineElement layout.label_lines) g.elements.items plain.1));
     }

@@ -1,17 +1,16 @@
 -- Why a line's number takes at most one cell more than the gutter has.
 use Rattle.std.proofs.lemmas.Grind.{common_steps}
-use Rattle.annotate_snippets.proofs.Common.{◌≡◌, ◌≢◌, ℕ, zero, suc, ◌+◌, ◌/◌, ◌<◌, ◌≤◌, ◌^◌, max, ◌==◌, nat_le, nat_lt}
-use Rattle.annotate_snippets.proofs.Common.{Bool, true, false, cond, List, [], ◌∷◌, All, length, take, map, fold, count_by, get_or, refl, sym, ap, subst}
-use Rattle.annotate_snippets.proofs.Common.{◌∙◌, arith, inl, inr, cow_str_bytes, decimal, take-take, length-append, length-replicate, take-append_seam}
-use Rattle.annotate_snippets.proofs.Common.{sum_by-take-le, filter, list_any, range_with_len, and_parts, cases_Bool, cond-true, cond-false, eqb-true}
-use Rattle.annotate_snippets.proofs.Common.{get_or-range_with_len, length-range_with_len, All-nil, All-cons, All-contains, All-filter, All-head, All-same}
-use Rattle.annotate_snippets.proofs.Common.{All-tail, All-weaker, filter_passes, nat_tests, Snippet, Annotation, EndLine, Eof, Lf, Crlf, AnnotatedLineInfo}
-use Rattle.annotate_snippets.proofs.Common.{Line, joined, line_bytes, is_lf, newline_count, source_lines, start_of, AreLines, line_of, counted_number}
-use Rattle.annotate_snippets.proofs.Common.{reached_source, KeptLine, kept_line, seen_kept, keeps, kept_lines, shown_lines, with_between, last_line}
-use Rattle.annotate_snippets.proofs.Common.{joined-source_lines, AreLines-lines_of, split_at_line, length-source_lines, newline_count-take, HoldsByte-source}
-use Rattle.annotate_snippets.proofs.Common.{line_of-within, number_width, shown_number, LineNumbers, Shown, Anonymized, Hidden, length-decimal_monotone}
-use Rattle.annotate_snippets.proofs.Common.{length-decimal_more, length-decimal_last, HasRoomFor, IsDrawable, line_numbers, numbered_source, Renderer, Layout}
-use Rattle.annotate_snippets.proofs.Common.{Cause, feeds-append}
+use Rattle.annotate_snippets.proofs.Common.{◌≡◌, ◌≢◌, ℕ, zero, suc, ◌+◌, ◌/◌, ◌<◌, ◌≤◌, ◌^◌, max, ◌==◌, nat_le, nat_lt, Bool, true, false, cond, List, [], ◌∷◌}
+use Rattle.annotate_snippets.proofs.Common.{All, length, take, map, fold, count_by, get_or, refl, sym, ap, subst, ◌∙◌, arith, inl, inr, cow_str_bytes, decimal}
+use Rattle.annotate_snippets.proofs.Common.{take-take, length-append, length-replicate, take-append_seam, sum_by-take-le, range_with_len}
+use Rattle.annotate_snippets.proofs.Common.{and_parts, cases_Bool, cond-true, cond-false, eqb-true, get_or-range_with_len, length-range_with_len, All-nil}
+use Rattle.annotate_snippets.proofs.Common.{All-cons, All-contains, All-filter, All-head, All-same, All-tail, All-weaker, filter_passes, nat_tests, Snippet}
+use Rattle.annotate_snippets.proofs.Common.{Annotation, EndLine, Eof, Lf, Crlf, AnnotatedLineInfo, Line, joined, line_bytes, is_lf, newline_count, source_lines}
+use Rattle.annotate_snippets.proofs.Common.{start_of, AreLines, line_of, counted_number, reached_source, KeptLine, kept_line, seen_kept, keeps, kept_lines}
+use Rattle.annotate_snippets.proofs.Common.{shown_lines, with_between, last_line, joined-source_lines, AreLines-lines_of, split_at_line, length-source_lines}
+use Rattle.annotate_snippets.proofs.Common.{newline_count-take, HoldsByte-source, line_of-within, number_width, shown_number, LineNumbers, Shown, Anonymized}
+use Rattle.annotate_snippets.proofs.Common.{Hidden, length-decimal_monotone, length-decimal_more, length-decimal_last, HasRoomFor, IsDrawable, line_numbers}
+use Rattle.annotate_snippets.proofs.Common.{numbered_source, Renderer, Layout, Cause, feeds-append}
 use Rattle.annotate_snippets.proofs.PageWords.{gutter_of}
 use Rattle.annotate_snippets.proofs.ListLemmas.{from_any}
 use Rattle.annotate_snippets.proofs.PartsFacts.{snippet_shown-within}
@@ -89,25 +88,11 @@ kept-counted s = by_cases s.fold refl
     all = range_with_len 0 (length (source_lines source))
 
     by_cases : (fold : Bool) → s.fold ≡ fold → All (λ k. k ≤ newline_count (reached_source s) + 1) (kept_lines fold source s.markers.items)
-    by_cases true is =
-        let p : ℕ → Bool = λ k. list_any (keeps source k) s.markers.items in
-        All-weaker (λ k. p k ≡ true) (λ k. k ≤ newline_count (reached_source s) + 1) (λ k kept.
-        let found = from_any (keeps source k) s.markers.items kept in
-        let low : last_line source found.0 ≤ newline_count (reached_source s) + 1 = All-contains (λ a.
-        last_line source a ≤ newline_count (reached_source s) + 1) s.markers.items found.0 (lines_counted s) found.1 in
-        omega (arith, low, kept_before source found.0 k found.2)) (filter p all) (filter_passes p all)
+    by_cases true is = grind (arith, common_steps, source, All-weaker, reached_source, from_any, All-contains, lines_counted, kept_before, all, filter_passes)
     by_cases false is =
         let same : newline_count (reached_source s) ≡ newline_count source = rw is refl in
         let bound : All (λ k. k ≤ newline_count (reached_source s) + 1) all =
-        λ i d within. omega (
-          arith,
-          get_or-range_with_len 0 (length (source_lines source))
-              i d (omega (arith, within, length-range_with_len 0 (length (source_lines source)))),
-          within,
-          length-range_with_len 0 (length (source_lines source)),
-          length-source_lines source,
-          same,
-        ) in
+        grind (arith, common_steps, get_or-range_with_len, source, length-range_with_len, length-source_lines, same) in
         All-filter (λ k. true) (λ k. k ≤ newline_count (reached_source s) + 1) all bound
 
 -- and so is that of a line between two of them
@@ -148,8 +133,7 @@ length-decimal-step m n near small fits = by_cases (nat_lt m 10) refl
     by_cases true is = let low : m < 10 = grind (arith, nat_tests) in omega (arith, length-decimal_last m low small)
     by_cases false is =
         let high : 10 ≤ m = grind (arith, nat_tests) in
-        let tenth : m / 10 ≤ n = omega arith in
-        omega (arith, length-decimal_more m high small, length-decimal_monotone (m / 10) n tenth fits)
+        let tenth : m / 10 ≤ n = omega arith in omega (arith, length-decimal_more m high small, length-decimal_monotone (m / 10) n tenth fits)
 
 -- so what the gutter shows for it needs at most one cell more
 number_width-step : (numbers : LineNumbers) (m n : ℕ) → m ≤ n + 1 → m < 2 ^ 64 → n < 2 ^ 64 → number_width numbers m ≤ number_width numbers n + 1
@@ -204,6 +188,5 @@ numbers_fit r layout s infos room drawable lines =
     length-shown numbers layout.gutter number (omega (
       arith,
       wide,
-      number_width-step numbers number (counted_number s) (counted i d within)
-          (small i d within) fits,
+      number_width-step numbers number (counted_number s) (counted i d within) (small i d within) fits,
     ))

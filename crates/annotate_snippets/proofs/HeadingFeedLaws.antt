@@ -1,14 +1,13 @@
 -- The rows of a title or message hold a line feed only where its level's name or its id does: its text is cut at each.
 use Rattle.std.proofs.Common.{arith, chars}
-use Rattle.annotate_snippets.proofs.Common.{◌≡◌, ℕ, ◌+◌, ◌==◌, ◌&&◌, not, Bool, true, false, cond, IfSome, Option, None, Some, List, []}
-use Rattle.annotate_snippets.proofs.Common.{◌∷◌, ◌++◌, All, map, replicate, codes, refl, sym, subst, cow_str_bytes, onto_first, slice_split}
-use Rattle.annotate_snippets.proofs.Common.{option_map, All-append, All-cons, All-head, All-map, All-nil, All-replicate, All-tail, slice_split-cons_no}
-use Rattle.annotate_snippets.proofs.Common.{slice_split-cons_yes, linked, Cell, SPACE, text_cells, DecorStyle, Ascii, Unicode, ElementStyle, LineNumber, norm}
-use Rattle.annotate_snippets.proofs.Common.{Heading, heading_of_title, is_hidden, name_of, Id, bracketed_cells, closing_bracket_of, colon_of, heading_lines}
-use Rattle.annotate_snippets.proofs.Common.{heading_rows, id_cells, indent_cells, is_set, label_cells, label_width, linked_to, lines_below, note_bar_of}
-use Rattle.annotate_snippets.proofs.Common.{opening_bracket_of, roles_of, sign_cells, note_sign_of, title_rows, HeadingRoles, TitleStyle, All-trimmed, Renderer}
-use Rattle.annotate_snippets.proofs.Common.{Layout, GroupPosition, is_before_message, HasNoFeed, rows_after_title, title_part, each-fails, closing_row}
-use Rattle.annotate_snippets.proofs.Common.{separator_row}
+use Rattle.annotate_snippets.proofs.Common.{◌≡◌, ℕ, ◌+◌, ◌==◌, ◌&&◌, not, Bool, true, false, cond, IfSome, Option, None, Some, List, [], ◌∷◌, ◌++◌, All, map}
+use Rattle.annotate_snippets.proofs.Common.{replicate, codes, refl, sym, subst, cow_str_bytes, onto_first, slice_split, option_map, All-append, All-cons}
+use Rattle.annotate_snippets.proofs.Common.{All-head, All-map, All-nil, All-replicate, All-tail, slice_split-cons_no, slice_split-cons_yes, linked, Cell, SPACE}
+use Rattle.annotate_snippets.proofs.Common.{text_cells, DecorStyle, Ascii, Unicode, ElementStyle, LineNumber, norm, Heading, heading_of_title, is_hidden}
+use Rattle.annotate_snippets.proofs.Common.{name_of, Id, bracketed_cells, closing_bracket_of, colon_of, heading_lines, heading_rows, id_cells, indent_cells}
+use Rattle.annotate_snippets.proofs.Common.{is_set, label_cells, label_width, linked_to, lines_below, note_bar_of, opening_bracket_of, roles_of, sign_cells}
+use Rattle.annotate_snippets.proofs.Common.{note_sign_of, title_rows, HeadingRoles, TitleStyle, All-trimmed, Renderer, Layout, GroupPosition, is_before_message}
+use Rattle.annotate_snippets.proofs.Common.{HasNoFeed, rows_after_title, title_part, each-fails, closing_row, separator_row}
 use Rattle.snippet_model.specs.declared.snippet.Title.{Title as TitleGiven}
 use Rattle.snippet_titles.specs.HeadingRows.{address_of, shown_text}
 use Rattle.snippet_titles.specs.declared.style.TitleStyle.TheVariants.{Message, Short, Title}
@@ -48,12 +47,10 @@ brackets_plain hidden role address (Some text) plain =
 
 id_cells-plain : (hyperlink hidden : Bool) (role : ElementStyle) (id : Option Id) → IsOneLineId id → HasNoFeed (id_cells hyperlink hidden role id)
 id_cells-plain hyperlink hidden role None plain = All-nil HoldsNoFeed
-id_cells-plain hyperlink hidden role (Some id) plain =
-    brackets_plain hidden role (address_of hyperlink id) (option_map cow_str_bytes id.id) plain
+id_cells-plain hyperlink hidden role (Some id) plain = brackets_plain hidden role (address_of hyperlink id) (option_map cow_str_bytes id.id) plain
 
 colon_plain : (hidden : Bool) (id : Option Id) → All IsNoFeed (colon_of hidden id)
-colon_plain hidden id =
-    choice (hidden && not (is_set id)) [] (codes ": ") (All-nil IsNoFeed) (All-cons IsNoFeed 58 (32 ∷ []) refl (alone 32 refl))
+colon_plain hidden id = choice (hidden && not (is_set id)) [] (codes ": ") (All-nil IsNoFeed) (All-cons IsNoFeed 58 (32 ∷ []) refl (alone 32 refl))
 
 label_plain : (hyperlink : Bool) (roles : HeadingRoles) (heading : Heading) → IsOneLineHeading heading → HasNoFeed (label_cells hyperlink roles heading)
 unfolding label_cells
@@ -107,8 +104,7 @@ onto_plain c (part ∷ parts) plain all =
 one_more : (c : ℕ) (cs : List ℕ) (feed : Bool) → (c == 10) ≡ feed → All (All IsNoFeed) (slice_split (λ x. x == 10) cs)
     → All (All IsNoFeed) (slice_split (λ x. x == 10) (c ∷ cs))
 one_more c cs true is all = grind (arith, slice_split-cons_yes, All-cons, All-nil)
-one_more c cs false is all =
-    subst (All (All IsNoFeed)) (sym (slice_split-cons_no (λ x. x == 10) c cs is)) (onto_plain c (slice_split (λ x. x == 10) cs) is all)
+one_more c cs false is all = subst (All (All IsNoFeed)) (sym (slice_split-cons_no (λ x. x == 10) c cs is)) (onto_plain c (slice_split (λ x. x == 10) cs) is all)
 
 -- no part of a text that is cut at each line feed holds one
 pub parts_plain : (cs : List ℕ) → All (All IsNoFeed) (slice_split (λ x. x == 10) cs)
@@ -116,8 +112,7 @@ parts_plain [] = All-cons (All IsNoFeed) [] [] (All-nil IsNoFeed) (All-nil (All 
 parts_plain (c ∷ cs) = one_more c cs (c == 10) refl (parts_plain cs)
 
 after_plain : (front : List Cell) (role : ElementStyle) (line : List ℕ) → HasNoFeed front → All IsNoFeed line → HasNoFeed (front ++ text_cells role line)
-after_plain front role line plain own =
-    All-append HoldsNoFeed front (text_cells role line) plain (cells_plain role line own)
+after_plain front role line plain own = All-append HoldsNoFeed front (text_cells role line) plain (cells_plain role line own)
 
 lines_plain : (first further : List Cell) (role : ElementStyle) (lines : List (List ℕ)) → HasNoFeed first → HasNoFeed further → All (All IsNoFeed) lines
     → All HasNoFeed (lines_below first further role lines)
@@ -139,8 +134,7 @@ heading_one_line hyperlink style heading plain =
     let indent : List Cell = indent_cells style (label_width heading) in
     let begun : HasNoFeed (sign ++ label) = All-append HoldsNoFeed sign label (sign_plain style) (label_plain hyperlink roles heading plain) in
     All-trimmed HasNoFeed (lines_below (sign ++ label) indent roles.text (heading_lines heading))
-    (lines_plain (sign ++ label) indent roles.text (heading_lines heading) begun (indent_plain style (label_width heading))
-    (parts_plain (shown_text heading)))
+    (lines_plain (sign ++ label) indent roles.text (heading_lines heading) begun (indent_plain style (label_width heading)) (parts_plain (shown_text heading)))
 
 -- so no row of a group's title does, and none below it
 pub title_part-one_line : (r : Renderer) (layout : Layout) (place : GroupPosition) (follows : NextElement) (title : Option TitleGiven)

@@ -19,8 +19,7 @@ use Rattle.annotate_snippets.proofs.PathFeedLaws.{origin_one_line, padding_one_l
 
 -- what holds of rows holds of them with names
 pub others-each : (P : List Cell → Type 0) (rows : List (List Cell)) → All P rows → All (λ (row : NamedRow). P row.cells) (others rows)
-others-each P rows each =
-    All-unmapped P (λ (row : NamedRow). row.cells) (others rows) (subst (All P) (sym (cells_of-others rows)) each)
+others-each P rows each = All-unmapped P (λ (row : NamedRow). row.cells) (others rows) (subst (All P) (sym (cells_of-others rows)) each)
 
 -- the rows of a heading show it
 heading_shown : (hyperlink : Bool) (place : TitleStyle) (heading : Heading) → ShowsHeading hyperlink place heading (heading_rows hyperlink place heading)
@@ -29,8 +28,7 @@ heading_shown hyperlink place heading = grind (arith, heading_rows-free)
 -- so the text of each is that of the line that it shows, the first after the label
 pub texts_of : {hyperlink : Bool} {place : TitleStyle} {heading : Heading} {rows : List (List Cell)} → ShowsHeading hyperlink place heading rows → (i : ℕ)
     → row_text (row_at rows i) ≡ slice_index_or (heading_texts place heading) i []
-texts_of {hyperlink} {place} {heading} shown i =
-    ap (λ rs. row_text (row_at rs i)) shown.rows_are ∙ heading_rows-texts hyperlink place heading i
+texts_of {hyperlink} {place} {heading} shown i = ap (λ rs. row_text (row_at rs i)) shown.rows_are ∙ heading_rows-texts hyperlink place heading i
 
 -- and the text of its id links to the id's address, where links are on and it has one, and nothing else links
 pub links_of_heading : {hyperlink : Bool} {place : TitleStyle} {heading : Heading} {rows : List (List Cell)} → ShowsHeading hyperlink place heading rows

@@ -1,10 +1,10 @@
 -- The groups of a report, printed as HTML, are its page as HTML; and the laws of that.
-use Rattle.annotate_snippets.proofs.Common.{◌≡◌, ℕ, suc, ◌==◌, Bool, true, false, if◌then◌else◌, List, [], ◌∷◌, ◌++◌, refl, sym, ap}
-use Rattle.annotate_snippets.proofs.Common.{string_bytes, ◌∙◌, arith, length, map, flat_map, join_with_byte, list_all, nat_tests, append_assoc}
-use Rattle.annotate_snippets.proofs.Common.{append-nil, flat_map-append, chars_read, made-append, made_rows, rows_chars, says_rows, adds_both, html_says_pieces}
-use Rattle.annotate_snippets.proofs.Common.{is_made, piece_says, tags_are, AddsHtml, HtmlPiece, html_bytes, plain_look, rows_html, html_reads_pieces}
-use Rattle.annotate_snippets.proofs.Common.{plain_text, Group, AddsGroupHtml, HtmlLaws, further_chars, further_groups, page_chars, page_html, report_html}
-use Rattle.annotate_snippets.proofs.Common.{GroupPage, group_rows, page_text, Takes, Renderer, HtmlPage}
+use Rattle.std.proofs.lemmas.Grind.{common_steps}
+use Rattle.annotate_snippets.proofs.Common.{◌≡◌, ℕ, suc, ◌==◌, true, false, if◌then◌else◌, List, [], ◌∷◌, ◌++◌, refl, ap, string_bytes, arith, length, map}
+use Rattle.annotate_snippets.proofs.Common.{flat_map, join_with_byte, list_all, nat_tests, append_assoc, append-nil, flat_map-append, chars_read, made-append}
+use Rattle.annotate_snippets.proofs.Common.{made_rows, rows_chars, says_rows, adds_both, html_says_pieces, is_made, piece_says, tags_are, AddsHtml, HtmlPiece}
+use Rattle.annotate_snippets.proofs.Common.{html_bytes, plain_look, rows_html, html_reads_pieces, plain_text, Group, AddsGroupHtml, HtmlLaws, further_chars}
+use Rattle.annotate_snippets.proofs.Common.{further_groups, page_chars, page_html, report_html, GroupPage, group_rows, page_text, Takes, Renderer, HtmlPage}
 use Rattle.snippet_grid.specs.Html.{Text}
 use Rattle.annotate_snippets.proofs.PageWords.{Page}
 use Rattle.annotate_snippets.proofs.SinkLemmas.{holds_after}
@@ -15,14 +15,7 @@ use Rattle.annotate_snippets.proofs.SinkLemmas.{holds_after}
 page_html-more : (page : Page) (g : GroupPage) → page_html (page ++ g ∷ [])
     ≡ page_html page ++ (if length page == 0 then rows_html g.level (group_rows g) else (Text 10 ∷ rows_html g.level (group_rows g)))
 page_html-more [] g = append-nil (rows_html g.level (group_rows g))
-page_html-more (top ∷ page) g =
-    let last : List HtmlPiece = Text 10 ∷ rows_html g.level (group_rows g) in
-    let above : List HtmlPiece = rows_html top.level (group_rows top) in
-    ap (λ (ps : List HtmlPiece). above ++ ps)
-    (flat_map-append (λ (h : GroupPage). Text 10 ∷ rows_html h.level (group_rows h)) page (g ∷ [])
-    ∙ ap (λ (ps : List HtmlPiece). further_groups page ++ ps) (append-nil last))
-    ∙ sym (append_assoc above (further_groups page) last)
-    ∙ ap (λ (b : Bool). page_html (top ∷ page) ++ (if b then rows_html g.level (group_rows g) else last)) (sym (not_first (length page)))
+page_html-more (top ∷ page) g = grind (arith, common_steps, flat_map-append, append-nil, append_assoc, not_first)
   where
     not_first : (n : ℕ) → (suc n == 0) ≡ false
     not_first n = grind (arith, nat_tests)
@@ -31,8 +24,7 @@ html_more : (page : Page) (g : GroupPage) (old new : List ℕ) → old ≡ html_
     → new ≡ html_bytes (page_html (page ++ g ∷ []))
 html_more page g old new before adds =
     let piece : List HtmlPiece = if length page == 0 then rows_html g.level (group_rows g) else (Text 10 ∷ rows_html g.level (group_rows g)) in
-    let both : AddsHtml (page_html page ++ piece) [] new = adds_both (page_html page) piece [] old new before adds in
-    both ∙ ap html_bytes (sym (page_html-more page g))
+    let both : AddsHtml (page_html page ++ piece) [] new = adds_both (page_html page) piece [] old new before adds in cc (both, page_html-more page g)
 
 -- after all
 pub html_after : (page : Page) (old new : HtmlPage) → string_bytes old.text ≡ []
@@ -60,8 +52,7 @@ says_page (g ∷ gs) = grind (arith, flat_map-append, says_rows, says_further, j
 
 made_further : (page : Page) → list_all is_made (further_groups page) ≡ true
 made_further [] = refl
-made_further (g ∷ gs) =
-    made-append (Text 10 ∷ rows_html g.level (group_rows g)) (further_groups gs) (made_rows g.level (group_rows g)) (made_further gs)
+made_further (g ∷ gs) = made-append (Text 10 ∷ rows_html g.level (group_rows g)) (further_groups gs) (made_rows g.level (group_rows g)) (made_further gs)
 
 made_page : (page : Page) → list_all is_made (page_html page) ≡ true
 made_page [] = refl

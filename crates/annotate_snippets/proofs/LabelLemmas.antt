@@ -1,19 +1,17 @@
 -- The labels of a line's entries are those of its spans.
 use Rattle.std.proofs.lemmas.Grind.{common_steps}
-use Rattle.annotate_snippets.proofs.Common.{◌≡◌, ℕ, ◌+◌, ◌-◌, ◌<◌, ◌≤◌, ◌==◌, ◌&&◌, ◌||◌, max, cond, not, Bool, true}
-use Rattle.annotate_snippets.proofs.Common.{false, None, Option, List, [], ◌∷◌, ◌++◌, map, length, get_or, count_by, refl, sym, ap, subst, ◌∙◌}
-use Rattle.annotate_snippets.proofs.Common.{arith, inl, inr, filter, and_parts, nat_tests, length-map, map-append, All-cons, All-filter, All-head, All-map}
-use Rattle.annotate_snippets.proofs.Common.{All-nil, All-tail, filter-append, filter_passes, sum_by-cons, Cell, unlinked_cell, Annotation, AnnotationKind}
-use Rattle.annotate_snippets.proofs.Common.{Source, promoted, end_part, long_parts, long_place, long_spans, made_parts, parts_on, single_part, span_parts}
-use Rattle.annotate_snippets.proofs.Common.{start_part, depth_among, LongExtent, Snippet, numbered_source, end_column, is_marked_on, is_single_line}
-use Rattle.annotate_snippets.proofs.Common.{start_column, is_bar, LineAnnotation, Singleline, MultilineEnd, singles-on, filter-none, made-all, bar_part}
-use Rattle.annotate_snippets.proofs.Common.{long_entry, bar_lines, label_role, shifted, label_text, IsLabelledAtEnd, IsLedTo, LabelsStand, PlacedLabel, zero}
-use Rattle.annotate_snippets.proofs.Common.{suc}
-use Rattle.annotate_snippets.proofs.Common.{StandsIn, is_cell_of, is_start_part, Layout, HasStem, ShowsLabel, ShowsLabels, ShownLabel, SpanLabel}
-use Rattle.annotate_snippets.proofs.Common.{promoted_spans, is_in_label, labels_ending_on, normalized_chars, shown_label, entry_of, is_short, long_places}
-use Rattle.annotate_snippets.proofs.Common.{stands_among}
-use Rattle.std.specs.List.{All}
-use Rattle.annotate_snippets.proofs.Common.{All-unmapped, cell_at, char_width, columns_of, false≢true, letters_of, row_text, width_of}
+use Rattle.annotate_snippets.proofs.Common.{◌≡◌, ℕ, ◌+◌, ◌-◌, ◌<◌, ◌≤◌, ◌==◌, ◌&&◌, ◌||◌, max, cond, not, Bool, true, false, None, Option, List, [], ◌∷◌, ◌++◌}
+use Rattle.annotate_snippets.proofs.Common.{map, length, get_or, count_by, refl, sym, ap, subst, ◌∙◌, arith, inl, inr, filter, and_parts, nat_tests, length-map}
+use Rattle.annotate_snippets.proofs.Common.{map-append, All-cons, All-filter, All-head, All-map, All-nil, All-tail, filter-append, filter_passes, sum_by-cons}
+use Rattle.annotate_snippets.proofs.Common.{Cell, unlinked_cell, Annotation, AnnotationKind, Source, promoted, end_part, long_parts, long_place, long_spans}
+use Rattle.annotate_snippets.proofs.Common.{made_parts, parts_on, single_part, span_parts, start_part, depth_among, LongExtent, Snippet, numbered_source}
+use Rattle.annotate_snippets.proofs.Common.{end_column, is_marked_on, is_single_line, start_column, is_bar, LineAnnotation, Singleline, MultilineEnd}
+use Rattle.annotate_snippets.proofs.Common.{singles-on, filter-none, made-all, bar_part, long_entry, bar_lines, label_role, shifted, label_text}
+use Rattle.annotate_snippets.proofs.Common.{IsLabelledAtEnd, IsLedTo, LabelsStand, PlacedLabel, zero, suc, StandsIn, is_cell_of, is_start_part, Layout, HasStem}
+use Rattle.annotate_snippets.proofs.Common.{ShowsLabel, ShowsLabels, ShownLabel, SpanLabel, promoted_spans, is_in_label, labels_ending_on, normalized_chars}
+use Rattle.annotate_snippets.proofs.Common.{shown_label, is_short, long_places, stands_among, All-unmapped, cell_at, char_width, columns_of}
+use Rattle.annotate_snippets.proofs.Common.{false≢true, letters_of, row_text, width_of}
+use Rattle.std.specs.List.{All, slice_split}
 use Rattle.annotate_snippets.proofs.EntryEnds.{entries_end}
 use Rattle.annotate_snippets.specs.Laws.Labels.{IsBroken, pieces_shown}
 use Rattle.snippet_labels.proofs.PieceLemmas.{label_pieces-broken, label_pieces-nil}
@@ -23,7 +21,6 @@ use Rattle.snippet_shown.proofs.WrapLemmas.{wrapped-laws}
 use Rattle.snippet_shown.specs.Letters.{first_place, letter, letter_width, letters}
 use Rattle.snippet_shown.specs.WrapLaws.{AreRowsWithin}
 use Rattle.snippet_shown.specs.Wrapped.{wrapped}
-use Rattle.std.specs.List.{slice_split}
 use Rattle.snippet_strokes.proofs.PieceWrites.{piece_shows, piece_within}
 use Rattle.snippet_strokes.proofs.RowWidths.{label_rows_have_room, rows_have_room}
 use Rattle.snippet_strokes.proofs.SeenLabels.{HasPieceRoom}
@@ -49,12 +46,7 @@ none_before : (s : Source) (marks : List Annotation) → All HasNoneBefore (made
 none_before s marks =
     made-all HasNoneBefore s marks (λ a among short wrong. cc wrong) (λ a among long kind.
     let e : LineAnnotation = record (long_entry s a) { kind = kind } in
-    record {
-      start = λ _. refl;
-      bars = λ i d within _. refl;
-      end = λ wrong. cc wrong;
-      again = λ wrong. cc wrong;
-    })
+    record { start = λ _. refl; bars = λ i d within _. refl; end = λ wrong. cc wrong; again = λ wrong. cc wrong })
 
 -- so an entry of a line has a label only where a span ends
 pub labelled_at_end : (s : Source) (marks : List Annotation) (k dropped : ℕ) (es : List LineAnnotation) → es ≡ parts_on s marks k
@@ -131,16 +123,14 @@ shown_at e l = record { label = label_of_part e; row = l.row; cell = l.cell }
 shown_labels : List LineAnnotation → List PlacedLabel → List ShownLabel
 shown_labels [] ls = []
 shown_labels (e ∷ es) [] = []
-shown_labels (e ∷ es) (l ∷ ls) =
-    cond (ends_here e) (shown_at e l ∷ shown_labels es ls) (shown_labels es ls)
+shown_labels (e ∷ es) (l ∷ ls) = cond (ends_here e) (shown_at e l ∷ shown_labels es ls) (shown_labels es ls)
 
 labels_are : (es : List LineAnnotation) (ls : List PlacedLabel) → length ls ≡ length es
     → map (λ (l : ShownLabel). l.label) (shown_labels es ls) ≡ map (label_of_part) (filter ends_here es)
 unfolding shown_labels
 labels_are [] ls long = refl
 labels_are (e ∷ es) [] long = absurd (omega (arith, long))
-labels_are (e ∷ es) (l ∷ ls) long =
-    both (ends_here e) (labels_are es ls (omega (arith, long)))
+labels_are (e ∷ es) (l ∷ ls) long = both (ends_here e) (labels_are es ls (omega (arith, long)))
   where
     both : (b : Bool) → map (λ (x : ShownLabel). x.label) (shown_labels es ls) ≡ map (label_of_part) (filter ends_here es)
         → map (λ (x : ShownLabel). x.label) (cond b (shown_at e l ∷ shown_labels es ls) (shown_labels es ls))
@@ -246,9 +236,7 @@ module _ (dropped : ℕ) (layout : Layout) (rows : List (List Cell)) where
   cells_few r c (e ∷ es) (l ∷ ls) entries has =
       let entry = head_same l.entry (shifted dropped e) (map (λ (x : PlacedLabel). x.entry) ls) (map (shifted dropped) es) entries in
       let further = tail_same l.entry (shifted dropped e) (map (λ (x : PlacedLabel). x.entry) ls) (map (shifted dropped) es) entries in
-      let one : is_in_label layout r c (shown_at e l) ≡ is_cell_of r c l = ap (λ (ps : List (List ℕ)).
-      nat_le l.row r && (nat_le l.cell c && nat_lt c (l.cell + length (get_or ps (r - l.row) []))))
-      (sym (pieces_are e l entry (All-head HasPieces l ls has))) in
+      let one : is_in_label layout r c (shown_at e l) ≡ is_cell_of r c l = cc (pieces_are e l entry (All-head HasPieces l ls has)) in
       both (ends_here e) one (cells_few r c es ls further (All-tail HasPieces l ls has))
     where
       both : (b : Bool) → is_in_label layout r c (shown_at e l) ≡ is_cell_of r c l
@@ -274,9 +262,7 @@ module _ (dropped : ℕ) (layout : Layout) (rows : List (List Cell)) where
   cells_all r c (e ∷ es) (l ∷ ls) entries ends has =
       let entry = head_same l.entry (shifted dropped e) (map (λ (x : PlacedLabel). x.entry) ls) (map (shifted dropped) es) entries in
       let further = tail_same l.entry (shifted dropped e) (map (λ (x : PlacedLabel). x.entry) ls) (map (shifted dropped) es) entries in
-      let one : is_in_label layout r c (shown_at e l) ≡ is_cell_of r c l = ap (λ (ps : List (List ℕ)).
-      nat_le l.row r && (nat_le l.cell c && nat_lt c (l.cell + length (get_or ps (r - l.row) []))))
-      (sym (pieces_are e l entry (All-head HasPieces l ls has))) in
+      let one : is_in_label layout r c (shown_at e l) ≡ is_cell_of r c l = cc (pieces_are e l entry (All-head HasPieces l ls has)) in
       let none : (is_start_part e.annotation_type || is_bar e.annotation_type) ≡ true → is_cell_of r c l ≡ false =
       λ before. no_cell r c l.row l.cell (length (get_or l.pieces (r - l.row) []))
       (no_piece layout l.cell (r - l.row) l.pieces (All-head HasPieces l ls has ∙ ap (label_pieces layout l.cell) (ap label_text entry
@@ -315,13 +301,7 @@ module _ (dropped : ℕ) (layout : Layout) (rows : List (List Cell)) where
       let same : get_or l.pieces n [] ≡ piece = ap (λ (qs : List (List ℕ)). get_or qs n []) are in
       let some_too : 0 < length piece = omega (arith, some, ap (λ (q : List ℕ). length q) same) in
       let wide : (shown_at e l).cell + 20 ≤ layout.label_end = room (piece_shows ps n some_too) in
-      omega (
-        arith,
-        wide,
-        (label_broken layout cut (shown_at e l) wide).fits n [] (piece_within ps n some_too),
-        letters-width piece,
-        ap width_of same,
-      )
+      omega (arith, wide, (label_broken layout cut (shown_at e l) wide).fits n [] (piece_within ps n some_too), letters-width, ap width_of same)
 
   labels_end : layout.label_lines ≡ true → (es : List LineAnnotation) (ls : List PlacedLabel)
       → map (λ (l : PlacedLabel). l.entry) ls ≡ map (shifted dropped) es → All IsLabelledAtEnd (map (shifted dropped) es) → All HasPieces ls
@@ -340,8 +320,7 @@ module _ (dropped : ℕ) (layout : Layout) (rows : List (List Cell)) where
         no_piece layout l.cell n l.pieces (All-head HasPieces l ls has ∙ ap (label_pieces layout l.cell) (ap label_text entry
             ∙ All-head IsLabelledAtEnd (shifted dropped e) (map (shifted dropped) es) ends before)),
       )) in
-      both (is_start_part e.annotation_type || is_bar e.annotation_type) none
-      (label_ends e l cut (pieces_are e l entry (All-head HasPieces l ls has)))
+      both (is_start_part e.annotation_type || is_bar e.annotation_type) none (label_ends e l cut (pieces_are e l entry (All-head HasPieces l ls has)))
       (labels_end cut es ls further (All-tail IsLabelledAtEnd (shifted dropped e) (map (shifted dropped) es) ends) (All-tail HasPieces l ls has)) room
     where
       both : (b : Bool) → (b ≡ true → Ends l) → (IsRoomy (shown_at e l) → Ends l) → (All IsRoomy (shown_labels es ls) → All Ends ls)
@@ -369,8 +348,7 @@ one_end s k depth false e =
     ∙ ap (λ ps. map (label_of_part) (filter ends_here ps)) (filter-append on_line bars (end_part e (MultilineEnd depth) ∷ []))
     ∙ ap (map (label_of_part)) (filter-append ends_here (filter on_line bars) (filter on_line (end_part e (MultilineEnd depth) ∷ [])))
     ∙ ap (λ ps. map (label_of_part) (ps ++ filter ends_here (filter on_line (end_part e (MultilineEnd depth) ∷ []))))
-    (filter-none ends_here (filter on_line bars)
-    (All-filter on_line (λ p. ends_here p ≡ false)
+    (filter-none ends_here (filter on_line bars) (All-filter on_line (λ p. ends_here p ≡ false)
     bars (All-map (λ p. ends_here p ≡ false) (λ n. bar_part e depth (s.first + n))
     (bar_lines s.text (e.start.line - s.first) (e.end.line - s.first)) (λ i d within. refl)))) ∙ both (e.end.line == s.first + k)
   where
@@ -417,10 +395,7 @@ single_labels s k (a ∷ marked) own =
     let O : Annotation → Type 0 = λ x. is_marked_on s.text k x ≡ true in
     let single : is_single_line s.text a ≡ true = grind (arith, common_steps, and_parts, All-head, O, a.kind, s.text) in
     let rest = single_labels s k marked (All-tail O a marked own) in
-    let here : label_of_part (single_part s a) ≡ label_of_span s.text a =
-    ap (λ n. record { text = shown_label a; kind = a.kind; from = n; to = (entry_of s a).end.display }) (start_of_entry s a)
-    ∙ ap (λ n. record { text = shown_label a; kind = a.kind; from = start_column s.text a; to = n }) (end_of_entry s a single) in
-    ap (λ x. x ∷ map (label_of_part) (filter ends_here (map (single_part s) marked))) here ∙ ap (λ xs. label_of_span s.text a ∷ xs) rest
+    let here : label_of_part (single_part s a) ≡ label_of_span s.text a = cc (start_of_entry s a, end_of_entry s a single) in cc (here, rest)
 
 -- ---- the labels of a line
 
@@ -451,16 +426,10 @@ labels_shown sn k dropped layout es rows same clear stand left =
     let parts : es ≡ singles ++ longs = same ∙ filter-append on_line (map (single_part s) (filter (is_short s.text) marks))
     (long_parts s (long_places s marks) [] (long_spans s marks)) ∙ ap (λ ps. ps ++ longs) (singles-on s marks k) in
     let none_kept : (r c : ℕ) → count_by (is_in_label layout r c) (shown_labels es stand.labels) ≡ 0 → count_by (is_cell_of r c) stand.labels ≡ 0 = λ r c none.
-    omega (
-      arith,
-      none,
-      cells_all dropped layout rows r c es stand.labels stand.are (labelled_at_end s marks k dropped es same)
-          stand.pieces,
-    ) in
+    omega (arith, none, cells_all dropped layout rows r c es stand.labels stand.are (labelled_at_end s marks k dropped es same) stand.pieces) in
     let long : length stand.labels ≡ length es = grind (arith, common_steps, length-map, shifted, stand.labels, stand.are) in
     let spans : map (label_of_part) (filter ends_here es) ≡ labels_ending_on sn k = ap (λ ps. map (label_of_part) (filter ends_here ps)) parts
-    ∙ ap (map (label_of_part)) (filter-append ends_here singles longs)
-    ∙ map-append (label_of_part) (filter ends_here singles) (filter ends_here longs)
+    ∙ ap (map (label_of_part)) (filter-append ends_here singles longs) ∙ map-append (label_of_part) (filter ends_here singles) (filter ends_here longs)
     ∙ ap (λ xs. xs ++ map (label_of_part) (filter ends_here longs)) (single_labels s k marked (filter_passes (is_marked_on s.text k) marks))
     ∙ ap (λ xs. map (label_of_span s.text) marked ++ xs) (long_ends s k (long_places s marks) [] (long_spans s marks)) in
     record {
@@ -469,16 +438,14 @@ labels_shown sn k dropped layout es rows same clear stand left =
       stand = all_kept dropped layout rows (Stands dropped layout rows) (Shows dropped layout rows) (one_label dropped layout rows) es stand.labels stand.are
           stand.pieces clear stand.stand;
       led = all_kept dropped layout rows (Led dropped layout rows stand.labels) (Stemmed dropped layout rows (shown_labels es stand.labels))
-          (one_led dropped layout rows stand.labels (shown_labels es stand.labels) none_kept) es stand.labels stand.are stand.pieces clear
-          stand.led;
+          (one_led dropped layout rows stand.labels (shown_labels es stand.labels) none_kept) es stand.labels stand.are stand.pieces clear stand.led;
       apart = λ r c. omega (arith, cells_few dropped layout rows r c es stand.labels stand.are stand.pieces, stand.apart r c);
       others = λ r c right none. stand.others r c right (none_kept r c none);
       broken = λ cut k d within wide. label_broken layout cut (get_or (shown_labels es stand.labels) k d) wide;
       within = λ cut room.
           let edge : ℕ = layout.label_end in
           let shown = labels_end dropped layout rows cut es stand.labels stand.are (labelled_at_end s marks k dropped es same) stand.pieces room in
-          let E : SpanLabel → Type 0 = λ l. layout.code + (l.to - dropped) ≤ edge in
-          (
+          let E : SpanLabel → Type 0 = λ l. layout.code + (l.to - dropped) ≤ edge in (
             λ i d inside some. all_kept dropped layout rows (Fits dropped layout rows) (RowsFit dropped layout rows) (one_roomy dropped layout rows)
                 es stand.labels stand.are stand.pieces clear (label_rows_have_room layout (map (shifted dropped) es) rows stand cut shown left) i d inside
                 (room i d inside some) some,

@@ -19,8 +19,7 @@ module _ (decor : DecorStyle) (gutter : ℕ) (shown : List ℕ) where
 
   -- where a row begins so, the number leaves room for the separator
   number_fits : (row : List Cell) → take (gutter + 2) row ≡ cells_left decor gutter shown → length shown ≤ gutter + 1
-  number_fits row is =
-      omega (arith, long_left, ap length is, length-take (gutter + 2) row)
+  number_fits row is = omega (arith, long_left, ap length is, length-take (gutter + 2) row)
 
   -- and it begins with it, whole
   pub number_of_left : (row : List Cell) → take (gutter + 2) row ≡ cells_left decor gutter shown → row_text (take (length shown) row) ≡ shown
@@ -35,12 +34,10 @@ module _ (decor : DecorStyle) (gutter : ℕ) (shown : List ℕ) where
   module _ (fits : length shown ≤ gutter + 1) where
     -- its cells, one by one
     at_number : (c : ℕ) → c < length shown → get_or (cells_left decor gutter shown) c SPACE ≡ get_or (text_cells LineNumber shown) c SPACE
-    at_number c within =
-        get_or_append_left (text_cells LineNumber shown) (spaces ++ end) SPACE c (omega (arith, within, length-text_cells LineNumber shown))
+    at_number c within = get_or_append_left (text_cells LineNumber shown) (spaces ++ end) SPACE c (omega (arith, within, length-text_cells LineNumber shown))
 
     after_number : (c : ℕ) → length shown ≤ c → get_or (cells_left decor gutter shown) c SPACE ≡ get_or (spaces ++ end) (c - length shown) SPACE
-    after_number c right =
-        get_or-append_right (text_cells LineNumber shown) (spaces ++ end) (length shown) c SPACE (length-text_cells LineNumber shown) right
+    after_number c right = get_or-append_right (text_cells LineNumber shown) (spaces ++ end) (length shown) c SPACE (length-text_cells LineNumber shown) right
 
     at_space : (c : ℕ) → length shown ≤ c → c < gutter + 1 → get_or (cells_left decor gutter shown) c SPACE ≡ SPACE
     at_space c right left =
@@ -57,8 +54,7 @@ module _ (decor : DecorStyle) (gutter : ℕ) (shown : List ℕ) where
   -- so the separator stands in its cell, in the role of line numbers
   pub separator_of_left : (row : List Cell) → take (gutter + 2) row ≡ cells_left decor gutter shown
       → get_or row (gutter + 1) SPACE ≡ unlinked_cell LineNumber (separator_of decor)
-  separator_of_left row is =
-      sym (get_or-take (gutter + 2) row (gutter + 1) SPACE (omega arith)) ∙ ap (λ cs. get_or cs (gutter + 1) SPACE) is ∙ at_separator (number_fits row is)
+  separator_of_left row is = cc (get_or-take (gutter + 2) row (gutter + 1) SPACE (omega arith), is, at_separator (number_fits row is))
 
 -- a row reaches as far as its separator
 reaches_separator : (decor : DecorStyle) (row : List Cell) (c : ℕ) → get_or row c SPACE ≡ unlinked_cell LineNumber (separator_of decor) → c < length row
@@ -80,14 +76,12 @@ module _ (layout : Layout) (shown : List ℕ) (cells plain row : List Cell) (fit
 
   -- and after that a space
   pub space_of_source : get_or row (layout.gutter + 2) SPACE ≡ SPACE
-  space_of_source =
-      same (layout.gutter + 2) (omega arith) ∙ is.blank (layout.gutter + 2) (omega (arith, fits)) (λ at. omega (arith, at)) (omega (arith, place))
+  space_of_source = same (layout.gutter + 2) (omega arith) ∙ is.blank (layout.gutter + 2) (omega (arith, fits)) (λ at. omega (arith, at)) (omega (arith, place))
 
 -- no row below a line holds a letter or digit in the gutter
 pub unnumbered_below : (decor : DecorStyle) (layout : Layout) (closes : Bool) (row : List Cell) → IsRowBelow decor layout closes row
     → HasNoNumber layout.gutter row
-unnumbered_below decor layout closes row is c left =
-    ap (λ (cell : Cell). is_ascii_alphanumeric cell.ch) (is.left c (omega (arith, left)) ∙ bare_row_left decor layout.gutter closes c left)
+unnumbered_below decor layout closes row is c left = cc (is.left c (omega (arith, left)), bare_row_left decor layout.gutter closes c left)
 
 -- nor does a row in place of lines that are left out
 bare_unnumbered : (decor : DecorStyle) (gutter c : ℕ) → c ≤ gutter → is_ascii_alphanumeric (get_or (bare_elision_row decor gutter) c SPACE).ch ≡ false
@@ -99,8 +93,7 @@ bare_unnumbered Unicode gutter c left = grind (arith, get_or_append_left, length
 
 -- the row for lines that are left out has no number
 pub unnumbered_elided : (layout : Layout) (row : List Cell) → IsElisionRow layout row → HasNoNumber layout.gutter row
-unnumbered_elided layout row shown c left =
-    ap (λ (cell : Cell). is_ascii_alphanumeric cell.ch) (shown.left c (omega (arith, left))) ∙ bare_unnumbered layout.decor layout.gutter c left
+unnumbered_elided layout row shown c left = cc (shown.left c (omega (arith, left)), bare_unnumbered layout.decor layout.gutter c left)
 
 -- ---- computed on small inputs
 

@@ -1,18 +1,17 @@
 -- The rows of an annotated snippet's lines hold a line feed only where a label that isn't cut at it does, whatever is cut of them.
 use Rattle.std.proofs.lemmas.Grind.{common_steps}
-use Rattle.annotate_snippets.proofs.Common.{bar_glyphs}
-use Rattle.annotate_snippets.proofs.Common.{◌≡◌, ◌≢◌, ℕ, suc, ◌+◌, ◌-◌, ◌<◌, ◌==◌, ◌&&◌, nat_le, nat_lt, Bool, true, false, cond, Option, None, Some, List}
-use Rattle.annotate_snippets.proofs.Common.{[], ◌∷◌, ◌++◌, All, take, drop, map, length, fold, get_or, replicate, refl, sym, ap, subst, ◌∙◌, arith, inl, inr}
-use Rattle.annotate_snippets.proofs.Common.{cow_str_bytes, Contains, option_map, IsUtf8, cases_Bool, cases_lt, nat_tests, get_or_past, All-append, All-cons}
-use Rattle.annotate_snippets.proofs.Common.{All-contains, All-drop, All-filter, All-from_get_or, All-head, All-map, All-nil, All-replicate, All-tail}
-use Rattle.annotate_snippets.proofs.Common.{All-take, All-weaker, slice_split_none, IsUtf8-nil, cell_at, replaced_within, row_at, Source, source_lines}
-use Rattle.annotate_snippets.proofs.Common.{text_at, IsLine-at, IsUtf8-text_at, is_primary, Annotation, Snippet, Cell, SPACE, text_cells, unlinked_cell}
-use Rattle.annotate_snippets.proofs.Common.{written, list_any, strokes_of, placeholder_of, underline_role, closing_row, separator_row, DecorStyle, Ascii}
-use Rattle.annotate_snippets.proofs.Common.{Unicode, LineNumber, IsOneLine, lines_at, lines_at-chars, made_parts, LineAnnotation, made-all, Bar, bars_apart}
+use Rattle.annotate_snippets.proofs.Common.{bar_glyphs, ◌≡◌, ◌≢◌, ℕ, suc, ◌+◌, ◌-◌, ◌<◌, ◌==◌, ◌&&◌, nat_le, nat_lt, Bool, true, false, cond, Option, None}
+use Rattle.annotate_snippets.proofs.Common.{Some, List, [], ◌∷◌, ◌++◌, All, take, drop, map, length, fold, get_or, replicate, refl, sym, ap, subst, ◌∙◌, arith}
+use Rattle.annotate_snippets.proofs.Common.{inl, inr, cow_str_bytes, Contains, option_map, IsUtf8, cases_Bool, cases_lt, nat_tests, get_or_past, All-append}
+use Rattle.annotate_snippets.proofs.Common.{All-cons, All-contains, All-drop, All-filter, All-from_get_or, All-head, All-map, All-nil, All-replicate, All-tail}
+use Rattle.annotate_snippets.proofs.Common.{All-take, All-weaker, slice_split_none, IsUtf8-nil, cell_at, replaced_within, row_at, Source, source_lines, text_at}
+use Rattle.annotate_snippets.proofs.Common.{IsLine-at, IsUtf8-text_at, is_primary, Annotation, Snippet, Cell, SPACE, text_cells, unlinked_cell, written}
+use Rattle.annotate_snippets.proofs.Common.{list_any, strokes_of, placeholder_of, underline_role, closing_row, separator_row, DecorStyle, Ascii, Unicode}
+use Rattle.annotate_snippets.proofs.Common.{LineNumber, IsOneLine, lines_at, lines_at-chars, made_parts, LineAnnotation, made-all, Bar, bars_apart}
 use Rattle.annotate_snippets.proofs.Common.{ends_of_bars, overlapped, Stretch, cuts_of, cut_row, shifted, label_text, AreLineRows, AreOwnRows, StrokesPainted}
 use Rattle.annotate_snippets.proofs.Common.{painting_order, row_count, bare_row, begun_rows, is_whole_line, drawn_strokes, label_write, Write, painted}
-use Rattle.annotate_snippets.proofs.Common.{painted-cell, PlacedEntry, Renderer, HasNoFeed, numbered_source, Elision, NamedRow, OfferedLine, Other}
-use Rattle.annotate_snippets.proofs.Common.{RemovedLine, RowName, SourceRow, cells_of, rows_below, AreRowsOf, IsRowOf, normalized_chars, Layout, entries_all}
+use Rattle.annotate_snippets.proofs.Common.{painted-cell, PlacedEntry, Renderer, HasNoFeed, numbered_source, Elision, NamedRow, OfferedLine, Other, RemovedLine}
+use Rattle.annotate_snippets.proofs.Common.{RowName, SourceRow, cells_of, rows_below, AreRowsOf, IsRowOf, normalized_chars, Layout, entries_all}
 use Rattle.std.proofs.Common.{chars}
 use Rattle.annotate_snippets.proofs.LineWords.{entries_on}
 use Rattle.annotate_snippets.proofs.DrawnRows.{AreRowsDrawn, IsLineDrawn, IsRowDrawn, open_after}
@@ -83,8 +82,7 @@ strokes_plain layout row count placed order plain =
     (bars_among layout.decor (is_primary (get_or placed k d).entry.kind)).connector)))
     (each_corner IsPlainWrite layout row count placed (λ k d within depth r glyph _ _ _ _ among.
     alone glyph (plain_in bar_glyphs refl refl layout.decor glyph among)))
-    (each_stem_cell IsPlainWrite layout (row + 1) placed (λ k d within _ below glyph _ among.
-    alone glyph (plain_in stem_glyphs refl refl layout.decor glyph among)))
+    (each_stem_cell IsPlainWrite layout _ placed (λ k d within _ below glyph _ among. alone glyph (plain_in stem_glyphs refl refl layout.decor glyph among)))
     (each_label IsPlainWrite layout (row + 1) placed (λ k d within n inside _. plain k d n within inside))
     (each_mark IsPlainWrite layout (row + 1) order (λ k d within cell n glyph _ _ among.
     All-replicate IsNoFeed n glyph (plain_in stroke_glyphs refl refl layout.decor glyph among)))
@@ -105,8 +103,7 @@ unfolding written
 row_written row at new plain own =
     let filled : List Cell = row ++ replicate (at - length row) SPACE in
     let before : HasNoFeed (take at filled) = grind (arith, common_steps, All-take, filled, All-append, All-replicate) in
-    All-append HoldsNoFeed (take at filled ++ new) (drop (at + length new) row) (All-append HoldsNoFeed (take at filled) new before own)
-    (All-drop HoldsNoFeed (at + length new) row plain)
+    All-append HoldsNoFeed _ _ (All-append HoldsNoFeed (take at filled) new before own) (All-drop HoldsNoFeed (at + length new) row plain)
 
 row_replaced : (from to : ℕ) (new row : List Cell) → HasNoFeed row → HasNoFeed new → HasNoFeed (replaced_within from to new row)
 unfolding replaced_within
@@ -148,8 +145,7 @@ in_rows : (rows : List (List Cell)) → All HasNoFeed rows → (r c : ℕ) → H
 in_rows rows all r c = grind (arith, cases_lt, get_or_past)
 
 from_cells : (rows : List (List Cell)) → ((r c : ℕ) → HoldsNoFeed (cell_at rows r c)) → All HasNoFeed rows
-from_cells rows each =
-    All-from_get_or HasNoFeed rows [] (λ r within. All-from_get_or HoldsNoFeed (row_at rows r) SPACE (λ c inside. each r c))
+from_cells rows each = All-from_get_or HasNoFeed rows [] (λ r within. All-from_get_or HoldsNoFeed (row_at rows r) SPACE (λ c inside. each r c))
 
 -- ---- the rows below a line
 
@@ -177,8 +173,7 @@ module _ (layout : Layout) (room : ℕ) (closes : Bool) where
       (shown_text layout (get_or placed k d)) (λ whole. whole_plain (get_or placed k d) whole
       (entries_all (λ e. All IsNoFeed (label_text e)) es placed strokes.are.same (plain whole) k d within))) n [] inside in
       let written : All IsPlainWrite ws = strokes_plain layout 0 (row_count placed + 1) placed (painting_order placed) own in
-      from_cells (strokes.marks ∷ strokes.lower) (λ r c.
-      subst (λ (all : List (List Cell)). HoldsNoFeed (cell_at all (suc r) c)) (sym strokes.painted_are)
+      from_cells (strokes.marks ∷ strokes.lower) (λ r c. subst (λ (all : List (List Cell)). HoldsNoFeed (cell_at all (suc r) c)) (sym strokes.painted_are)
       (painted_plain ws begun (suc r) c (in_rows _ (begun_plain (row_count placed - 1)) r c) written))
 
   end_plain : All HasNoFeed (cond closes (closing_row layout.decor layout.gutter ∷ []) [])
@@ -235,12 +230,7 @@ IsPlainPart p = All IsNoFeed (normalized_chars p.label)
 parts_one_line : (s : Source) (marks : List Annotation) → All IsOneLineLabel marks → All IsPlainPart (made_parts s marks)
 parts_one_line s marks plain =
     made-all IsPlainPart s marks (λ a among short. of_label a among)
-    (λ a among long kind. record {
-      start = All-nil IsNoFeed;
-      bars = λ i d within. All-nil IsNoFeed;
-      end = of_label a among;
-      again = of_label a among;
-    })
+    (λ a among long kind. record { start = All-nil IsNoFeed; bars = λ i d within. All-nil IsNoFeed; end = of_label a among; again = of_label a among })
   where
     of_label : (a : Annotation) → Contains marks a → All IsNoFeed (normalized_chars (option_map cow_str_bytes a.label))
     of_label a among = shown_text_plain (option_map cow_str_bytes a.label) (All-contains IsOneLineLabel marks a plain among)
@@ -272,15 +262,12 @@ module _ (r : Renderer) (layout : Layout) (closes : Bool) (s : Snippet Annotatio
       → HasNoFeed cells × All HasNoFeed (rows_below rows)
   one_row open_bars (SourceRow k) cells rows shows drawn below = (
     source_one_line r layout s k shows.dropped cells shows.line (line_plain (cow_str_bytes s.source.text) k utf8),
-    line_below open_bars k cells
-        (rows_below rows) _ drawn,
+    line_below open_bars k cells _ _ drawn,
   )
-  one_row open_bars Elision cells rows shows drawn below =
-      (elided layout cells shows, subst (All HasNoFeed) (sym drawn.1) (All-nil HasNoFeed))
+  one_row open_bars Elision cells rows shows drawn below = (elided layout cells shows, subst (All HasNoFeed) (sym drawn.1) (All-nil HasNoFeed))
   one_row open_bars (OfferedLine j) cells rows shows drawn below = absurd shows
   one_row open_bars (RemovedLine i) cells rows shows drawn below = absurd shows
-  one_row open_bars Other cells rows shows drawn below =
-      (All-head HasNoFeed cells (rows_below rows) below, All-tail HasNoFeed cells (rows_below rows) below)
+  one_row open_bars Other cells rows shows drawn below = (All-head HasNoFeed cells (rows_below rows) below, All-tail HasNoFeed cells (rows_below rows) below)
 
   all_rows : (open_bars : List Bar) (rows : List NamedRow) → AreRowsOf r layout closes s rows → AreRowsDrawn r layout closes s open_bars rows
       → All HasNoFeed (rows_below rows) → All IsRowOfText rows

@@ -1,18 +1,18 @@
 -- The rows of a line show it: its source row, the row of its marks, and the others below.
-use Rattle.annotate_snippets.proofs.Common.{◌≡◌, ℕ, ◌+◌, ◌-◌, ◌<◌, ◌≤◌, ◌==◌, ◌&&◌, nat_le, not, Bool, true, false, cond, label_pieces}
-use Rattle.annotate_snippets.proofs.Common.{List, [], ◌∷◌, map, length, drop, count_by, get_or, refl, sym, ap, subst, ◌∙◌, arith, inl, inr, filter}
-use Rattle.annotate_snippets.proofs.Common.{list_all, list_any, cow_str_bytes, and_parts, and_from, cases_lt, eq-eqb, lt-ltb, nat_tests, drop-map, get_or-take}
-use Rattle.annotate_snippets.proofs.Common.{length-map, All-contains, All-head, All-map, All-tail, Contains-get_or, AllPass-from_list_all}
-use Rattle.annotate_snippets.proofs.Common.{list_all-from_AllPass, sum_by-cons, Annotation, Snippet, row_at, Cell, SPACE, row_text, placeholder_of, DecorStyle}
-use Rattle.annotate_snippets.proofs.Common.{Quotation, norm, width_of, width_of-norm, AnnotatedLineInfo, LineAnnotation, LineAnnotationType, Singleline}
-use Rattle.annotate_snippets.proofs.Common.{MultilineStart, MultilineEnd, MultilineLine, Margin, KeptLine, kept_line, parts_on, single_part, seen_kept}
-use Rattle.annotate_snippets.proofs.Common.{source_lines, end_column, is_marked_on, is_marking, is_single_line, is_wide, qualifies_for_marks, touches, is_bar}
-use Rattle.annotate_snippets.proofs.Common.{is_single_part, is_wide_entry, IsSpan, AreReplaced, chars_at, dropped_part, stands_whole, window, IsMarkCell}
-use Rattle.annotate_snippets.proofs.Common.{is_mark_role, IsEntryMark, are_plain, has_column, is_single, wide_entries, label_role, shifted, label_text}
-use Rattle.annotate_snippets.proofs.Common.{shown_number, AreSeen, IsStrokeRow, ShowsMarks, window_cells-whole, row_text-window_cells, window_cells, ShowsLine}
-use Rattle.annotate_snippets.proofs.Common.{Bar, Layout, highlighted_left, highlighted_text, Renderer, line_numbers, number_text, numbered_source, IsRowBelow}
-use Rattle.annotate_snippets.proofs.Common.{ShowsSourceLine, cells_left, is_uncut_line, wide_spans, is_uncut, ShowsLabels, ShowsMarksOf, shown_label, margin_in}
-use Rattle.annotate_snippets.proofs.Common.{row_text-text_cells}
+use Rattle.std.proofs.lemmas.Grind.{common_steps}
+use Rattle.annotate_snippets.proofs.Common.{◌≡◌, ℕ, ◌+◌, ◌-◌, ◌<◌, ◌≤◌, ◌==◌, ◌&&◌, nat_le, not, Bool, true, false, cond, label_pieces, List, [], ◌∷◌, map}
+use Rattle.annotate_snippets.proofs.Common.{length, drop, count_by, get_or, refl, sym, ap, subst, ◌∙◌, arith, inl, inr, filter, list_all, list_any}
+use Rattle.annotate_snippets.proofs.Common.{cow_str_bytes, and_parts, and_from, cases_lt, eq-eqb, lt-ltb, nat_tests, drop-map, get_or-take, length-map}
+use Rattle.annotate_snippets.proofs.Common.{All-contains, All-head, All-map, All-tail, Contains-get_or, AllPass-from_list_all, list_all-from_AllPass}
+use Rattle.annotate_snippets.proofs.Common.{sum_by-cons, Annotation, Snippet, row_at, Cell, SPACE, row_text, placeholder_of, DecorStyle, Quotation, norm}
+use Rattle.annotate_snippets.proofs.Common.{width_of, width_of-norm, AnnotatedLineInfo, LineAnnotation, LineAnnotationType, Singleline, MultilineStart}
+use Rattle.annotate_snippets.proofs.Common.{MultilineEnd, MultilineLine, Margin, KeptLine, kept_line, parts_on, single_part, seen_kept, source_lines}
+use Rattle.annotate_snippets.proofs.Common.{end_column, is_marked_on, is_marking, is_single_line, is_wide, qualifies_for_marks, touches, is_bar, is_single_part}
+use Rattle.annotate_snippets.proofs.Common.{is_wide_entry, IsSpan, chars_at, dropped_part, stands_whole, window, IsMarkCell, is_mark_role, IsEntryMark}
+use Rattle.annotate_snippets.proofs.Common.{are_plain, has_column, is_single, wide_entries, label_role, shifted, label_text, shown_number, AreSeen, IsStrokeRow}
+use Rattle.annotate_snippets.proofs.Common.{ShowsMarks, window_cells-whole, row_text-window_cells, window_cells, ShowsLine, Bar, Layout, highlighted_left}
+use Rattle.annotate_snippets.proofs.Common.{highlighted_text, Renderer, line_numbers, number_text, numbered_source, IsRowBelow, ShowsSourceLine, is_uncut_line}
+use Rattle.annotate_snippets.proofs.Common.{wide_spans, is_uncut, ShowsLabels, ShowsMarksOf, shown_label, margin_in, row_text-text_cells}
 use Rattle.std.proofs.Common.{chars}
 use Rattle.std.specs.List.{All}
 use Rattle.annotate_snippets.proofs.MarginWords.{room_of}
@@ -36,14 +36,12 @@ beside_past n some = grind (arith, nat_tests)
 pub row_below : (decor : DecorStyle) (layout : Layout) (closes plain : Bool) (es : List LineAnnotation) (rows : List (List Cell)) (i : ℕ)
     → IsStrokeRow (record layout { decor = decor }) plain es (closes && i + 1 == length rows) (row_at rows i)
     → IsRowBelow decor layout (closes && i + 1 == length rows) (row_at rows i)
-row_below decor layout closes plain es rows i is =
-    record { left = is.left; bars = is.bar_cells }
+row_below decor layout closes plain es rows i is = record { left = is.left; bars = is.bar_cells }
 
 -- a wide entry stays one, however many columns are dropped left of it
 wide_shifted : (dropped room width : ℕ) (e : LineAnnotation) → (is_bar e.annotation_type ≡ false → dropped ≤ e.start.display)
     → is_wide_entry room width (shifted dropped e) ≡ is_wide_entry room width e
-wide_shifted dropped room width e clear =
-    by_part e.annotation_type refl
+wide_shifted dropped room width e clear = by_part e.annotation_type refl
   where
     same_columns : dropped ≤ e.start.display → e.end.display - dropped - (e.start.display - dropped) ≡ e.end.display - e.start.display
     same_columns right = omega (arith, right)
@@ -60,10 +58,7 @@ wide_entries-shifted dropped room width [] clear = refl
 wide_entries-shifted dropped room width (e ∷ es) clear =
     let here = wide_shifted dropped room width e (All-head (λ (x : LineAnnotation). is_bar x.annotation_type ≡ false → dropped ≤ x.start.display) e es clear) in
     let rest = wide_entries-shifted dropped room width es (All-tail
-    (λ (x : LineAnnotation). is_bar x.annotation_type ≡ false → dropped ≤ x.start.display) e es clear) in
-    sum_by-cons (λ x. cond (is_wide_entry room width x) 1 0) (shifted dropped e) (map (shifted dropped) es)
-    ∙ ap (λ b. cond b 1 0 + count_by (is_wide_entry room width) (map (shifted dropped) es)) here
-    ∙ ap (λ n. cond (is_wide_entry room width e) 1 0 + n) rest ∙ sym (sum_by-cons (λ x. cond (is_wide_entry room width x) 1 0) e es)
+    (λ (x : LineAnnotation). is_bar x.annotation_type ≡ false → dropped ≤ x.start.display) e es clear) in grind (arith, common_steps, sum_by-cons, here, rest)
 
 -- a number that passes the test is at most the other
 le_of : (a b : ℕ) → nat_le a b ≡ true → a ≤ b
@@ -94,10 +89,8 @@ module _ (s : Snippet Annotation) (es : List LineAnnotation) (k : ℕ)
       each [] ys is = refl
       each (x ∷ xs) [] is = cc
       each (x ∷ xs) (y ∷ ys) is =
-          let here : x ≡ single_part (numbered_source s) y = head_same x (single_part (numbered_source s) y) xs
-          (map (single_part (numbered_source s)) ys) is in
-          let rest : xs ≡ map (single_part (numbered_source s)) ys = tail_same x (single_part (numbered_source s) y)
-          xs (map (single_part (numbered_source s)) ys) is in
+          let here : x ≡ single_part (numbered_source s) y = head_same x _ xs _ is in
+          let rest : xs ≡ map (single_part (numbered_source s)) ys = tail_same x _ xs _ is in
           and_from (is_single x) (list_all is_single xs) (ap is_single_part (ap (λ (p : LineAnnotation). p.annotation_type) here)) (each xs ys rest)
 
 -- so they are where columns are dropped
@@ -157,8 +150,7 @@ module _ (r : Renderer) (layout : Layout) (s : Snippet Annotation)
 
     -- left of the bars the row is as drawn, whatever is highlighted
     left_cell : (c : ℕ) → c < layout.gutter + 3 → c < layout.code → get_or rows_show.source c SPACE ≡ get_or shows.plain c SPACE
-    left_cell c beside left =
-        kept ∙ highlighted_left layout.code shows.dropped _ shows.plain shows.highlighted shows.highlights c left
+    left_cell c beside left = kept ∙ highlighted_left layout.code shows.dropped _ shows.plain shows.highlighted shows.highlights c left
       where
         kept : get_or rows_show.source c SPACE ≡ get_or shows.highlighted c SPACE
         kept =
@@ -166,8 +158,7 @@ module _ (r : Renderer) (layout : Layout) (s : Snippet Annotation)
               | inl front ↦ sym (get_or-take (layout.gutter + 2) rows_show.source c SPACE front) ∙ ap (λ cs. get_or cs c SPACE) rows_show.beside.front
                   ∙ get_or-take (layout.gutter + 2) shows.highlighted c SPACE front
               | inr after ↦
-                  let at : c ≡ layout.gutter + 2 = omega (arith, after, beside) in
-                  ap (λ n. get_or rows_show.source n SPACE) at ∙ rows_show.beside.gap ∙ ap (λ n. get_or shows.highlighted n SPACE) (sym at)
+                  let at : c ≡ layout.gutter + 2 = omega (arith, after, beside) in cc (at, rows_show.beside.gap)
             ]
 
     -- the text of the line before it is cut where spans are wide
@@ -183,21 +174,17 @@ module _ (r : Renderer) (layout : Layout) (s : Snippet Annotation)
         (margin_in r layout s).computed_right) line_text
 
     dropped_here : shows.dropped ≡ width_of (dropped_part (margin_in r layout s).computed_left text)
-    dropped_here =
-        shows.dropped_is ∙ ap (λ (m : Margin). width_of (dropped_part m.computed_left (norm (chars info.line.now)))) margin_is
-        ∙ ap (λ cs. width_of (dropped_part (margin_in r layout s).computed_left cs)) line_text
+    dropped_here = cc (shows.dropped_is, margin_is, line_text)
 
     -- where the line stands whole, nothing is dropped and nothing is cut
     whole_text : stands_whole (room_of r layout) placeholder_width s.fold (cow_str_bytes s.source.text) s.markers.items k ≡ true
         → (shows.dropped ≡ 0) × (row_text (drop layout.code rows_show.source) ≡ text)
     whole_text stands =
-        let left : (margin_in r layout s).computed_left ≡ 0 = stands_left (numbered_source s) s.markers.items spans
-        (room_of r layout) placeholder_width s.fold k stands in
+        let left : (margin_in r layout s).computed_left ≡ 0 = stands_left _ s.markers.items spans (room_of r layout) placeholder_width s.fold k stands in
         let parts = and_parts _ _ stands in
         let narrow : list_all (λ a. not (is_marked_on (cow_str_bytes s.source.text) k a
         && is_wide (room_of r layout) placeholder_width (cow_str_bytes s.source.text) a)) s.markers.items ≡ true = parts.1 in
-        let none : wide_spans (room_of r layout) placeholder_width s k
-        ≡ 0 = count-none (λ a. is_marked_on (cow_str_bytes s.source.text) k a
+        let none : wide_spans (room_of r layout) placeholder_width s k ≡ 0 = count-none (λ a. is_marked_on (cow_str_bytes s.source.text) k a
         && is_wide (room_of r layout) placeholder_width (cow_str_bytes s.source.text) a) s.markers.items narrow in
         let own_fits : width_of (chars_at (cow_str_bytes s.source.text) k) ≤ room_of r layout = le_of _ _ (and_parts _ _ (and_parts _ _ parts.0).0).0 in
         let at_left : margin.computed_left ≡ 0 = ap (λ (m : Margin). m.computed_left) margin_is ∙ left in
@@ -207,10 +194,8 @@ module _ (r : Renderer) (layout : Layout) (s : Snippet Annotation)
         let all : row_text (drop layout.code shows.plain) ≡ text = ap row_text (shows.shows.shows.code
         ∙ window_cells-whole layout.decor margin (norm (chars info.line.now)) at_left narrow_text)
         ∙ row_text-text_cells Quotation (norm (chars info.line.now)) ∙ line_text in (
-          dropped_here ∙ ap (λ n. width_of
-              (dropped_part n text)) left ∙ dropped-none text,
-          ap row_text uncut
-              ∙ sym (drop-map (λ (cell : Cell). cell.ch) layout.code shows.highlighted)
+          dropped_here ∙ ap (λ n. width_of (dropped_part n text)) left ∙ dropped-none text,
+          ap row_text uncut ∙ sym (drop-map (λ (cell : Cell). cell.ch) layout.code shows.highlighted)
               ∙ ap (drop layout.code) (highlighted_text layout.code shows.dropped _ shows.plain shows.highlighted shows.highlights)
               ∙ drop-map (λ (cell : Cell). cell.ch) layout.code shows.plain ∙ all,
         )
@@ -223,21 +208,10 @@ module _ (r : Renderer) (layout : Layout) (s : Snippet Annotation)
         left_cell c beside (omega (arith, beside, place)) in
         record {
           within = within;
-          left = left_of_source layout shown cells shows.plain rows_show.source fits place shows.shows same
-              ∙ ap (cells_left layout.decor layout.gutter) same_number;
+          left = cc (left_of_source layout shown cells shows.plain rows_show.source fits place shows.shows same, same_number);
           space = space_of_source layout shown cells shows.plain rows_show.source fits place shows.shows same;
           bars = rows_show.beside.bar_cells;
-          window = record {
-            ordered = omega (arith, ordered, ap (λ (m : Margin). m.computed_left) margin_is, ap (λ (m : Margin). m.computed_right) margin_is);
-            dropped_is = dropped_here;
-            shown_is = subst (λ n. AreReplaced (placeholder_of layout.decor)
-                n (window (placeholder_of layout.decor) (margin_in r layout s).term_width (margin_in r layout s).computed_left
-                (margin_in r layout s).computed_right text)
-                (row_text (drop layout.code rows_show.source)))
-                wide_is (subst (λ before. AreReplaced (placeholder_of layout.decor)
-                (wide_entries margin.term_width layout.decor (map (shifted shows.dropped) es)) before (row_text (drop layout.code rows_show.source)))
-                window_text rows_show.beside.text);
-          };
+          window = grind (arith, common_steps, dropped_here, wide_is, wide_entries, window_text);
           whole = whole_text;
         }
 
@@ -245,9 +219,7 @@ module _ (r : Renderer) (layout : Layout) (s : Snippet Annotation)
     pub labels_of_line : is_uncut_line r layout s k shows.dropped ≡ true → ShowsLabels layout.decor layout s k shows.dropped rows_show.below
     labels_of_line uncut =
         let parts : es ≡ parts_on (numbered_source s) s.markers.items k = ap (λ (l : KeptLine). l.parts) seen in
-        let same_entries : is_uncut margin.term_width layout (map (shifted shows.dropped) es) ≡ is_uncut_line r layout s k shows.dropped =
-        ap (λ n. is_uncut n layout (map (shifted shows.dropped) es)) room
-        ∙ ap (λ ps. is_uncut (room_of r layout) layout (map (shifted shows.dropped) ps)) parts in
+        let same_entries : is_uncut margin.term_width layout (map (shifted shows.dropped) es) ≡ is_uncut_line r layout s k shows.dropped = cc (room, parts) in
         let stand = rows_show.strokes.labels (same_entries ∙ uncut) (labelled_at_end (numbered_source s) s.markers.items k shows.dropped es parts) in
         labels_shown s k shows.dropped layout es rows_show.below parts shows.clear stand
         (narrow_left layout (are_plain margin.term_width layout.decor (map (shifted shows.dropped) es)) (map (shifted shows.dropped) es)
@@ -266,8 +238,7 @@ module _ (r : Renderer) (layout : Layout) (s : Snippet Annotation)
           s.markers.items ≡ true)
       qualified_parts =
           let outer = and_parts _ _ qualifies in
-          let inner = and_parts _ _ outer.0 in
-          (inner.0, inner.1, outer.1)
+          let inner = and_parts _ _ outer.0 in (inner.0, inner.1, outer.1)
 
       same_parts : es ≡ map (single_part (numbered_source s)) (filter (is_marked_on (cow_str_bytes s.source.text) k) s.markers.items)
       same_parts = ap (λ (l : KeptLine). l.parts) seen ∙ untouched (numbered_source s) s.markers.items spans k qualified_parts.2
@@ -289,8 +260,7 @@ module _ (r : Renderer) (layout : Layout) (s : Snippet Annotation)
 
       plain : are_plain margin.term_width layout.decor moved ≡ true
       plain =
-          let none : wide_spans (room_of r layout) placeholder_width s k
-          ≡ 0 = count-none (λ a. is_marked_on (cow_str_bytes s.source.text) k a
+          let none : wide_spans (room_of r layout) placeholder_width s k ≡ 0 = count-none (λ a. is_marked_on (cow_str_bytes s.source.text) k a
           && is_wide (room_of r layout) placeholder_width (cow_str_bytes s.source.text) a) s.markers.items qualified_parts.1 in
           let narrow : (wide_entries margin.term_width layout.decor moved == 0)
           ≡ true = eq-eqb (wide_entries margin.term_width layout.decor moved) 0 (wide_is ∙ none) in
@@ -337,8 +307,7 @@ module _ (r : Renderer) (layout : Layout) (s : Snippet Annotation)
                 let at : layout.code + (e.end.display - d) ≡ end = omega (arith, is.end, is.start, right) in
                 let begins : code_cell layout (beside_column (shifted d e)) ≡ end + 1 = ap (code_cell layout)
                 (beside_past (e.end.display - d) (omega (arith, is.end, is.start, right))) ∙ omega (arith, at) in
-                let text : first_piece layout (shifted d e) ≡ piece_of (end + 1) (shown_label a) = ap (λ c. piece_of c (label_text e)) begins
-                ∙ ap (piece_of (end + 1)) is.label in
+                let text : first_piece layout (shifted d e) ≡ piece_of (end + 1) (shown_label a) = cc (begins, is.label) in
                 let after = marks_are.lone (shifted d e) (ap (map (shifted d)) own.1) (omega (arith, is.start, is.end, right))
                 (omega (arith, label, ap length text)) in
                 subst (λ c. row_text (drop c row) ≡ 32 ∷ piece_of (end + 1) (shown_label a)) at

@@ -12,8 +12,7 @@ lone_count layout e =
     let bare : PlacedEntry = placed_at uncut (e, (0, 0)) in
     let Low : ℕ → Type 0 = λ q. q ≤ 0 in
     let first : All Low (positions 0 (bare ∷ [])) = subst (All Low) (sym (positions_sole bare)) (All-cons Low 0 [] (omega arith) (All-nil Low)) in
-    ap row_count (placed_of-at uncut (e ∷ []))
-    ∙ counted (line_positions (bare ∷ [])) (look_counts 0 (bare ∷ [])) (line_positions_low 0 (bare ∷ []) first)
+    ap row_count (placed_of-at uncut (e ∷ [])) ∙ counted (line_positions (bare ∷ [])) (look_counts 0 (bare ∷ [])) (line_positions_low 0 (bare ∷ []) first)
   where
     beside : (starts : Bool) → ◌≡◌ {A = ℕ} (cond starts 0 0) 0
     beside true = refl
@@ -34,8 +33,7 @@ mapped_count f rows n long = length-map rows f ∙ long
 -- what a change leaves in a cell of each row stands there in each row that is changed
 mapped_cell : (f : List Cell → List Cell) (rows : List (List Cell)) (c : ℕ) (part : Cell) → ((row : List Cell) → get_or (f row) c SPACE ≡ part)
     → (i : ℕ) → i < length (map f rows) → cell_at (map f rows) i c ≡ part
-mapped_cell f rows c part left i within =
-    ap (λ row. get_or row c SPACE) (get_or-map f rows i [] [] (omega (arith, within, length-map rows f))) ∙ left (row_at rows i)
+mapped_cell f rows c part left i within = cc (get_or-map f rows i [] [] (omega (arith, within, length-map rows f)), left (row_at rows i))
 
 -- a row of a line on which no bar begins or ends, with those that are open above it
 abbrev with_open : Layout → List Bar → List Cell → List Cell

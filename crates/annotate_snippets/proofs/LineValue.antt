@@ -1,8 +1,8 @@
 -- The rows of a line that painters promise are those that the graphic form has for it.
 use Rattle.std.proofs.lemmas.Grind.{common_steps}
 use Rattle.annotate_snippets.proofs.Common.{◌≡◌, ℕ, ◌+◌, ◌==◌, ◌&&◌, Bool, true, false, cond, nat_lt, List, [], ◌∷◌, ◌++◌, length}
-use Rattle.annotate_snippets.proofs.Common.{map, refl, sym, ap, ◌∙◌, arith, nat_tests, length-map, Annotation, Snippet, norm, shown_number, LineNumbers}
-use Rattle.annotate_snippets.proofs.Common.{KeptLine, kept_line, seen_kept, AnnotatedLineInfo, LineAnnotation, Margin, Bar, open_past, gap_row, shown_rows}
+use Rattle.annotate_snippets.proofs.Common.{map, refl, sym, ap, ◌∙◌, arith, nat_tests, length-map, Annotation, Snippet, norm, shown_number}
+use Rattle.annotate_snippets.proofs.Common.{KeptLine, kept_line, seen_kept, AnnotatedLineInfo, LineAnnotation, Bar, open_past, gap_row, shown_rows}
 use Rattle.annotate_snippets.proofs.Common.{gap_rows, info_rows, infos_rows, open_below, LineView, Renderer, Layout, gap_below, margin_in, named_line}
 use Rattle.annotate_snippets.proofs.Common.{rows_of_line, rows_of_lines, line_numbers, numbered_source, Elision, NamedRow, cells_of}
 use Rattle.std.proofs.Common.{chars}
@@ -27,14 +27,7 @@ module _ (r : Renderer) (layout : Layout) (s : Snippet Annotation) where
   gap_value open_bars j info [] [] here same = refl
   gap_value open_bars j info [] (next ∷ infos) here same = cc
   gap_value open_bars j info (k ∷ ks) [] here same = cc
-  gap_value open_bars j info (k ∷ ks) (next ∷ infos) here same =
-      let there : seen_kept next ≡ kept_line (numbered_source s) s.markers.items k = head_same (seen_kept next)
-      (kept_line (numbered_source s) s.markers.items k) (map seen_kept infos) (map (kept_line (numbered_source s) s.markers.items) ks) same in
-      let own : info.line_index ≡ s.line_start + j = ap (λ (l : KeptLine). l.number) here in
-      let its : next.line_index ≡ s.line_start + k = ap (λ (l : KeptLine). l.number) there in
-      let far : nat_lt (info.line_index + 1) next.line_index ≡ nat_lt (j + 1) k = ap (λ n. nat_lt (n + 1) next.line_index) own
-      ∙ ap (nat_lt (s.line_start + j + 1)) its ∙ shifted s.line_start j k in
-      ap (λ b. cond b (gap_row layout open_bars ∷ []) []) far ∙ either (nat_lt (j + 1) k)
+  gap_value open_bars j info (k ∷ ks) (next ∷ infos) here same = grind (arith, common_steps, head_same, shifted, either)
     where
       shifted : (by m n : ℕ) → nat_lt (by + m + 1) (by + n) ≡ nat_lt (m + 1) n
       shifted by m n = grind (arith, nat_tests)
@@ -63,9 +56,7 @@ module _ (r : Renderer) (layout : Layout) (s : Snippet Annotation) where
       let last_is : last ≡ closes = grind (arith, common_steps, length-map, seen_kept, further, line_of, view.closes) in
       let text : List ℕ = norm (chars info.line.now) in
       let own : info_rows layout (record view { closes = last }) open_bars info ≡ rows_of_line r layout closes s open_bars k =
-      ap (λ (m : Margin). shown_rows layout m last open_bars (shown_number view.numbers layout.gutter info.line_index) text es) margin
-      ∙ ap (λ (n : LineNumbers). shown_rows layout (margin_in r layout s) last open_bars (shown_number n layout.gutter info.line_index) text es) numbers
-      ∙ line_value last open_bars k info here ∙ ap (λ b. rows_of_line r layout b s open_bars k) last_is in
+      cc (margin, numbers, line_value last open_bars k info here, last_is) in
       let first : List NamedRow = named_line k (rows_of_line r layout closes s open_bars k) in
       let gap : List NamedRow = gap_below r layout past k ks in
       let rest : List NamedRow = rows_of_lines r layout view.closes s past ks in

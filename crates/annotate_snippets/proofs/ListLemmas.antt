@@ -41,8 +41,7 @@ module _ {X : Type 0} where
 
   -- what is made from an element of a list is among what is made from all
   pub Contains-map : {Y : Type 0} (f : X → Y) (xs : List X) (x : X) → Contains xs x → Contains (map f xs) (f x)
-  Contains-map f xs x among =
-      (among.0, omega (arith, length-map xs f, among.1), get_or-map f xs among.0 x (f x) among.1 ∙ ap f among.2)
+  Contains-map f xs x among = (among.0, omega (arith, length-map xs f, among.1), get_or-map f xs among.0 x (f x) among.1 ∙ ap f among.2)
 
   rest_any : (q : X → Bool) (x : X) (xs : List X) → q x ≡ false → list_any q (x ∷ xs) ≡ true → list_any q xs ≡ true
   rest_any q x xs fails some = grind arith

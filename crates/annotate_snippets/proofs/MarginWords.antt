@@ -1,6 +1,5 @@
 -- The margin of a snippet has the room that code has.
-use Rattle.annotate_snippets.proofs.Common.{◌≡◌, ◌-◌, ℕ, Layout, Annotation, Snippet, annotated_lines, margin_of-room, margin_in, numbered_source}
-use Rattle.annotate_snippets.proofs.Common.{Renderer}
+use Rattle.annotate_snippets.proofs.Common.{◌≡◌, ◌-◌, ℕ, Layout, Annotation, Snippet, annotated_lines, margin_of-room, margin_in, numbered_source, Renderer}
 
 -- the columns that code has
 abbrev pub room_of : Renderer → Layout → ℕ

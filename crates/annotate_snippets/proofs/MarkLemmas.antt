@@ -1,12 +1,11 @@
 -- The marks of a line's spans are those of its entries.
 use Rattle.std.proofs.lemmas.Grind.{common_steps}
-use Rattle.annotate_snippets.proofs.Common.{◌≡◌, ℕ, ◌+◌, ◌-◌, ◌<◌, ◌≤◌, ◌==◌, ◌&&◌, true, false, List, [], ◌∷◌, map}
-use Rattle.annotate_snippets.proofs.Common.{length, get_or, refl, sym, ap, subst, ◌∙◌, arith, Contains, filter, list_any, and_parts, eqb-true, eq-eqb}
-use Rattle.annotate_snippets.proofs.Common.{cases_Bool, All-contains, All-contains_itself, All-filter, All-map, filter_passes, Contains-get_or, Annotation}
-use Rattle.annotate_snippets.proofs.Common.{AnnotationKind, Primary, Context, Visible, LineAnnotation, Source, place_of, location_of, start_location}
-use Rattle.annotate_snippets.proofs.Common.{end_location, locations_of, first_line, is_marking, is_single_line, is_marked_on, start_column, end_column}
-use Rattle.annotate_snippets.proofs.Common.{span_width, IsMarkedAt, IsMarkOf, label_chars, label_text, shown_label, normalized_chars, EntryCovers, IsEntryMark}
-use Rattle.annotate_snippets.proofs.Common.{shifted, is_primary, StandsFrom, from_map, entry_of}
+use Rattle.annotate_snippets.proofs.Common.{◌≡◌, ℕ, ◌+◌, ◌-◌, ◌<◌, ◌≤◌, ◌==◌, ◌&&◌, true, false, List, [], ◌∷◌, map, length, get_or, refl, sym, ap, subst, ◌∙◌}
+use Rattle.annotate_snippets.proofs.Common.{arith, Contains, filter, list_any, and_parts, eqb-true, eq-eqb, cases_Bool, All-contains, All-contains_itself}
+use Rattle.annotate_snippets.proofs.Common.{All-filter, All-map, filter_passes, Contains-get_or, Annotation, AnnotationKind, Primary, Context, Visible}
+use Rattle.annotate_snippets.proofs.Common.{LineAnnotation, Source, place_of, location_of, start_location, end_location, locations_of, first_line, is_marking}
+use Rattle.annotate_snippets.proofs.Common.{is_single_line, is_marked_on, start_column, end_column, span_width, IsMarkedAt, IsMarkOf, label_chars, label_text}
+use Rattle.annotate_snippets.proofs.Common.{shown_label, EntryCovers, IsEntryMark, shifted, is_primary, StandsFrom, from_map, entry_of}
 use Rattle.std.specs.List.{All}
 use Rattle.snippet_labels.specs.PlacedEntries as entry
 use Rattle.annotate_snippets.proofs.ListLemmas.{Contains-filter, Contains-map, Contains-head, from_any}
@@ -40,14 +39,7 @@ pub record IsEntryOf (s : Source) (k : ℕ) (a : Annotation) (e : LineAnnotation
 
 entry_is : (s : Source) (k : ℕ) (a : Annotation) (e : LineAnnotation) → is_marked_on s.text k a ≡ true → is_single_line s.text a ≡ true
     → e ≡ entry_of s a → IsEntryOf s k a e
-entry_is s k a e marked single same =
-    record {
-      marked = marked;
-      start = ap (λ (x : LineAnnotation). x.start.display) same ∙ start_of_entry s a;
-      end = ap (λ (x : LineAnnotation). x.end.display) same ∙ end_of_entry s a single;
-      kind = ap (λ (x : LineAnnotation). x.kind) same;
-      label = ap (λ (x : LineAnnotation). normalized_chars x.label) same;
-    }
+entry_is s k a e marked single same = grind (arith, common_steps, start_of_entry, end_of_entry)
 
 module _ (s : Source) (marks : List Annotation) (k : ℕ) (es : List LineAnnotation)
     (same : es ≡ map (entry_of s) (filter (is_marked_on s.text k) marks)) where
@@ -60,8 +52,7 @@ module _ (s : Source) (marks : List Annotation) (k : ℕ) (es : List LineAnnotat
   pub entry_of_span : (a : Annotation) → Contains marks a → is_marked_on s.text k a ≡ true → (e : LineAnnotation) × Contains es e × IsEntryOf s k a e
   entry_of_span a among marked =
       let seen : Contains es (entry_of s a) = subst (λ xs.
-      Contains xs (entry_of s a)) (sym same) (Contains-map (entry_of s) (filter (is_marked_on s.text k) marks) a
-      (Contains-filter (is_marked_on s.text k) marks a marked among)) in
+      Contains xs (entry_of s a)) (sym same) (Contains-map (entry_of s) _ a (Contains-filter (is_marked_on s.text k) marks a marked among)) in
       (entry_of s a, seen, entry_is s k a (entry_of s a) marked (single_of a marked) refl)
 
   -- each entry is that of a span
@@ -97,12 +88,7 @@ module _ (s : Source) (marks : List Annotation) (k : ℕ) (es : List LineAnnotat
             let theirs = span_of_entry other in_es in
             let b : Annotation = theirs.0 in
             let isb : IsEntryOf s k b other = theirs.2 in
-            let narrow : span_width s.text mark.span < span_width s.text b =
-            mark.primary_wins (context_of kind
-            (ap is_marking (sym mark.is)
-            ∙ (and_parts (is_marking mark.span.kind) (is_single_line s.text mark.span)
-            (and_parts (is_marking mark.span.kind && is_single_line s.text mark.span) (first_line s.text mark.span == k) mark.covers.0).0).0)
-            unprimary) b theirs.1 (isb.marked, omega (arith, isb.start, covers.0), omega (arith, isb.end, covers.1)) (sym isb.kind ∙ primary) in
+            let narrow : span_width s.text mark.span < span_width s.text b = grind (arith, common_steps, context_of, and_parts, unprimary, b, primary) in
             omega (arith, is.start, is.end, isb.start, isb.end, narrow);
       }
     where
@@ -147,8 +133,7 @@ module _ (s : Source) (marks : List Annotation) (k : ℕ) (es : List LineAnnotat
   pub lone_entry : (a : Annotation) → filter (is_marked_on s.text k) marks ≡ a ∷ [] → (e : LineAnnotation) × (es ≡ e ∷ []) × IsEntryOf s k a e
   lone_entry a lone =
       let sole : es ≡ entry_of s a ∷ [] = same ∙ ap (map (entry_of s)) lone in
-      let marked : is_marked_on s.text k a ≡ true = All-contains (λ b.
-      is_marked_on s.text k b ≡ true) (filter (is_marked_on s.text k) marks) a (filter_passes (is_marked_on s.text k) marks)
+      let marked : is_marked_on s.text k a ≡ true = All-contains (λ b. is_marked_on s.text k b ≡ true) _ a (filter_passes (is_marked_on s.text k) marks)
       (subst (λ xs. Contains xs a) (sym lone) (Contains-head a [])) in
       (entry_of s a, sole, entry_is s k a (entry_of s a) marked (single_of a marked) refl)
 

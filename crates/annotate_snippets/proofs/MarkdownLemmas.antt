@@ -1,12 +1,11 @@
 -- A report in Markdown: what is added piece by piece, that no fence stands in a page, and what is read of a line.
 use Rattle.std.proofs.lemmas.Grind.{common_steps}
-use Rattle.annotate_snippets.proofs.Common.{◌≡◌, ◌∙◌, ℕ, zero, suc, ◌+◌, ◌≤◌, ◌&&◌, Bool, true, false, cond, Option, Some, eqb, inl}
-use Rattle.annotate_snippets.proofs.Common.{inr, max, not, List, [], ◌∷◌, ◌++◌, length, map, replicate, arith, refl, sym, ap, ap₂, encode_utf8_all}
-use Rattle.annotate_snippets.proofs.Common.{and_left, and_right, cases_Bool, eqb-true, false≢true, flat_map-append, encodes-append, is_ascii_punctuation}
-use Rattle.annotate_snippets.proofs.Common.{cow_str_bytes, option_map, Id, Group, is_plain_sheet, Stylesheet, norm, closing_bracket_of, opening_bracket_of}
-use Rattle.annotate_snippets.proofs.Common.{bare_marks, bold_line, bracketed_link, escaped, escaped_text, fence, id_in_markdown, link_of, linked_text}
-use Rattle.annotate_snippets.proofs.Common.{longest_run, MarkdownLaws, plain_page, unlinked, form_of, links_in, IsTextUnder, Renderer, Form, Graphic, Short}
-use Rattle.annotate_snippets.proofs.Common.{Text}
+use Rattle.annotate_snippets.proofs.Common.{◌≡◌, ◌∙◌, ℕ, zero, suc, ◌+◌, ◌≤◌, ◌&&◌, Bool, true, false, cond, Option, Some, eqb, inl, inr, max, not, List, []}
+use Rattle.annotate_snippets.proofs.Common.{◌∷◌, ◌++◌, length, map, replicate, arith, refl, sym, ap, ap₂, encode_utf8_all, and_left, and_right, cases_Bool}
+use Rattle.annotate_snippets.proofs.Common.{eqb-true, false≢true, flat_map-append, encodes-append, is_ascii_punctuation, cow_str_bytes, option_map, Id, Group}
+use Rattle.annotate_snippets.proofs.Common.{is_plain_sheet, Stylesheet, norm, closing_bracket_of, opening_bracket_of, bare_marks, bold_line, bracketed_link}
+use Rattle.annotate_snippets.proofs.Common.{escaped, escaped_text, fence, id_in_markdown, link_of, linked_text, longest_run, MarkdownLaws, plain_page, unlinked}
+use Rattle.annotate_snippets.proofs.Common.{form_of, links_in, IsTextUnder, Renderer, Form, Graphic, Short, Text}
 use Rattle.std.proofs.Common.{append-nil, append_assoc, chars}
 use Rattle.annotate_snippets.specs.Markdown.{as_read}
 
@@ -53,8 +52,7 @@ pub linked-added : (old text address new₁ new₂ new₃ new₄ new₅ : List �
 linked-added old text address new₁ new₂ new₃ new₄ new₅ opened shown between linked closed =
     closed ∙ ap₂ (λ a b. a ++ b) (linked ∙ ap (λ a. a ++ encode_utf8_all (escaped_text (chars address))) (between
     ∙ ap₂ (λ a b. a ++ b) (shown ∙ ap (λ a. a ++ encode_utf8_all (escaped_text text)) (opened ∙ ap (λ a. old ++ a) (sym encodes-open)))
-    (sym encodes-between))) (sym encodes-close)
-    ∙ five old (91 ∷ []) (escaped_text text) (93 ∷ 40 ∷ []) (escaped_text (chars address)) (41 ∷ [])
+    (sym encodes-between))) (sym encodes-close) ∙ five old (91 ∷ []) (escaped_text text) (93 ∷ 40 ∷ []) (escaped_text (chars address)) (41 ∷ [])
 
 -- a line in bold is added piece by piece, where it has characters
 pub bold-added : (old line new₁ new₂ new₃ : List ℕ) → eqb (length line) 0 ≡ false → new₁ ≡ old ++ 42 ∷ 42 ∷ [] → new₂ ≡ new₁ ++ line
@@ -67,14 +65,12 @@ pub id-some : (hidden : Bool) (id : Option Id) (one : Id) (text : List ℕ) → 
     → id_in_markdown hidden id
     ≡ (escaped_text (opening_bracket_of hidden) ++ linked_text (link_of (option_map cow_str_bytes one.url)) (norm (chars text)))
     ++ escaped_text (closing_bracket_of hidden)
-id-some hidden id one text is has =
-    ap (id_in_markdown hidden) is ∙ ap (bracketed_link hidden (option_map cow_str_bytes one.url)) has
+id-some hidden id one text is has = ap (id_in_markdown hidden) is ∙ ap (bracketed_link hidden (option_map cow_str_bytes one.url)) has
 
 -- an id is added piece by piece
 pub id-added : (old before linked after new₁ new₂ new₃ : List ℕ) → new₁ ≡ old ++ encode_utf8_all before → new₂ ≡ new₁ ++ encode_utf8_all linked
     → new₃ ≡ new₂ ++ encode_utf8_all after → new₃ ≡ old ++ encode_utf8_all ((before ++ linked) ++ after)
-id-added old before linked after new₁ new₂ new₃ opened shown closed =
-    closed ∙ ap (λ a. a ++ encode_utf8_all after) (shown ∙ ap (λ a. a ++ encode_utf8_all linked) opened) ∙ three old before linked after
+id-added old before linked after new₁ new₂ new₃ opened shown closed = cc (closed, shown, opened, three old before linked after)
 
 -- and a title's line
 pub line-added : (old name id colon text new₁ new₂ new₃ new₄ : List ℕ) → old ≡ [] → new₁ ≡ old ++ encode_utf8_all name

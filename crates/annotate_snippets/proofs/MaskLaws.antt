@@ -1,7 +1,7 @@
 -- Where controls are masked, no text of the report that is shown holds one: masking leaves none, and what is made of it then brings none.
 use Rattle.annotate_snippets.proofs.Common.{◌≡◌, ℕ, Bool, true, false, List, [], ◌∷◌, ◌++◌, Option, None, Some, All, IfSome, codes, map, refl}
 use Rattle.annotate_snippets.proofs.Common.{sym, subst, arith, nat_tests, All-append, All-cons, All-head, All-nil, All-tail, All-weaker, cow_str_bytes, AllZip}
-use Rattle.annotate_snippets.proofs.Common.{flat_map, list_any, Global, CowStr, Range, name_of, shown_name, SameOption, standard_name_of, Level, LevelName}
+use Rattle.annotate_snippets.proofs.Common.{list_any, Global, CowStr, Range, name_of, shown_name, SameOption, standard_name_of, Level, LevelName}
 use Rattle.annotate_snippets.proofs.Common.{Standard, Own, Annotation, Element, Message, Cause, Suggestion, Origin, Padding, Group, Id, Snippet, Title}
 use Rattle.annotate_snippets.proofs.Common.{wrapped-chars, IsAnnotationMasked, IsElementMasked, IsGroupMasked, IsIdMasked, IsNameMasked, IsPatchMasked}
 use Rattle.annotate_snippets.proofs.Common.{IsTitleMasked, IsElementWrapped, IsGroupWrapped, IsTextWrapped, IsTitleWrapped, room_of_message, visible_mark}
@@ -32,8 +32,7 @@ clean-norm : (cs : List ℕ) → All Clean cs → All Clean (norm cs)
 unfolding norm
 clean-norm [] all = All-nil Clean
 clean-norm (c ∷ cs) all =
-    All-append Clean (shown c) (flat_map shown cs) (each-fails is_masked (shown c) (clean-shown c (All-head Clean c cs all)))
-    (clean-norm cs (All-tail Clean c cs all))
+    All-append Clean _ _ (each-fails is_masked (shown c) (clean-shown c (All-head Clean c cs all))) (clean-norm cs (All-tail Clean c cs all))
 
 clean-in : (trusted : Bool) (cs : List ℕ) → All Clean (masked_in trusted cs)
 clean-in true cs = clean-norm (masked cs) (clean-masked cs)
@@ -81,15 +80,11 @@ title-clean : (a b : Option Title) → SameOption IsTitleMasked a b → IfSome b
 title-clean None None is = tt
 title-clean None (Some b) is = cc
 title-clean (Some a) None is = absurd is
-title-clean (Some a) (Some b) is = (
-  name-clean b.level.kind a.level.name b.level.name is.0.0,
-  id-clean a.id b.id is.1,
-  text-clean a.allows_styling a.text b.text is.2,
-)
+title-clean (Some a) (Some b) is =
+    (name-clean b.level.kind a.level.name b.level.name is.0.0, id-clean a.id b.id is.1, text-clean a.allows_styling a.text b.text is.2)
 
 element-clean : (a b : Element) → IsElementMasked a b → IsCleanElement b
-element-clean (Message a) (Message b) is =
-    (name-clean b.level.kind a.level.name b.level.name is.0.0, text-clean true a.text b.text is.1)
+element-clean (Message a) (Message b) is = (name-clean b.level.kind a.level.name b.level.name is.0.0, text-clean true a.text b.text is.1)
 element-clean (Cause a) (Cause b) is = (
   text-clean false a.source.text b.source.text is.2.0,
   option-clean a.path b.path is.0,
@@ -139,8 +134,7 @@ module _ (before after : ℕ) where
 
   pub around-clean : (groups shown : List Group) → AllZip (IsGroupWithContext before after) groups shown → HasNoControls groups → HasNoControls shown
   around-clean groups shown pairs clean =
-      over-made Stays (IsElementWithContext before after) IsCleanTitle IsCleanElement (λ a b is own. subst IsCleanTitle (sym is) own) element-around
-      groups shown pairs clean
+      over-made Stays _ IsCleanTitle IsCleanElement (λ a b is own. subst IsCleanTitle (sym is) own) element-around groups shown pairs clean
 
 -- ---- wrapped titles and messages
 
@@ -163,6 +157,4 @@ module _ (term_width gutter : ℕ) where
   element-wrapped a b is clean = absurd is
 
   pub wrapped-clean : (groups shown : List Group) → AllZip (IsGroupWrapped term_width gutter) groups shown → HasNoControls groups → HasNoControls shown
-  wrapped-clean groups shown pairs clean =
-      over-made (IsTitleWrapped term_width) (IsElementWrapped term_width gutter) IsCleanTitle IsCleanElement title-wrapped element-wrapped groups shown
-      pairs clean
+  wrapped-clean groups shown pairs clean = over-made _ _ IsCleanTitle IsCleanElement title-wrapped element-wrapped groups shown pairs clean

@@ -1,17 +1,15 @@
 -- A report whose controls are masked: what it has in common with the one in whose place it is shown, and that no trusted text of it holds a
 -- listed character.
 use Rattle.std.proofs.lemmas.Grind.{common_steps}
-use Rattle.annotate_snippets.proofs.Common.{◌≡◌, ◌∙◌, ℕ, ◌+◌, ◌==◌, Bool, true, false, List, [], ◌∷◌, ◌++◌, Option, None, Some}
-use Rattle.annotate_snippets.proofs.Common.{All, IfSome, if◌then◌else◌, not, nat_lt, arith, map, refl, sym, ap, ap₂, subst, false≢true, nat_tests}
-use Rattle.annotate_snippets.proofs.Common.{All-append, All-cons, All-head, All-nil, All-tail, All-weaker, sum_by-cons, cow_str_bytes, AllZip, flat_map}
-use Rattle.annotate_snippets.proofs.Common.{position_from, option_map, option_to_list, Global, CowStr, Range, span_fault, shown_name, SameOption}
-use Rattle.annotate_snippets.proofs.Common.{trusted_of_element, trusted_of_title, trusted_texts, Level, LevelName, Own, Annotation, Element, Message, Cause}
-use Rattle.annotate_snippets.proofs.Common.{Suggestion, Origin, Padding, Group, Id, Patch, Snippet, Title, IsAnnotationMasked, IsElementMasked, IsGroupMasked}
-use Rattle.annotate_snippets.proofs.Common.{IsIdMasked, IsLevelMasked, IsTitleMasked, IsNameMasked, IsPatchMasked, IsSnippetMasked, is_masked, IsTextMasked}
-use Rattle.annotate_snippets.proofs.Common.{mask_of, masked, IsGroupTaken, IsAnyTitle, Edit, edit_of, first_overlap, first_overlap_from, overlap, LevelInner}
-use Rattle.annotate_snippets.proofs.Common.{list_any-norm, shown-unlisted, is_listed, norm, shown, each-fails, id_links, text_links, is_drawn, added_lines}
-use Rattle.annotate_snippets.proofs.Common.{element_faults, number_after_lines, number_faults, overlap_faults, span_faults, HasOneLineTexts, RenderError}
-use Rattle.annotate_snippets.proofs.Common.{PatchesOverlap}
+use Rattle.annotate_snippets.proofs.Common.{◌≡◌, ◌∙◌, ℕ, ◌+◌, ◌==◌, Bool, true, false, List, [], ◌∷◌, ◌++◌, Option, None, Some, All, IfSome, if◌then◌else◌, not}
+use Rattle.annotate_snippets.proofs.Common.{nat_lt, arith, map, refl, sym, ap, ap₂, subst, false≢true, nat_tests, All-append, All-cons, All-head, All-nil}
+use Rattle.annotate_snippets.proofs.Common.{All-tail, All-weaker, sum_by-cons, cow_str_bytes, AllZip, flat_map, position_from, option_map, option_to_list}
+use Rattle.annotate_snippets.proofs.Common.{Global, CowStr, Range, span_fault, shown_name, SameOption, trusted_of_element, trusted_of_title, trusted_texts}
+use Rattle.annotate_snippets.proofs.Common.{Level, LevelName, Own, Annotation, Element, Message, Cause, Suggestion, Origin, Padding, Group, Id, Patch, Snippet}
+use Rattle.annotate_snippets.proofs.Common.{Title, IsAnnotationMasked, IsElementMasked, IsGroupMasked, IsIdMasked, IsLevelMasked, IsTitleMasked, IsNameMasked}
+use Rattle.annotate_snippets.proofs.Common.{IsPatchMasked, IsSnippetMasked, is_masked, IsTextMasked, mask_of, masked, IsGroupTaken, IsAnyTitle, Edit, edit_of}
+use Rattle.annotate_snippets.proofs.Common.{first_overlap, first_overlap_from, overlap, LevelInner, list_any-norm, shown-unlisted, is_listed, norm, shown}
+use Rattle.annotate_snippets.proofs.Common.{each-fails, id_links, text_links, is_drawn, added_lines, element_faults, span_faults, HasOneLineTexts}
 use Rattle.std.proofs.Common.{append-nil, chars}
 use Rattle.annotate_snippets.proofs.AlignedLemmas.{aligned-fault, aligned-feeds, aligned-lines}
 use Rattle.annotate_snippets.proofs.OneLineTexts.{IsNoFeed, IsOneLineElement, IsOneLineId, IsOneLineLabel, IsOneLineName, IsOneLineText}
@@ -41,8 +39,7 @@ bare-same (p ∷ ps) (q ∷ qs) pairs =
 
 overlap-same : (ps qs : List Patch) → AllZip IsPatchMasked ps qs → first_overlap (map edit_of qs) ≡ first_overlap (map edit_of ps)
 unfolding first_overlap
-overlap-same ps qs pairs =
-    sym (overlaps-bare 0 (map edit_of qs)) ∙ ap (first_overlap_from 0) (bare-same ps qs pairs) ∙ overlaps-bare 0 (map edit_of ps)
+overlap-same ps qs pairs = sym (overlaps-bare 0 (map edit_of qs)) ∙ ap (first_overlap_from 0) (bare-same ps qs pairs) ∙ overlaps-bare 0 (map edit_of ps)
 
 -- patches add as many lines
 added-same : (ps qs : List Patch) → AllZip IsPatchMasked ps qs → added_lines qs ≡ added_lines ps
@@ -60,29 +57,11 @@ module _ (group element : ℕ) where
 
   cause-same : (a b : Snippet Annotation) → IsSnippetMasked IsAnnotationMasked a b
       → element_faults group element (Cause b) ≡ element_faults group element (Cause a)
-  cause-same a b is =
-      let source : List ℕ = cow_str_bytes a.source.text in
-      let text : List ℕ = cow_str_bytes b.source.text in
-      ap₂ (λ (x y : List RenderError). x ++ y)
-      (faults-same IsAnnotationMasked (λ n m. span_faults group element source n m.span) (λ n m. span_faults group element text n m.span)
-      (λ n x y pair. span-same n source text x.span y.span (aligned-fault source text is.2.1) pair.0) 0 a.markers.items b.markers.items is.3)
-      (ap₂ (λ (start lines : ℕ). number_faults group element (start + lines)) is.1 (aligned-lines source text is.2.1))
+  cause-same a b is = grind (arith, common_steps, faults-same, span-same, aligned-fault, aligned-lines)
 
   suggestion-same : (a b : Snippet Patch) → IsSnippetMasked IsPatchMasked a b
       → element_faults group element (Suggestion b) ≡ element_faults group element (Suggestion a)
-  suggestion-same a b is =
-      let source : List ℕ = cow_str_bytes a.source.text in
-      let text : List ℕ = cow_str_bytes b.source.text in
-      let spans = faults-same IsPatchMasked (λ n m. span_faults group element source n m.span) (λ n m. span_faults group element text n m.span)
-      (λ n x y pair. span-same n source text x.span y.span (aligned-fault source text is.2.1) pair.0) 0 a.markers.items b.markers.items is.3 in
-      let overlaps : overlap_faults group element b.markers.items ≡ overlap_faults group element a.markers.items =
-      ap (λ (pair : Option (ℕ × ℕ)). option_to_list (option_map (λ pair. PatchesOverlap group element pair.0 pair.1) pair))
-      (overlap-same a.markers.items b.markers.items is.3) in
-      let numbers : number_faults group element (number_after_lines b.line_start text + added_lines b.markers.items)
-      ≡ number_faults group element (number_after_lines a.line_start source + added_lines a.markers.items) =
-      ap (number_faults group element) (ap₂ (λ (m n : ℕ). m + n) (ap₂ (λ (start lines : ℕ). start + lines) is.1 (aligned-lines source text is.2.1))
-      (added-same a.markers.items b.markers.items is.3)) in
-      ap₂ (λ (x y : List RenderError). x ++ y) (ap₂ (λ (x y : List RenderError). x ++ y) spans overlaps) numbers
+  suggestion-same a b is = grind (arith, common_steps, faults-same, span-same, aligned-fault, overlap-same, aligned-lines, added-same)
 
   element-faults : (a b : Element) → IsElementMasked a b → element_faults group element b ≡ element_faults group element a
   element-faults (Message a) (Message b) is = refl
@@ -114,8 +93,7 @@ links-mask address c false xs ys is same = grind (arith, nat_lt, text_links-afte
 links-masked : (address : Option (List ℕ)) (cs : List ℕ) → text_links address (norm (masked cs)) ≡ text_links address (norm cs)
 unfolding norm
 links-masked address [] = refl
-links-masked address (c ∷ cs) =
-    links-mask address c (is_masked c) (flat_map shown cs) (flat_map shown (map mask_of cs)) refl (links-masked address cs)
+links-masked address (c ∷ cs) = links-mask address c (is_masked c) (flat_map shown cs) (flat_map shown (map mask_of cs)) refl (links-masked address cs)
 
 links-id-text : (address : Option (List ℕ)) (a b : Option (CowStr Global)) → SameOption (IsTextMasked false) a b
     → text_links address (flat_map (λ (t : CowStr Global). norm (chars (cow_str_bytes t))) (option_to_list b))
@@ -155,8 +133,7 @@ module _ (Q : List ℕ → List ℕ → Type 0) (only : (x y : List ℕ) → IsU
       by false false same text = tt
 
   element-trusted : (a b : Element) → IsElementMasked a b → AllZip Q (trusted_of_element a) (trusted_of_element b)
-  element-trusted (Message a) (Message b) is =
-      (only (cow_str_bytes a.text) (cow_str_bytes b.text) (trusted-unlisted a.text b.text is.1), tt)
+  element-trusted (Message a) (Message b) is = (only (cow_str_bytes a.text) (cow_str_bytes b.text) (trusted-unlisted a.text b.text is.1), tt)
   element-trusted (Cause a) (Cause b) is = tt
   element-trusted (Suggestion a) (Suggestion b) is = tt
   element-trusted (Origin a) (Origin b) is = tt
@@ -164,16 +141,14 @@ module _ (Q : List ℕ → List ℕ → Type 0) (only : (x y : List ℕ) → IsU
   element-trusted a b is = absurd is
 
 only-of : (x y : List ℕ) → IsUnlisted y → IsTextOf x y
-only-of x y none =
-    All-weaker (λ c. is_listed c ≡ false) (IsOf (chars x)) (λ c unlisted listed. absurd (false≢true (sym unlisted ∙ listed))) (chars y) none
+only-of x y none = All-weaker (λ c. is_listed c ≡ false) (IsOf (chars x)) (λ c unlisted listed. absurd (false≢true (sym unlisted ∙ listed))) (chars y) none
 
 -- no trusted text of a masked report holds a listed character
 unlisted-texts : (given shown : List (List ℕ)) → AllZip (λ x y. IsUnlisted y) given shown → All (λ c. is_listed c ≡ false) (flat_map chars shown)
 unlisted-texts [] [] pairs = All-nil (λ c. is_listed c ≡ false)
 unlisted-texts [] (y ∷ ys) pairs = absurd pairs
 unlisted-texts (x ∷ xs) [] pairs = absurd pairs
-unlisted-texts (x ∷ xs) (y ∷ ys) pairs =
-    All-append (λ c. is_listed c ≡ false) (chars y) (flat_map chars ys) pairs.0 (unlisted-texts xs ys pairs.1)
+unlisted-texts (x ∷ xs) (y ∷ ys) pairs = All-append (λ c. is_listed c ≡ false) (chars y) (flat_map chars ys) pairs.0 (unlisted-texts xs ys pairs.1)
 
 pub masked-unlisted : (groups shown : List Group) → AllZip IsGroupMasked groups shown → All (λ c. is_listed c ≡ false) (flat_map chars (trusted_texts shown))
 masked-unlisted groups shown pairs =
@@ -215,8 +190,7 @@ option-line (Some a) None is plain = absurd is
 option-line (Some a) (Some b) is plain = text-line a b is plain
 
 level-line : (a b : Level) → IsLevelMasked a b → IsOneLineName a → IsOneLineName b
-level-line a b is plain =
-    subst (λ (kind : LevelInner). All IsNoFeed (chars (shown_name kind b.name))) (sym is.1) (by a.name b.name is.0 plain)
+level-line a b is plain = subst (λ (kind : LevelInner). All IsNoFeed (chars (shown_name kind b.name))) (sym is.1) (by a.name b.name is.0 plain)
   where
     by : (x y : LevelName) → IsNameMasked x y → All IsNoFeed (chars (shown_name a.kind x)) → All IsNoFeed (chars (shown_name a.kind y))
     by (Own x) (Own y) same line = text-line x y same line
@@ -248,8 +222,7 @@ masked-line groups shown pairs plain = grind (arith, line-made, level-line, id-l
 -- nothing: every report is taken
 pub groups-taken : (groups : List Group) → All (IsGroupTaken IsAnyTitle (λ e. Unit {0})) groups
 groups-taken [] = All-nil (IsGroupTaken IsAnyTitle (λ e. Unit {0}))
-groups-taken (g ∷ groups) =
-    All-cons (IsGroupTaken IsAnyTitle (λ e. Unit {0})) g groups (any-title g.title, any-elements g.elements.items) (groups-taken groups)
+groups-taken (g ∷ groups) = All-cons (IsGroupTaken IsAnyTitle (λ e. Unit {0})) g groups (any-title g.title, any-elements g.elements.items) (groups-taken groups)
   where
     any-title : (title : Option Title) → IfSome title IsAnyTitle
     any-title None = tt

@@ -1,6 +1,5 @@
 -- Rows with their names, and their cells.
-use Rattle.annotate_snippets.proofs.Common.{◌≡◌, ℕ, List, [], ◌∷◌, ◌++◌, refl, ap, map-append, Cell, named_line, NamedRow, cells_of}
-use Rattle.annotate_snippets.proofs.Common.{lines_named, others}
+use Rattle.annotate_snippets.proofs.Common.{◌≡◌, ℕ, List, [], ◌∷◌, ◌++◌, refl, ap, map-append, Cell, named_line, NamedRow, cells_of, lines_named, others}
 
 -- rows that aren't named by a line
 pub cells_of-others : (rows : List (List Cell)) → cells_of (others rows) ≡ rows

@@ -35,8 +35,7 @@ near_first : with_between (lines_around 0 1 3 (0 ∷ [])) ≡ 0 ∷ 1 ∷ []
 near_first = refl
 
 first_two : (w : Vec Annotation Global) → lines_with_context 0 1 (marked w) ≡ 0 ∷ 1 ∷ []
-first_two w =
-    ap₂ (λ (n : ℕ) (ks : List ℕ). with_between (lines_around 0 1 n ks)) three kept_first ∙ near_first
+first_two w = ap₂ (λ (n : ℕ) (ks : List ℕ). with_between (lines_around 0 1 n ks)) three kept_first ∙ near_first
 
 -- so no page of it shows the first alone
 pub context_line_dropped : (v : Vec Element Global) (w : Vec Annotation Global) (page : Page) → ShowsLinesAround 0 1 (report v w) page

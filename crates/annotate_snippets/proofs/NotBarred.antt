@@ -36,8 +36,7 @@ no_space layout name bar same = by_name name same
 -- nor a part of a line that leads from another
 no_line : (layout : Layout) (bar : Bar) (primary : Bool)
     → bar_beside layout Other bar ≡ unlinked_cell (underline_role primary) (strokes_of layout.decor primary).connector → ⊥
-no_line layout bar primary same =
-    by_kind layout.decor bar.primary primary (ap (λ (cell : Cell). cell.ch) same)
+no_line layout bar primary same = by_kind layout.decor bar.primary primary (ap (λ (cell : Cell). cell.ch) same)
   where
     by_kind : (decor : DecorStyle) (p q : Bool) → (strokes_of decor p).bar ≡ (strokes_of decor q).connector → ⊥
     by_kind Ascii true true is = omega (arith, is)

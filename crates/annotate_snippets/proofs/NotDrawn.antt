@@ -75,9 +75,8 @@ row_above_the_first_line s is around row more none shown =
     (sym (append_cancel_left (others (cause_head plain_settings layout around s)) ((row ∷ more) ++ tail) (shown.after ++ tail) shown.rows_are)) in
     let named : IsRowOf plain_settings layout closes s row.name row.cells more = (subst (AreRowsOf plain_settings layout closes s) same shown.named).0 in
     let ks : List ℕ = shown_lines s.fold (cow_str_bytes s.source.text) s.markers.items in
-    let names : names_in (row ∷ more) ≡ SourceRow 0 ∷ [] = ap names_in (sym same ∙ shown.are) ∙ names_of_rows plain_settings layout s closes [] ks
-    ∙ ap (λ source. names_of_lines (shown_lines s.fold source s.markers.items)) is.is.source_is
-    ∙ ap (λ marks. names_of_lines (shown_lines s.fold (codes "a") marks)) is.is.marks_are ∙ one_line s.fold in
+    let names : names_in (row ∷ more) ≡ SourceRow 0 ∷ [] =
+    cc (same, shown.are, names_of_rows plain_settings layout s closes [] ks, is.is.source_is, is.is.marks_are, one_line s.fold) in
     by_name row.name (unnamed closes s is row.name row.cells more none named)
     (ap rows_below (sym same ∙ shown.are) ∙ none_above plain_settings layout s closes [] ks) names
   where

@@ -44,8 +44,7 @@ named_second closes s is Other cells rows same shows =
 -- a list of one number holds no other
 other_number : (before after : List ℕ) → before ++ (1 ∷ after) ≡ 0 ∷ [] → ⊥
 other_number [] after same = grind (arith, slice_index_or)
-other_number (k ∷ before) after same =
-    absurd (omega (arith, ap length same, length-append before (1 ∷ after)))
+other_number (k ∷ before) after same = absurd (omega (arith, ap length same, length-append before (1 ∷ after)))
 
 -- the lines that are shown where lines are folded
 first_alone : shown_lines true two_lines (span_of Primary 0 1 ∷ []) ≡ 0 ∷ []

@@ -1,10 +1,9 @@
 -- Rows in which a label is lost, or a word stands that is none: each contradicts what is shown of labels.
-use Rattle.annotate_snippets.proofs.Common.{◌≡◌, ℕ, zero, suc, ◌+◌, ◌<◌, ◌≤◌, ◌&&◌, cond, Bool, true, false, List, [], ◌∷◌, map}
-use Rattle.annotate_snippets.proofs.Common.{length, count_by, refl, sym, ap, subst, ◌∙◌, arith, inl, inr, Contains, false≢true, nat_tests, All-contains}
-use Rattle.annotate_snippets.proofs.Common.{All-head, All-tail, sum_by-cons, cell_at, Cell, SPACE, DecorStyle, ElementStyle, LabelPrimary, LabelSecondary}
-use Rattle.annotate_snippets.proofs.Common.{UnderlinePrimary, UnderlineSecondary, Annotation, AnnotationKind, Primary, Context, Visible, Snippet, from_map}
-use Rattle.annotate_snippets.proofs.Common.{is_mark_role, label_role, Layout, ShowsLabel, ShowsLabels, ShownLabel, SpanLabel, is_in_label, labels_ending_on}
-use Rattle.annotate_snippets.proofs.Common.{row_text, width_of}
+use Rattle.annotate_snippets.proofs.Common.{◌≡◌, ℕ, zero, suc, ◌+◌, ◌<◌, ◌≤◌, ◌&&◌, cond, Bool, true, false, List, [], ◌∷◌, map, length, count_by, refl, sym}
+use Rattle.annotate_snippets.proofs.Common.{ap, subst, ◌∙◌, arith, inl, inr, Contains, false≢true, nat_tests, All-contains, All-head, All-tail, sum_by-cons}
+use Rattle.annotate_snippets.proofs.Common.{cell_at, Cell, SPACE, DecorStyle, ElementStyle, LabelPrimary, LabelSecondary, UnderlinePrimary, UnderlineSecondary}
+use Rattle.annotate_snippets.proofs.Common.{Annotation, AnnotationKind, Primary, Context, Visible, Snippet, from_map, is_mark_role, label_role, Layout}
+use Rattle.annotate_snippets.proofs.Common.{ShowsLabel, ShowsLabels, ShownLabel, SpanLabel, is_in_label, labels_ending_on, row_text, width_of}
 use Rattle.std.specs.List.{All}
 use Rattle.std.specs.Prelude.{nat_le, nat_lt, slice_index_or, ◌-◌}
 use Rattle.annotate_snippets.specs.Laws.Labels.{IsBroken, MarksHaveRoom, pieces_shown}

@@ -44,8 +44,7 @@ offered_text s source es line is gives j row offers = grind (arith, offers.from,
 -- what stands below the head of a suggestion is its rows
 below_head : {found : List Cell} (s : Snippet Patch) (layout : Layout) (around : ElementContext) (rows : List NamedRow)
     → (shown : ShowsSuggestion plain_settings layout around found s (others (suggestion_head plain_settings layout around s) ++ rows)) → shown.after ≡ rows
-below_head s layout around rows shown =
-    append_cancel_left (others (suggestion_head plain_settings layout around s)) shown.after rows (sym shown.rows_are)
+below_head s layout around rows shown = append_cancel_left (others (suggestion_head plain_settings layout around s)) shown.after rows (sym shown.rows_are)
 
 -- each of them is what its name says
 rows_named : {found : List Cell} (s : Snippet Patch) (layout : Layout) → layout.gutter ≡ 1 → layout.decor ≡ Ascii
@@ -86,9 +85,7 @@ named_first s is (SourceRow k) cells same shows = absurd shows
 named_first s is Elision cells same shows = absurd shows
 named_first s is (OfferedLine j) cells same shows = grind (arith, gives_ac, from_first, s.fold, is.source_is, is.edits_are, shows.from, shows.within)
 named_first s is (RemovedLine i) cells same shows = grind (arith, shows.minus)
-named_first s is Other cells same shows =
-    let digit : false ≡ true = (subst (IsBareRow Ascii 1) same shows).strokes 0 (omega arith) in
-    cc
+named_first s is Other cells same shows = let digit : false ≡ true = (subst (IsBareRow Ascii 1) same shows).strokes 0 (omega arith) in cc
 
 -- a row after others is what its name says, if all are, and so are those after it
 row_named : (s : Snippet Patch) (before : List NamedRow) (row : NamedRow) (after : List NamedRow)
@@ -96,8 +93,7 @@ row_named : (s : Snippet Patch) (before : List NamedRow) (row : NamedRow) (after
     → IsSuggestionRow plain_settings Ascii 1 s row.name row.cells × All (λ r. IsSuggestionRow plain_settings Ascii 1 s r.name r.cells) after
 row_named s [] row after named = (
   All-head (λ r. IsSuggestionRow plain_settings Ascii 1 s r.name r.cells) row after named,
-  All-tail (λ r.
-      IsSuggestionRow plain_settings Ascii 1 s r.name r.cells) row after named,
+  All-tail (λ r. IsSuggestionRow plain_settings Ascii 1 s r.name r.cells) row after named,
 )
 row_named s (first ∷ before) row after named =
     row_named s before row after (All-tail (λ r. IsSuggestionRow plain_settings Ascii 1 s r.name r.cells) first (before ++ (row ∷ after)) named)
@@ -107,12 +103,9 @@ old_row_named : (s : Snippet Patch) → IsSnippetOf s (codes "ab") one_edit → 
     → IsSuggestionRow plain_settings Ascii 1 s name cells → ⊥
 old_row_named s is (SourceRow k) cells same shows = shows
 old_row_named s is Elision cells same shows = shows
-old_row_named s is (OfferedLine j) cells same shows =
-    old_line_offered s is j (subst (IsOfferedRow plain_settings Ascii 1 s j) same shows)
+old_row_named s is (OfferedLine j) cells same shows = old_line_offered s is j (subst (IsOfferedRow plain_settings Ascii 1 s j) same shows)
 old_row_named s is (RemovedLine i) cells same shows = grind (arith, shows.minus)
-old_row_named s is Other cells same shows =
-    let digit : false ≡ true = (subst (IsBareRow Ascii 1) same shows).strokes 0 (omega arith) in
-    cc
+old_row_named s is Other cells same shows = let digit : false ≡ true = (subst (IsBareRow Ascii 1) same shows).strokes 0 (omega arith) in cc
 
 -- so no rows in which it stands show the suggestion, wherever that is:
 --
@@ -123,8 +116,7 @@ suggestion_repeats_old_lines : {found : List Cell} (s : Snippet Patch) → IsSni
     → (around : ElementContext) (row : NamedRow) (before after : List NamedRow) → row.cells ≡ offering_row (codes "ab")
     → ShowsSuggestion plain_settings layout around found s (others (suggestion_head plain_settings layout around s) ++ (before ++ (row ∷ after))) → ⊥
 suggestion_repeats_old_lines s is layout narrow ascii around row before after row_is shown =
-    old_row_named s is row.name row.cells row_is (row_named s before row after (rows_named s layout narrow ascii around
-    (before ++ (row ∷ after)) shown)).0
+    old_row_named s is row.name row.cells row_is (row_named s before row after (rows_named s layout narrow ascii around (before ++ (row ∷ after)) shown)).0
 
 -- so no rows that offer it twice show the suggestion, after the row of its path, where that is named:
 --
@@ -182,8 +174,7 @@ line_left_out s source es one two is may j touched visible gives layout around r
     let reached : IsTouched (cow_str_bytes s.source.text) (edits_of s) j = subst (λ text.
     IsTouched text (edits_of s) j) (sym is.source_is) (subst (λ xs. IsTouched source xs j) (sym is.edits_are) touched) in
     let seen : is_blank_text (text_at (source_lines (patched (cow_str_bytes s.source.text) (edits_of s))) j) ≡ false =
-    ap (λ text. is_blank_text (text_at (source_lines (patched text (edits_of s))) j)) is.source_is
-    ∙ ap (λ xs. is_blank_text (text_at (source_lines (patched source xs)) j)) is.edits_are ∙ visible in
+    cc (is.source_is, is.edits_are, visible) in
     elim (shown.offered may j reached seen) [
       | inl as_it_was ↦ changed as_it_was
       | inr among ↦ out (subst (λ all. Contains (lines_offered all) j) (below_head s layout around rows shown) among)
@@ -197,12 +188,7 @@ line_left_out s source es one two is may j touched visible gives layout around r
 -- the second line is touched
 second_touched : IsTouched two_lines two_edits 1
 unfolding trimmed_edit sandwich kept_before start_of
-second_touched =
-    record {
-      stand = record { from = 2; to = 3 };
-      among = (1, omega arith, refl);
-      by = grind (arith, common_steps);
-    }
+second_touched = record { stand = record { from = 2; to = 3 }; among = (1, omega arith, refl); by = grind (arith, common_steps) }
 
 -- it isn't blank
 second_visible : is_blank_text (text_at (source_lines (patched two_lines two_edits)) 1) ≡ false
@@ -225,8 +211,7 @@ touched_left_out : {found : List Cell} (s : Snippet Patch) → IsSnippetOf s two
 touched_left_out s is =
     line_left_out s two_lines two_edits (codes "x") (codes "y") is
     (offerable s two_lines (replaced 0 1 (codes "x")) (replaced 2 3 (codes "y")) is (no_cr two_lines refl) (no_cr (codes "x") refl)
-    (no_cr (codes "y") refl) unended)
-    1 second_touched second_visible gives_two
+    (no_cr (codes "y") refl) unended) 1 second_touched second_visible gives_two
   where
     unended : last_byte two_lines ≡ 10 → ⊥
     unended final = let letter : ◌≡◌ {A = ℕ} 98 10 = final in absurd (omega (arith, letter))
@@ -243,12 +228,7 @@ put_in_and_deleted = replaced 0 0 (codes "x") ∷ replaced 2 3 [] ∷ []
 -- the second line is touched: the place of what is deleted lies in it
 rest_touched : IsTouched lines_of_three put_in_and_deleted 1
 unfolding trimmed_edit sandwich kept_before start_of
-rest_touched =
-    record {
-      stand = record { from = 3; to = 3 };
-      among = (1, omega arith, refl);
-      by = grind (arith, common_steps);
-    }
+rest_touched = record { stand = record { from = 3; to = 3 }; among = (1, omega arith, refl); by = grind (arith, common_steps) }
 
 rest_visible : is_blank_text (text_at (source_lines (patched lines_of_three put_in_and_deleted)) 1) ≡ false
 unfolding chars

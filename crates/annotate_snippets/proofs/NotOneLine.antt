@@ -1,6 +1,6 @@
 -- Pages without the laws of a report: with texts of one line, a page with a row that reads as two lines of the text; and a page with a
 -- number before a row of an element that shows no line.
-use Rattle.annotate_snippets.proofs.Common.{◌≡◌, ◌∙◌, ◌||◌, ℕ, Bool, true, List, [], ◌∷◌, ◌++◌, None, Some, ap, codes, refl, subst, sym, arith}
+use Rattle.annotate_snippets.proofs.Common.{◌≡◌, ◌||◌, ℕ, Bool, true, List, [], ◌∷◌, ◌++◌, None, Some, ap, codes, refl, subst, sym, arith}
 use Rattle.annotate_snippets.proofs.Common.{cow_str_bytes, Contains, slice_get, slice_index_or, CowStr, false≢true, All-contains, row_text, Group}
 use Rattle.annotate_snippets.proofs.Common.{IsTextAsSet, with_line_feeds_shown, Stylesheet, Cell, SPACE, text_cells, separator_row, Ascii, LabelPrimary}
 use Rattle.annotate_snippets.proofs.Common.{NoStyle, UnderlinePrimary, Renderer, form_of, HasNoFeed, HasOneLineTexts, text_lines, FormLaws, HasLaws}
@@ -88,7 +88,6 @@ pub label_as_given : (a b : CowStr Global) → cow_str_bytes a ≡ codes "here\n
     → IsTextAsSet true a b → ⊥
 unfolding chars
 label_as_given a b is same set =
-    let given : chars (codes "here\n2 | let y = 666;") ≡ with_line_feeds_shown (chars (codes "here\n2 | let y = 666;")) =
-    sym (ap chars (same ∙ is)) ∙ set ∙ ap (λ bytes. with_line_feeds_shown (chars bytes)) is in
+    let given : chars (codes "here\n2 | let y = 666;") ≡ with_line_feeds_shown (chars (codes "here\n2 | let y = 666;")) = cc (same, is, set) in
     let feed : ◌≡◌ {A = ℕ} 10 0x240A = ap (λ (cs : List ℕ). slice_index_or cs 4 0) given in
     absurd (omega (arith, feed))

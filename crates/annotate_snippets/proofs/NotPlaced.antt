@@ -1,12 +1,11 @@
 -- What does not stand there: rows of suggestions in another order, with another number, or of another kind, contradict the definitions.
-use Rattle.annotate_snippets.proofs.Common.{◌≡◌, ℕ, ◌≤◌, ◌==◌, not, true, false, if◌then◌else◌, List, [], ◌∷◌, ◌++◌, Vec}
-use Rattle.annotate_snippets.proofs.Common.{codes, get_or, length, map, take, refl, sym, ap, subst, ◌∙◌, arith, append_cancel_left, All-head, All-tail}
-use Rattle.annotate_snippets.proofs.Common.{added_mark_of, char_of, placeholder_of, removed_sign_of, separator_of, Cell, SPACE, text_cells, Ascii, Unicode}
-use Rattle.annotate_snippets.proofs.Common.{LineNumber, Quotation, Removal, Patch, Snippet, start_of, line_of, trimmed_edit, kept_before, sandwich, Begins}
-use Rattle.annotate_snippets.proofs.Common.{Ends, Offers, Removes, SuggestionRow, removed_number, rows_of_suggestion, Opening, one_word, one_word_gives, Global}
-use Rattle.annotate_snippets.proofs.Common.{decimal_digit, row_text, set_right, DecorStyle, is_end, suggestion_rows, number_text, Renderer, NamedRow}
-use Rattle.annotate_snippets.proofs.Common.{RemovedLine, Other, RowName, others, suggestion_head, plain_settings, Layout, ElementContext, HasStrokes}
-use Rattle.annotate_snippets.proofs.Common.{IsSuggestionRow, ShowsSuggestion, name_of_row}
+use Rattle.annotate_snippets.proofs.Common.{◌≡◌, ℕ, ◌≤◌, ◌==◌, not, true, false, if◌then◌else◌, List, [], ◌∷◌, ◌++◌, Vec, codes, get_or, length, map, take}
+use Rattle.annotate_snippets.proofs.Common.{refl, sym, ap, subst, ◌∙◌, arith, append_cancel_left, All-head, All-tail, added_mark_of, char_of, placeholder_of}
+use Rattle.annotate_snippets.proofs.Common.{removed_sign_of, separator_of, Cell, SPACE, text_cells, Ascii, Unicode, LineNumber, Quotation, Removal, Patch}
+use Rattle.annotate_snippets.proofs.Common.{Snippet, start_of, line_of, trimmed_edit, kept_before, sandwich, Begins, Ends, Offers, Removes, SuggestionRow}
+use Rattle.annotate_snippets.proofs.Common.{removed_number, Opening, one_word, one_word_gives, Global, decimal_digit, row_text, set_right}
+use Rattle.annotate_snippets.proofs.Common.{DecorStyle, is_end, suggestion_rows, number_text, Renderer, NamedRow, RemovedLine, Other, RowName, others}
+use Rattle.annotate_snippets.proofs.Common.{suggestion_head, plain_settings, Layout, ElementContext, HasStrokes, IsSuggestionRow, ShowsSuggestion, name_of_row}
 use Rattle.std.specs.List.{All}
 use Rattle.std.specs.Str.{chars}
 use Rattle.snippet_splice.specs.ShownText.{shown_text}
@@ -35,9 +34,7 @@ module _ (v : Vec Patch Global) (layout : Layout) (narrow : layout.gutter ≡ 1)
       Begins Opening ∷ Removes 0 1 (codes "foo") ∷ Offers 0 ∷ (if around.shared then [] else Ends (not (is_end around.next)) ∷ [])
 
   foo_rows_are : suggestion_rows around foo ≡ foo_rows
-  foo_rows_are =
-      ap (λ rows. rows ++ (if around.shared then [] else Ends (not (is_end around.next)) ∷ []))
-      (ap (λ at. rows_of_suggestion at foo) opens ∙ (one_word_gives v).rows_are)
+  foo_rows_are = cc (opens, (one_word_gives v).rows_are)
 
   -- rows that show it, after the row of its path: the second is that of the removed line, whatever it holds
   second_removed : {found : List Cell} → layout.decor ≡ Ascii → (first row : NamedRow) (rest : List NamedRow)
@@ -49,8 +46,7 @@ module _ (v : Vec Patch Global) (layout : Layout) (narrow : layout.gutter ≡ 1)
       let Named : DecorStyle → ℕ → NamedRow → Type 0 = λ decor gutter r. IsSuggestionRow plain_settings decor gutter foo r.name r.cells in
       let named : All (Named Ascii 1) rows = subst (λ gutter. All (Named Ascii gutter) rows) narrow
       (subst (λ decor. All (Named decor layout.gutter) rows) ascii (subst (All (Named layout.decor layout.gutter)) same shown.named)) in
-      let names : map (λ (r : NamedRow). r.name) rows ≡ map (name_of_row foo) foo_rows = ap (map (λ (r : NamedRow). r.name)) (sym same) ∙ shown.order
-      ∙ ap (map (name_of_row foo)) foo_rows_are in
+      let names : map (λ (r : NamedRow). r.name) rows ≡ map (name_of_row foo) foo_rows = cc (same, shown.order, foo_rows_are) in
       let name : row.name ≡ RemovedLine 0 = ap (λ (ns : List RowName). get_or ns 1 Other) names in
       subst (λ n. IsSuggestionRow plain_settings Ascii 1 foo n row.cells) name
       (All-head (Named Ascii 1) row rest (All-tail (Named Ascii 1) first (row ∷ rest) named))
@@ -66,8 +62,7 @@ module _ (v : Vec Patch Global) (layout : Layout) (narrow : layout.gutter ≡ 1)
   new_line_above_removed ascii first row rest is shown =
       let P : List Cell → Type 0 = λ cells. (get_or cells 2 SPACE).ch ≡ char_of (removed_sign_of Ascii) in
       let minus : added_mark_of Ascii ≡ char_of (removed_sign_of Ascii) = subst P is (second_removed ascii first row rest shown).minus in
-      let same_sign : false ≡ true = ap (λ c. c == char_of (removed_sign_of Ascii)) minus in
-      cc
+      let same_sign : false ≡ true = ap (λ c. c == char_of (removed_sign_of Ascii)) minus in cc
 
   -- nor in which the removed line has another number:
   --
@@ -105,8 +100,7 @@ module _ (v : Vec Patch Global) (layout : Layout) (narrow : layout.gutter ≡ 1)
       let P : List Cell → Type 0 = λ cells. (get_or cells 2 SPACE).ch ≡ separator_of Ascii in
       let dot : char_of (placeholder_of Ascii) ≡ separator_of Ascii = subst P is (subst (λ d. HasStrokes d 1 (Begins Opening) first.cells) ascii
       (first_begins plain_settings first rest shown) 2 (omega arith)) in
-      let same_sign : false ≡ true = ap (λ c. c == separator_of Ascii) dot in
-      cc
+      let same_sign : false ≡ true = ap (λ c. c == separator_of Ascii) dot in cc
 
   -- nor does it close there:
   --

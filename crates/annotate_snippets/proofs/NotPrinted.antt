@@ -29,10 +29,8 @@ empty_text : (v : Vec Element Global) → ShowsReport plain_settings (title_alon
 unfolding lib.Utf8.encode
 empty_text v shown =
     let page : Page = graphic_form plain_settings (title_alone v) in
-    let right : [] ≡ encode_utf8_all (codes "error: e") = plain_printed plain_sheet page [] (no_links_are v) refl
-    (unset-shows _ _ _ _ shown refl).printed.0
-    ∙ ap encode_utf8_all (plain_text_is v) in
-    cc
+    let right : [] ≡ encode_utf8_all (codes "error: e") =
+    plain_printed plain_sheet page [] (no_links_are v) refl (unset-shows _ _ _ _ shown refl).printed.0 ∙ ap encode_utf8_all (plain_text_is v) in cc
 
 -- ---- codes
 
@@ -66,16 +64,7 @@ printed =
       lines = pieces ∷ [];
       text_is = refl;
       prints = (
-        (
-          refl,
-          differs,
-          inl refl,
-          (
-            refl,
-            refl,
-            (unlinked_cell MainHeaderMsg 101, [], refl, refl, refl, refl, (refl, ends, inl refl, (refl, refl, refl))),
-          ),
-        ),
+        (refl, differs, inl refl, (refl, refl, (unlinked_cell MainHeaderMsg 101, [], refl, refl, refl, refl, (refl, ends, inl refl, (refl, refl, refl))))),
         tt,
       );
     }
@@ -90,8 +79,7 @@ printed =
 only_text : (v : Vec Element Global) (text : List ℕ) → ShowsReport coloured (nameless v) default_sheet text → text ≡ bold_text
 only_text v text shown =
     let page : PrintsPage default_sheet (record { level = Error; title = bold_row ∷ []; elements = [] } ∷ []) text = subst (λ page.
-    PrintsPage default_sheet page text) (page_is v) (unset-shows _ _ _ _ shown refl).printed.0 in
-    page.joined ∙ joined page.parts page.printed
+    PrintsPage default_sheet page text) (page_is v) (unset-shows _ _ _ _ shown refl).printed.0 in page.joined ∙ joined page.parts page.printed
   where
     joined : (parts : List (List ℕ)) → AllZip (λ (g : GroupPage) part. Prints default_sheet g.level (group_rows g) part)
         (record { level = Error; title = bold_row ∷ []; elements = [] } ∷ []) parts
@@ -104,14 +92,10 @@ only_text v text shown =
 --
 --     e
 no_codes : (v : Vec Element Global) → ShowsReport coloured (nameless v) default_sheet (codes "e") → ⊥
-no_codes v shown =
-    let byte : ◌≡◌ {A = ℕ} 101 27 = ap (λ (bs : List ℕ). slice_index_or bs 0 0) (only_text v (codes "e") shown) in
-    absurd (omega (arith, byte))
+no_codes v shown = let byte : ◌≡◌ {A = ℕ} 101 27 = ap (λ (bs : List ℕ). slice_index_or bs 0 0) (only_text v (codes "e") shown) in absurd (omega (arith, byte))
 
 -- a space more, after the codes of a style:
 --
 --     <bold> e<off>
 styled_cells_padded : (v : Vec Element Global) → ShowsReport coloured (nameless v) default_sheet (27 ∷ codes "[1m e" ++ 27 ∷ codes "[0m") → ⊥
-styled_cells_padded v shown =
-    let byte : ◌≡◌ {A = ℕ} 32 101 = ap (λ (bs : List ℕ). slice_index_or bs 4 0) (only_text v (27 ∷ codes "[1m e" ++ 27 ∷ codes "[0m") shown) in
-    absurd (omega (arith, byte))
+styled_cells_padded v shown = let byte : ◌≡◌ {A = ℕ} 32 101 = cc (only_text v (27 ∷ codes "[1m e" ++ 27 ∷ codes "[0m") shown) in absurd (omega (arith, byte))

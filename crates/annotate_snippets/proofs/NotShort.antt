@@ -37,8 +37,7 @@ titles_left_out v given =
     let none : links_of rows ≡ [] = links_are v shown.group shown.title shown.first shown.titled in
     let woven : IsWoven plain_sheet [] (plain_text rows) (links_of rows) = IsWoven-from_prints plain_sheet shown.group.level rows [] shown.printed.0 in
     let right : [] ≡ encode_utf8_all (codes "error: e") = plain_woven plain_sheet [] (plain_text rows) (links_of rows) refl none woven
-    ∙ ap encode_utf8_all (title_is v shown.group shown.title shown.first shown.titled) in
-    cc
+    ∙ ap encode_utf8_all (title_is v shown.group shown.title shown.first shown.titled) in cc
 
 -- ---- another place than the first
 
@@ -65,8 +64,7 @@ origin_of_first_given_span v w title rows wrong shown =
     let at : (begins.place.line ≡ 1) × (begins.place.column ≡ Some 1) = at_first begins.place begins.is in
     let right : row_text (row_at rows 0) ≡ codes "f:1:1" ++ (codes ": " ++ begins.rest) =
     grind (arith, common_steps, begins, codes, at, begins.text, begins.place.column, begins.rest, at.0, at.1) in
-    let digit : ◌≡◌ {A = ℕ} 50 49 = ap (λ (cs : List ℕ). slice_index_or cs 4 0) (sym wrong ∙ right) in
-    absurd (omega (arith, digit))
+    let digit : ◌≡◌ {A = ℕ} 50 49 = ap (λ (cs : List ℕ). slice_index_or cs 4 0) (sym wrong ∙ right) in absurd (omega (arith, digit))
 
 -- a primary span of the second character of `éb`, which is byte 2
 abbrev of_second : Vec Annotation Global → Snippet Annotation
@@ -87,5 +85,4 @@ origin_by_byte v w title rows wrong shown =
     let at : (begins.place.line ≡ 1) × (begins.place.column ≡ Some 2) = at_second begins.place begins.is in
     let right : row_text (row_at rows 0) ≡ codes "f:1:2" ++ (codes ": " ++ begins.rest) =
     grind (arith, common_steps, begins, codes, at, begins.text, begins.place.column, begins.rest, at.0, at.1) in
-    let digit : ◌≡◌ {A = ℕ} 51 50 = ap (λ (cs : List ℕ). slice_index_or cs 4 0) (sym wrong ∙ right) in
-    absurd (omega (arith, digit))
+    let digit : ◌≡◌ {A = ℕ} 51 50 = ap (λ (cs : List ℕ). slice_index_or cs 4 0) (sym wrong ∙ right) in absurd (omega (arith, digit))

@@ -85,11 +85,7 @@ whole_line s source marks is plain =
 -- then no column is dropped, and the row below has to have the line's marks
 other_marks : (source : List ℕ) (marks : List Annotation) (cells : List Cell) → IsPlainLine source marks
     → ((s : Snippet Annotation) → IsSnippetOf s source marks → ShowsMarksOf Ascii layout s 0 0 (row_below cells) → ⊥) → AreOtherMarks source marks cells
-other_marks source marks cells plain wrong =
-    record {
-      below = wrong;
-      above = grind (arith, common_steps, whole_line, plain.qualified);
-    }
+other_marks source marks cells plain wrong = record { below = wrong; above = grind (arith, common_steps, whole_line, plain.qualified) }
 
 -- ---- marks
 
@@ -168,8 +164,7 @@ greater i j (l ∷ js) ks ascending = grind (arith, greater l j js ks ascending.
 -- so none stands there twice
 pub two_of_one : (k : ℕ) (before between after : List ℕ) → IsAscending (before ++ (k ∷ (between ++ (k ∷ after)))) → ⊥
 two_of_one k [] between after ascending = grind (arith, greater)
-two_of_one k (j ∷ before) between after ascending =
-    two_of_one k before between after (rest_ascends j (before ++ (k ∷ (between ++ (k ∷ after)))) ascending)
+two_of_one k (j ∷ before) between after ascending = two_of_one k before between after (rest_ascends j (before ++ (k ∷ (between ++ (k ∷ after)))) ascending)
 
 -- ---- rows and their names
 
@@ -222,8 +217,7 @@ coloured_separator s k dropped shown =
 second_copy : (k : ℕ) (row copy : NamedRow) (before between after : List NamedRow) (closes : Bool) → row.name ≡ SourceRow k → copy.name ≡ SourceRow k
     → (IsAscending (lines_named (before ++ (row ∷ (between ++ (copy ∷ after))))) → ⊥) × (IsRowBelow Ascii layout closes (source_row (codes "a")) → ⊥)
 second_copy k row copy before between after closes row_is copy_is = (
-  λ ascending. two_of_one k (lines_named before) (lines_named between) (lines_named after)
-      (simp (filter_map-append, row_is, copy_is) at ascending),
+  λ ascending. two_of_one k (lines_named before) (lines_named between) (lines_named after) (simp (filter_map-append, row_is, copy_is) at ascending),
   λ below.
       let digit : true ≡ false = unnumbered_below Ascii layout closes (source_row (codes "a")) below 0 (omega arith) in cc,
 )
@@ -385,8 +379,7 @@ marks_not_shifted s is shown =
     let at : IsMarkedAt source 0 2 span = is_marked_at source span 2 3 (record { marked = refl; start_is = refl; end_is = refl }) 2 (omega arith)
     (omega arith) in
     let mark : IsMarkOf source (span ∷ []) 0 2 Primary = mark_of_one source 0 2 span at in
-    let cell : IsMarkCell Ascii Primary SPACE = shown.marks 2 Primary
-    (subst (λ text. IsMarkOf text s.markers.items 0 2 Primary) (sym is.source_is)
+    let cell : IsMarkCell Ascii Primary SPACE = shown.marks 2 Primary (subst (λ text. IsMarkOf text s.markers.items 0 2 Primary) (sym is.source_is)
     (subst (λ spans. IsMarkOf source spans 0 2 Primary) (sym is.marks_are) mark)) in
     let same : SPACE.ch ≡ char_of (codes "^") = caret SPACE.ch cell.0 in
     absurd (omega (arith, same))

@@ -22,8 +22,7 @@ rows_alone layout around found s lines layout_is alone shown = grind (arith, aro
 narrow_layout : (layout : Layout) (s : Snippet Patch) → layout.gutter ≡ 1 → layout.decor ≡ Ascii → layout.label_lines ≡ false → layout.label_end ≡ 0
     → s.line_numbering ≡ true
     → suggestion_layout plain_settings layout s ≡ ascii layout.code
-narrow_layout layout s narrow plain uncut unbroken numbered =
-    grind (arith, layout.gutter, layout.code, layout.label_lines, layout.label_end, s.line_numbering)
+narrow_layout layout s narrow plain uncut unbroken numbered = grind (arith, layout.gutter, layout.code, layout.label_lines, layout.label_end, s.line_numbering)
 
 -- ---- a mark beside what it belongs to
 

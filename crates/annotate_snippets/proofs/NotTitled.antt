@@ -50,8 +50,7 @@ id_drawn_raw place follows rows wrong shown = in_own shown.own shown.rows_are (t
         → row_text (row_at own 0) ≡ codes "error[" ++ 0x241B ∷ codes "]: e" → ⊥
     in_own [] same right = cc
     in_own (row ∷ own) same right =
-        let both : codes "error[" ++ 27 ∷ codes "]: e" ≡ codes "error[" ++ 0x241B ∷ codes "]: e" = sym wrong
-        ∙ ap (λ all. row_text (row_at all 0)) same ∙ right in
+        let both : codes "error[" ++ 27 ∷ codes "]: e" ≡ codes "error[" ++ 0x241B ∷ codes "]: e" = cc (wrong, same, right) in
         let letter : ◌≡◌ {A = ℕ} 27 0x241B = ap (λ (cs : List ℕ). slice_index_or cs 6 0) both in
         absurd (omega (arith, letter))
 

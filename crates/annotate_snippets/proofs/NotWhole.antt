@@ -63,8 +63,7 @@ unnamed closes s is (SourceRow k) cells rows none shows =
     let IsNumber : Bool → ℕ → Type 0 = λ numbered number. row_text (take (length (number_text plain_settings numbered 1 number)) cells)
     ≡ number_text plain_settings numbered 1 number in
     let one : s.line_start + k ≡ 1 = omega (arith, first, is.first) in
-    let text : row_text (take 1 cells) ≡ codes "1" = subst (IsNumber true) one
-    (subst (λ numbered. IsNumber numbered (s.line_start + k)) is.numbered
+    let text : row_text (take 1 cells) ≡ codes "1" = subst (IsNumber true) one (subst (λ numbered. IsNumber numbered (s.line_start + k)) is.numbered
     (number_of_left Ascii 1 (number_text plain_settings s.line_numbering 1 (s.line_start + k)) cells shows.line.left)) in
     absurd (digit_left_out cells none text)
 unnamed closes s is Elision cells rows none shows = refl
@@ -85,8 +84,7 @@ none_named closes s is (row ∷ rows) none named =
 -- rows without numbers among others
 unnumbered_after : (rows more : List NamedRow) → All (λ row. HasNoNumber 1 row.cells) (rows ++ more) → All (λ row. HasNoNumber 1 row.cells) more
 unnumbered_after [] more all = all
-unnumbered_after (row ∷ rows) more all =
-    unnumbered_after rows more (All-tail (λ r. HasNoNumber 1 r.cells) row (rows ++ more) all)
+unnumbered_after (row ∷ rows) more all = unnumbered_after rows more (All-tail (λ r. HasNoNumber 1 r.cells) row (rows ++ more) all)
 
 unnumbered_before : (rows more : List NamedRow) → All (λ row. HasNoNumber 1 row.cells) (rows ++ more) → All (λ row. HasNoNumber 1 row.cells) rows
 unnumbered_before [] more all = All-nil (λ row. HasNoNumber 1 row.cells)
@@ -162,8 +160,7 @@ linked_elsewhere : (r : Renderer) (text : CowStr Global) (id : Option Id) (trust
     (rows : List (List Cell)) (url : List ℕ) → (cell_at rows 0 0).link ≡ Some url
     → ShowsTitle r layout place follows (record { level = error_level; id = id; text = text; allows_styling = trusted }) rows → ⊥
 unfolding chars norm
-linked_elsewhere r text id trusted place follows rows url wrong shown =
-    in_own shown.own shown.rows_are (links_of_heading shown.shows 0 0)
+linked_elsewhere r text id trusted place follows rows url wrong shown = in_own shown.own shown.rows_are (links_of_heading shown.shows 0 0)
   where
     below : (decor : DecorStyle) (first second : Bool)
         → (cell_at (if first then separator_row decor 1 ∷ [] else (if second then closing_row decor 1 ∷ [] else [])) 0 0).link ≡ None
@@ -176,9 +173,7 @@ linked_elsewhere r text id trusted place follows rows url wrong shown =
         let both : ◌≡◌ {A = Option (List ℕ)} (Some url) None = sym wrong ∙ ap (λ all. (cell_at all 0 0).link) same
         ∙ below layout.decor (is_before_message follows) (is_end follows && is_first_of_several place && not trusted) in
         cc
-    in_own (row ∷ own) same none =
-        let both : ◌≡◌ {A = Option (List ℕ)} (Some url) None = sym wrong ∙ ap (λ all. (cell_at all 0 0).link) same ∙ none in
-        cc
+    in_own (row ∷ own) same none = let both : ◌≡◌ {A = Option (List ℕ)} (Some url) None = sym wrong ∙ ap (λ all. (cell_at all 0 0).link) same ∙ none in cc
 
 -- ---- a later column than the least
 
@@ -216,8 +211,7 @@ at_first place is =
         absurd (omega (arith, two))
 
     by_first : (first ≡ is.span) ⊎ Contains [] is.span → (place.line ≡ 1) × (place.column ≡ Some 1)
-    by_first (inl same) =
-        (is.line ∙ ap (λ a. 1 + first_line (codes "ab") a) (sym same), is.column ∙ ap (λ a. Some (start_at source_ab a)) (sym same))
+    by_first (inl same) = (is.line ∙ ap (λ a. 1 + first_line (codes "ab") a) (sym same), is.column ∙ ap (λ a. Some (start_at source_ab a)) (sym same))
     by_first (inr rest) = absurd (Contains-nil is.span rest)
 
 origin_of_first_given_span : (s : Snippet Annotation) → IsSnippetOf s (codes "ab") both_spans → s.line_start ≡ 1 → (row : List Cell)
@@ -305,7 +299,6 @@ closing_left_out s around first last rows row cells shown =
     let closing : NamedRow = record { name = Other; cells = closing_row Ascii 1 } in
     let head : List NamedRow = others (cause_head plain_settings layout around s) in
     let closes : rows_after_cause plain_settings layout around ≡ closing_row Ascii 1 ∷ [] = grind (arith, common_steps, layout) in
-    let same : rows ++ row ∷ [] ≡ (head ++ shown.after) ++ closing ∷ [] = shown.rows_are ∙ ap (λ tail. head ++ (shown.after ++ others tail)) closes
-    ∙ sym (append_assoc head shown.after (closing ∷ [])) in
+    let same : rows ++ row ∷ [] ≡ (head ++ shown.after) ++ closing ∷ [] = cc (shown.rows_are, closes, append_assoc head shown.after (closing ∷ [])) in
     let is : row.cells ≡ closing_row Ascii 1 = ap (λ (r : NamedRow). r.cells) (last_row rows (head ++ shown.after) row closing same) in
     absurd (omega (arith, ap length (sym cells ∙ is)))

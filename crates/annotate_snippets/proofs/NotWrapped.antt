@@ -26,17 +26,14 @@ lost room false is = grind (arith, is.kept)
 broken : (room : ℕ) (trusted : Bool) → IsRewrapped room (letters_of trusted (chars given)) (letters_of trusted (chars (codes "the borrow che\ncker")))
     → AreWithin room (words_of (letters_of trusted (chars given))) → ⊥
 unfolding chars
-broken room true is within =
-    let more : ◌≡◌ {A = ℕ} 4 3 = ap (λ (ws : List (List Letter)). length ws) (is.words within) in
-    absurd (omega (arith, more))
+broken room true is within = let more : ◌≡◌ {A = ℕ} 4 3 = ap (λ (ws : List (List Letter)). length ws) (is.words within) in absurd (omega (arith, more))
 broken room false is within =
     let more : ◌≡◌ {A = ℕ} 4 3 = ap (λ (ws : List (List Letter)). length ws) (is.words within) in
     absurd (omega (arith, more))
 
 pub word_broken : (room : ℕ) (trusted : Bool) (a b : CowStr Global) → cow_str_bytes a ≡ given → cow_str_bytes b ≡ codes "the borrow che\ncker"
     → AreWithin room (words_of (letters_of trusted (chars given))) → IsTextRewrapped room trusted a b → ⊥
-word_broken room trusted a b is shown within texts =
-    broken room trusted (by_bytes room trusted a b given (codes "the borrow che\ncker") is shown texts) within
+word_broken room trusted a b is shown within texts = broken room trusted (by_bytes room trusted a b given (codes "the borrow che\ncker") is shown texts) within
 
 -- nor the text itself, where it is wider than the room
 wide : (trusted : Bool) → columns_of (letters_of trusted (chars given)) ≡ 18
@@ -66,8 +63,7 @@ ends_empty room false is = grind (arith, is.empty)
 
 pub empty_row : (room : ℕ) (trusted : Bool) (a b : CowStr Global) → cow_str_bytes a ≡ codes "the borrow " → cow_str_bytes b ≡ codes "the borrow\n"
     → IsTextRewrapped room trusted a b → ⊥
-empty_row room trusted a b is shown texts =
-    ends_empty room trusted (by_bytes room trusted a b (codes "the borrow ") (codes "the borrow\n") is shown texts)
+empty_row room trusted a b is shown texts = ends_empty room trusted (by_bytes room trusted a b (codes "the borrow ") (codes "the borrow\n") is shown texts)
 
 -- nor one in which the code `ESC [ 0 m` of a trusted text is torn apart
 abbrev pub coded : List ℕ

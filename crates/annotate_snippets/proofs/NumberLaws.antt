@@ -1,15 +1,14 @@
 -- A row of an element begins with a number only where it shows a line.
 use Rattle.std.proofs.lemmas.Grind.{common_steps}
-use Rattle.annotate_snippets.proofs.Common.{◌≡◌, ℕ, ◌<◌, ◌==◌, ◌&&◌, ◌||◌, Bool, true, false, not, cond, Option, None, Some, List, []}
-use Rattle.annotate_snippets.proofs.Common.{◌∷◌, ◌++◌, All, length, get_or, inl, inr, refl, sym, subst, arith, is_ascii_alphanumeric, list_all}
-use Rattle.annotate_snippets.proofs.Common.{list_any, cases_Bool, eqb-true, false≢true, All-append, All-cons, All-from_get_or, All-head, All-nil, All-tail}
-use Rattle.annotate_snippets.proofs.Common.{All-weaker, slice_get_cases, HasNoNumber, Annotation, Element, Patch, Snippet, Cell, SPACE, DecorStyle, Ascii}
-use Rattle.annotate_snippets.proofs.Common.{Unicode, placeholder_of, suggestion_glyph_of, is_stroke, SuggestionStart, primary_start, message_rows-unnumbered}
-use Rattle.annotate_snippets.proofs.Common.{snippet_head-unnumbered, closing_row-unnumbered, origin_row-unnumbered, padding_row-unnumbered}
-use Rattle.annotate_snippets.proofs.Common.{separator_row-unnumbered, Renderer, ElementContext, GroupPosition, Layout, closes_with, context_at, path_bytes}
-use Rattle.annotate_snippets.proofs.Common.{shows_a_line, RowName, SourceRow, Elision, OfferedLine, RemovedLine, Other, NamedRow, GroupPage, others, cause_head}
-use Rattle.annotate_snippets.proofs.Common.{origin_layout, path_row, rows_after_cause, suggestion_head, AreElementsShown, ShowsElement, AreRowsOf, IsRowOf}
-use Rattle.annotate_snippets.proofs.Common.{IsSuggestionRow, closing_row, separator_row}
+use Rattle.annotate_snippets.proofs.Common.{◌≡◌, ℕ, ◌<◌, ◌==◌, ◌&&◌, ◌||◌, Bool, true, false, not, cond, Option, None, Some, List, [], ◌∷◌, ◌++◌, All, length}
+use Rattle.annotate_snippets.proofs.Common.{get_or, inl, inr, refl, sym, subst, arith, is_ascii_alphanumeric, list_all, list_any, cases_Bool, eqb-true}
+use Rattle.annotate_snippets.proofs.Common.{false≢true, All-append, All-cons, All-from_get_or, All-head, All-nil, All-tail, All-weaker, slice_get_cases}
+use Rattle.annotate_snippets.proofs.Common.{HasNoNumber, Annotation, Element, Patch, Snippet, Cell, SPACE, DecorStyle, Ascii, Unicode, placeholder_of}
+use Rattle.annotate_snippets.proofs.Common.{suggestion_glyph_of, is_stroke, SuggestionStart, primary_start, message_rows-unnumbered, snippet_head-unnumbered}
+use Rattle.annotate_snippets.proofs.Common.{closing_row-unnumbered, origin_row-unnumbered, padding_row-unnumbered, separator_row-unnumbered, Renderer}
+use Rattle.annotate_snippets.proofs.Common.{ElementContext, GroupPosition, Layout, closes_with, path_bytes, shows_a_line, RowName, SourceRow, Elision}
+use Rattle.annotate_snippets.proofs.Common.{OfferedLine, RemovedLine, Other, NamedRow, GroupPage, others, cause_head, origin_layout, path_row, rows_after_cause}
+use Rattle.annotate_snippets.proofs.Common.{suggestion_head, AreElementsShown, ShowsElement, AreRowsOf, IsRowOf, IsSuggestionRow, closing_row, separator_row}
 use Rattle.snippet_model.specs.declared.snippet.Element.TheVariants as element
 use Rattle.snippet_style.specs.declared.glyphs.SuggestionGlyph.TheVariants as sign
 use Rattle.snippet_suggest.specs.declared.SuggestionStart.TheVariants as start
@@ -88,8 +87,7 @@ row_numbered r layout closes s (SourceRow k) cells rows is none = absurd (false�
 row_numbered r layout closes s Elision cells rows is none = unnumbered_elided layout cells is
 row_numbered r layout closes s (OfferedLine j) cells rows is none = absurd is
 row_numbered r layout closes s (RemovedLine i) cells rows is none = absurd is
-row_numbered r layout closes s Other cells rows is none =
-    unnumbered_below layout.decor layout (closes && length rows == 0) cells is
+row_numbered r layout closes s Other cells rows is none = unnumbered_below layout.decor layout (closes && length rows == 0) cells is
 
 rows_numbered : (r : Renderer) (layout : Layout) (closes : Bool) (s : Snippet Annotation) (rows : List NamedRow) → AreRowsOf r layout closes s rows
     → All (IsNumberedAsLine layout.gutter) rows
@@ -105,8 +103,7 @@ suggested_numbered r decor gutter s (SourceRow k) cells is none = absurd is
 suggested_numbered r decor gutter s Elision cells is none = absurd is
 suggested_numbered r decor gutter s (OfferedLine j) cells is none = absurd (false≢true (sym none))
 suggested_numbered r decor gutter s (RemovedLine i) cells is none = absurd (false≢true (sym none))
-suggested_numbered r decor gutter s Other cells is none =
-    λ c left. stroke_unnumbered decor (get_or cells c SPACE).ch (is.strokes c (omega (arith, left)))
+suggested_numbered r decor gutter s Other cells is none = λ c left. stroke_unnumbered decor (get_or cells c SPACE).ch (is.strokes c (omega (arith, left)))
 
 path_unnumbered : (r : Renderer) (layout : Layout) (first : Bool) (s : Snippet Patch) (path : Option (List ℕ))
     → All (HasNoNumber layout.gutter) (path_row r layout first s path)
@@ -149,13 +146,11 @@ element_numbered r layout around found (element.Padding padding) rows shown =
 -- a group's elements have numbers beside lines alone
 pub group_numbered : (r : Renderer) (layout : Layout) (place : GroupPosition) (file : Option (List ℕ)) (es : List Element) (g : GroupPage)
     → AreElementsShown r layout place file es g.elements → All (λ rows. All (IsNumberedAsLine layout.gutter) rows) g.elements
-group_numbered r layout place file es g shown =
-    All-from_get_or (λ rows. All (IsNumberedAsLine layout.gutter) rows) g.elements [] each
+group_numbered r layout place file es g shown = All-from_get_or (λ rows. All (IsNumberedAsLine layout.gutter) rows) g.elements [] each
   where
     each : (k : ℕ) → k < length g.elements → All (IsNumberedAsLine layout.gutter) (get_or g.elements k [])
     each k within =
         elim (slice_get_cases es k).1 [
-          | inl there ↦ element_numbered r layout (context_at place file es k there.0) (found_at r layout es k) there.0 (get_or g.elements k [])
-              (shown.each k there.0 there.2)
+          | inl there ↦ element_numbered r layout _ (found_at r layout es k) there.0 _ (shown.each k there.0 there.2)
           | inr past ↦ absurd (omega (arith, within, past.0, shown.count))
         ]

@@ -1,13 +1,12 @@
 -- Where no label of a report holds a line feed and no text is wrapped, its page is the same whether labels are cut or not.
-use Rattle.annotate_snippets.proofs.Common.{◌≡◌, ℕ, ◌+◌, ◌==◌, ◌&&◌, ◌||◌, Bool, true, false, List, [], ◌∷◌, ◌++◌, All, length, map, refl, sym, ap, ◌∙◌}
-use Rattle.annotate_snippets.proofs.Common.{All-filter, All-head, All-tail, enumerate_from, None, Option, Some, option_map}
-use Rattle.annotate_snippets.proofs.Common.{Annotation, Cell, Element, Group, Layout, LineAnnotation, Patch, Renderer, Snippet, Title, cow_str_bytes}
-use Rattle.annotate_snippets.proofs.Common.{is_drawn, numbered_source}
+use Rattle.std.proofs.lemmas.Grind.{common_steps}
+use Rattle.annotate_snippets.proofs.Common.{◌≡◌, ℕ, ◌+◌, ◌==◌, ◌&&◌, ◌||◌, Bool, true, false, List, [], ◌∷◌, ◌++◌, All, length, map, refl, sym, ap, ◌∙◌, arith}
+use Rattle.annotate_snippets.proofs.Common.{All-filter, All-head, All-tail, enumerate_from, None, Option, Some, option_map, Annotation, Cell, Element, Group}
+use Rattle.annotate_snippets.proofs.Common.{Layout, LineAnnotation, Patch, Renderer, Snippet, Title, cow_str_bytes, is_drawn, numbered_source}
 use Rattle.annotate_snippets.proofs.LineFeedLaws.{entries_plain}
 use Rattle.annotate_snippets.proofs.OneLineTexts.{IsOneLineLabel}
 use Rattle.annotate_snippets.specs.DrawnReport.{last_row, suggestion_layout, suggestion_lines}
-use Rattle.annotate_snippets.specs.ElementContext.{closes_with, context_at, drawn_elements, file_of_group, is_end, next_of, position_of_group}
-use Rattle.annotate_snippets.specs.ElementContext.{suggestion_rows}
+use Rattle.annotate_snippets.specs.ElementContext.{closes_with, context_at, drawn_elements, file_of_group, is_end, next_of, position_of_group, suggestion_rows}
 use Rattle.annotate_snippets.specs.GraphicForm.{element_rows, gap_below, graphic_form, group_page, margin_in, name_of_row, named_line, rows_of_line}
 use Rattle.annotate_snippets.specs.GraphicForm.{rows_of_lines}
 use Rattle.annotate_snippets.specs.Gutter.{layout_of_group, line_numbers, number_text}
@@ -26,7 +25,6 @@ use Rattle.snippet_strokes.specs.SourceRows.{source_row, window_cells}
 use Rattle.snippet_strokes.specs.StrokeRows.{highlighted_row}
 use Rattle.snippet_suggest.proofs.CutLabels.{body_same, row_same}
 use Rattle.snippet_suggest.specs.RowOrder.{Ends, SuggestionRow}
-use Rattle.snippet_suggest.specs.Suggested.{body_cells, suggested_cells}
 use Rattle.snippet_suggest.specs.declared.SuggestionLayout.{SuggestionLayout}
 use Rattle.snippet_suggest.specs.declared.SuggestionStart.TheVariants as start
 use Rattle.snippet_text.specs.Normalized.{norm}
@@ -43,9 +41,7 @@ use Rattle.std.specs.Prelude.{◌-◌, filter, if◌then◌else◌, not}
 map_numbered : {X Y : Type 0} (P : X → Type 0) (f g : ℕ → X → Y) → ((n : ℕ) (x : X) → P x → f n x ≡ g n x) → (n : ℕ) (xs : List X) → All P xs
     → map (λ pair. f pair.0 pair.1) (enumerate_from n xs) ≡ map (λ pair. g pair.0 pair.1) (enumerate_from n xs)
 map_numbered P f g same n [] all = refl
-map_numbered P f g same n (x ∷ xs) all =
-    ap (λ y. y ∷ map (λ pair. f pair.0 pair.1) (enumerate_from (n + 1) xs)) (same n x (All-head P x xs all))
-    ∙ ap (λ ys. g n x ∷ ys) (map_numbered P f g same (n + 1) xs (All-tail P x xs all))
+map_numbered P f g same n (x ∷ xs) all = cc (same n x (All-head P x xs all), map_numbered P f g same (n + 1) xs (All-tail P x xs all))
 
 -- the labels of an element hold no line feed
 abbrev HasPlainLabels : Element → Type 0
@@ -99,8 +95,7 @@ module _ (r : Renderer) (layout : Layout) (none : layout.label_end ≡ 0) (lines
 
   head_same : (around : ElementContext) (s : Snippet Patch)
       → suggestion_head (R lines) (L cut) around s ≡ suggestion_head (R false) (L false) around s
-  head_same around s =
-      ap (λ rows. elim around.start [ start.Path ↦ rows | begin ↦ [] ]) (path_same around.first s (option_map cow_str_bytes s.path))
+  head_same around s = ap (λ rows. elim around.start [ start.Path ↦ rows | begin ↦ [] ]) (path_same around.first s (option_map cow_str_bytes s.path))
 
   element_as_whole : (around : ElementContext) (found other : List Cell) → found ≡ other → (e : Element) → HasPlainLabels e
       → element_rows (R lines) (L cut) around found e ≡ element_rows (R false) (L false) around other e
@@ -109,9 +104,7 @@ module _ (r : Renderer) (layout : Layout) (none : layout.label_end ≡ 0) (lines
   element_as_whole around found other same (element.Cause s) plain =
       ap (λ rows. others (cause_head r layout around s) ++ (rows ++ others (rows_after_cause r layout around)))
       (lines_as_whole s (plain s refl) (closes_with around) [] (shown_lines s.fold (cow_str_bytes s.source.text) s.markers.items))
-  element_as_whole around found other same (element.Suggestion s) plain =
-      ap (λ head. named head (suggestion_lines (R lines) (L cut) around found s)) (head_same around s)
-      ∙ ap (named (suggestion_head (R false) (L false) around s)) own_same
+  element_as_whole around found other same (element.Suggestion s) plain = cc (head_same around s, own_same)
     where
       named : List (List Cell) → List (List Cell) → List NamedRow
       named head rows = others head ++ map (λ pair. record { name = name_of_row s pair.0; cells = pair.1 }) (zip (suggestion_rows around s) rows)
@@ -129,12 +122,7 @@ module _ (r : Renderer) (layout : Layout) (none : layout.label_end ≡ 0) (lines
       under row = elim around.start [ start.Opening ↦ [] | start.Next ↦ row | start.Path ↦ separator_row layout.decor layout.gutter ]
 
       own_same : suggestion_lines (R lines) (L cut) around found s ≡ suggestion_lines (R false) (L false) around other s
-      own_same =
-          ap (λ row. suggestion_lines (R lines) (L cut) around row s) same
-          ∙ ap (λ rows. rows ++ (if around.shared then [] else suggested_cells (at cut) s [] ends ∷ []))
-          (body_same layout numbers cut s around.start (under other))
-          ∙ ap (λ last. body_cells (at false) around.start s (under other) ++ (if around.shared then [] else last ∷ []))
-          (row_same layout numbers cut s [] ends)
+      own_same = grind (arith, common_steps, at, ends, body_same, numbers, under, row_same)
   element_as_whole around found other same (element.Origin origin) plain = refl
   element_as_whole around found other same (element.Padding padding) plain = refl
 

@@ -1,8 +1,7 @@
 -- Texts on one line, one by one: what HasOneLineTexts says of all texts of a report, by groups, titles and elements.
-use Rattle.annotate_snippets.proofs.Common.{◌≡◌, ℕ, ◌==◌, Bool, true, false, List, [], ◌∷◌, ◌++◌, All, Option, None, Some, IfSome, cow_str_bytes}
-use Rattle.annotate_snippets.proofs.Common.{cons_option, filter_map, flat_map, option_map, option_to_list, All-append, All-cons, All-head, All-nil, All-tail}
-use Rattle.annotate_snippets.proofs.Common.{if◌then◌else◌, All-weaker}
-use Rattle.annotate_snippets.proofs.Common.{Cell, name_of, Level, Annotation, Element, Group, Id, Title, path_bytes, HasNoFeed, HasOneLineTexts}
+use Rattle.annotate_snippets.proofs.Common.{◌≡◌, ℕ, ◌==◌, Bool, true, false, List, [], ◌∷◌, ◌++◌, All, Option, None, Some, IfSome, cow_str_bytes, cons_option}
+use Rattle.annotate_snippets.proofs.Common.{filter_map, flat_map, option_map, option_to_list, All-append, All-cons, All-head, All-nil, All-tail, if◌then◌else◌}
+use Rattle.annotate_snippets.proofs.Common.{All-weaker, Cell, name_of, Level, Annotation, Element, Group, Id, Title, path_bytes, HasNoFeed, HasOneLineTexts}
 use Rattle.annotate_snippets.proofs.Common.{row_texts_of_element, row_texts_of_title, GroupPage, group_rows}
 use Rattle.std.proofs.Common.{chars}
 use Rattle.snippet_model.specs.declared.snippet.Element.TheVariants as element
@@ -186,8 +185,7 @@ module _ (cut : Bool) where
   element_written : (e : Element) → IsOneLineElement cut e → All IsPlain (row_texts_of_element cut e)
   element_written (element.Message message) plain = All-cons IsPlain (name_of message.level) [] plain (All-nil IsPlain)
   element_written (element.Cause snippet) plain =
-      All-append IsPlain (option_to_list (path_bytes snippet.path)) (whole_texts snippet.markers.items)
-      (text_written (path_bytes snippet.path) plain.0) (whole_written snippet.markers.items plain.1)
+      All-append IsPlain _ _ (text_written (path_bytes snippet.path) plain.0) (whole_written snippet.markers.items plain.1)
   element_written (element.Suggestion snippet) plain = text_written (path_bytes snippet.path) plain
   element_written (element.Origin origin) plain = All-cons IsPlain (cow_str_bytes origin.path) [] plain (All-nil IsPlain)
   element_written (element.Padding padding) plain = All-nil IsPlain
@@ -206,8 +204,7 @@ module _ (cut : Bool) where
 
   group_written : (g : Group) → IsOneLineGroup cut g → All IsPlain (group_texts g)
   group_written g plain =
-      All-append IsPlain (flat_map row_texts_of_title (option_to_list g.title)) (flat_map (row_texts_of_element cut) g.elements.items)
-      (titles_written g.title plain.0)
+      All-append IsPlain _ _ (titles_written g.title plain.0)
       (each_written (IsOneLineElement cut) (row_texts_of_element cut) element_read element_written g.elements.items plain.1)
 
   -- the texts of all groups are on one line where those of each are

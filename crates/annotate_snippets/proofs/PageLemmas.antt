@@ -1,12 +1,12 @@
 -- The rows of an annotated snippet's lines, with their names.
-use Rattle.annotate_snippets.proofs.Common.{◌≡◌, ℕ, suc, ◌+◌, ◌<◌, ◌≤◌, ◌==◌, ◌&&◌, nat_lt, Bool, true, false, cond, List, []}
-use Rattle.annotate_snippets.proofs.Common.{◌∷◌, ◌++◌, map, length, refl, sym, ap, ◌∙◌, arith, subst, cow_str_bytes, nat_tests, length-append}
-use Rattle.annotate_snippets.proofs.Common.{length-map, All-head, All-tail, Annotation, Snippet, row_at, Layout, Cell, AnnotatedLineInfo, Margin, KeptLine}
-use Rattle.annotate_snippets.proofs.Common.{kept_line, seen_kept, source_lines, shown_number, IsSpan, shifted, Bar, open_past, HasBarRoom, open_below, gap_row}
-use Rattle.annotate_snippets.proofs.Common.{IsElisionRow, LineView, gap_drawn, CanBeShown, ShowsLine, info_rows_show, room_below, line_seen, AreSeen, Renderer}
-use Rattle.annotate_snippets.proofs.Common.{gap_below, margin_in, named_line, rows_of_line, rows_of_lines, line_numbers, numbered_source, Elision, NamedRow}
-use Rattle.annotate_snippets.proofs.Common.{Other, SourceRow, cells_of, lines_named, others, rows_below, AreRowsOf, ShowsLineAndMarks, IsRowBelow, ShowsLabels}
-use Rattle.annotate_snippets.proofs.Common.{ShowsMarksOf}
+use Rattle.std.proofs.lemmas.Grind.{common_steps}
+use Rattle.annotate_snippets.proofs.Common.{◌≡◌, ℕ, suc, ◌+◌, ◌<◌, ◌≤◌, ◌==◌, ◌&&◌, Bool, true, false, List, [], ◌∷◌, ◌++◌, map, length, refl}
+use Rattle.annotate_snippets.proofs.Common.{sym, ap, ◌∙◌, arith, subst, cow_str_bytes, nat_tests, length-append, length-map, All-head, All-tail, Annotation}
+use Rattle.annotate_snippets.proofs.Common.{Snippet, row_at, Layout, Cell, AnnotatedLineInfo, Margin, KeptLine, kept_line, seen_kept, source_lines}
+use Rattle.annotate_snippets.proofs.Common.{shown_number, IsSpan, shifted, Bar, open_past, HasBarRoom, open_below, gap_row, IsElisionRow, LineView, gap_drawn}
+use Rattle.annotate_snippets.proofs.Common.{CanBeShown, ShowsLine, info_rows_show, room_below, line_seen, AreSeen, Renderer, gap_below, margin_in, named_line}
+use Rattle.annotate_snippets.proofs.Common.{rows_of_line, rows_of_lines, line_numbers, numbered_source, Elision, NamedRow, Other, SourceRow, cells_of}
+use Rattle.annotate_snippets.proofs.Common.{lines_named, others, rows_below, AreRowsOf, ShowsLineAndMarks, IsRowBelow, ShowsLabels, ShowsMarksOf}
 use Rattle.std.specs.List.{All}
 use Rattle.annotate_snippets.proofs.LineWords.{bars_on}
 use Rattle.annotate_snippets.proofs.DrawnLines.{bars_seen, line_drawn}
@@ -57,8 +57,7 @@ module _ (r : Renderer) (layout : Layout) (s : Snippet Annotation)
       record {
         dropped = line.dropped;
         line = source_line r layout s spans margin (margin_room r layout s) refl ordered last open_bars k info rows within seen fits line shows place;
-        marks = λ qualifies. subst (λ row. ShowsMarksOf layout.decor layout s k line.dropped row)
-            (sym (below-first shows.below more
+        marks = λ qualifies. subst (λ row. ShowsMarksOf layout.decor layout s k line.dropped row) (sym (below-first shows.below more
             (marks_there r layout s spans margin (margin_room r layout s) refl ordered last open_bars k info rows within seen fits line shows qualifies)))
             (marks_of_line r layout s spans margin (margin_room r layout s) refl ordered last open_bars k info rows within seen fits line shows qualifies);
         labels = λ uncut. subst (λ lower. ShowsLabels layout.decor layout s k line.dropped lower) (sym (below-own shows.below more ends))
@@ -107,27 +106,15 @@ module _ (r : Renderer) (layout : Layout) (s : Snippet Annotation)
 
   gap_named : (open_bars : List Bar) (j : ℕ) (ks : List ℕ) (more : List NamedRow) → All (HasBarRoom layout) open_bars → AreNamed open_bars ks more
       → IsGapNamed open_bars ks (gap_below r layout open_bars j ks) more
-  gap_named open_bars j [] more bars rest =
-      record { lines = refl; are = rest.are; ends = rest.ends; begins = rest.begins; drawn = rest.drawn }
+  gap_named open_bars j [] more bars rest = record { lines = refl; are = rest.are; ends = rest.ends; begins = rest.begins; drawn = rest.drawn }
   gap_named open_bars j (k ∷ ks) more bars rest =
       let row : NamedRow = record { name = Elision; cells = gap_row layout open_bars } in
-      let is : IsElisionRow layout row.cells = gap_drawn layout open_bars place bars in
-      elim (nat_lt (j + 1) k) as (λ b. IsGapNamed open_bars (k ∷ ks) (cond b (row ∷ []) []) more) [
-        | true ↦ record {
-          lines = refl;
-          are = (is, rest.are);
-          ends = some_more (length more) (length ks);
-          begins = refl;
-          drawn = ((refl, rest.begins), rest.drawn);
-        }
-        | false ↦ record { lines = refl; are = rest.are; ends = rest.ends; begins = rest.begins; drawn = rest.drawn }
-      ]
+      let is : IsElisionRow layout row.cells = gap_drawn layout open_bars place bars in grind (arith, common_steps, some_more, row, is)
 
   -- the bars that are open below a line are those that its spans leave open
   open_seen : (open_bars : List Bar) (k : ℕ) (info : AnnotatedLineInfo) → seen_kept info ≡ line_of_snippet k
       → open_below open_bars info.annotations.items ≡ open_past open_bars (bars_on s k)
-  open_seen open_bars k info seen =
-      ap (open_past open_bars) (bars_seen s k info.annotations.items (ap (λ (l : KeptLine). l.parts) seen))
+  open_seen open_bars k info seen = ap (open_past open_bars) (bars_seen s k info.annotations.items (ap (λ (l : KeptLine). l.parts) seen))
 
   -- rows below a line are drawn with it
   others_drawn : (open_bars : List Bar) (rows : List (List Cell)) (more : List NamedRow) → AreRowsDrawn r layout closes s open_bars more
@@ -139,9 +126,8 @@ module _ (r : Renderer) (layout : Layout) (s : Snippet Annotation)
   last_is : (rows : List (List Cell)) (more : List NamedRow) (last : Bool) → (length more == 0) ≡ last
       → (closes && length rows == length (others rows ++ more)) ≡ (closes && last)
   last_is rows more last ends =
-      ap (λ b. closes && b) (same_long (length rows) (length more) (length (others rows ++ more))
-      (length-append (others rows) more ∙ ap (λ n. n + length more)
-      (length-map rows (λ (cells : List Cell). record { name = Other; cells = cells }))) ∙ ends)
+      ap (λ b. closes && b) (same_long _ _ _
+      (length-append (others rows) more ∙ ap (λ n. n + length more) (length-map rows (λ (cells : List Cell). record { name = Other; cells = cells }))) ∙ ends)
     where
       same_long : (m n all : ℕ) → all ≡ m + n → (m == all) ≡ (n == 0)
       same_long m n all is = grind (arith, nat_tests, is)
@@ -149,8 +135,7 @@ module _ (r : Renderer) (layout : Layout) (s : Snippet Annotation)
   -- the rows of these lines have the names of the lines
   pub named_lines : (open_bars : List Bar) (ks : List ℕ) → All (IsReadyLine s spans r layout) ks → All (HasBarRoom layout) open_bars
       → AreNamed open_bars ks (rows_of_lines r layout closes s open_bars ks)
-  named_lines open_bars [] ready bars =
-      record { lines = refl; are = tt; ends = refl; begins = refl; drawn = tt }
+  named_lines open_bars [] ready bars = record { lines = refl; are = tt; ends = refl; begins = refl; drawn = tt }
   named_lines open_bars (k ∷ ks) ready bars =
       let own : IsReadyLine s spans r layout k = All-head (IsReadyLine s spans r layout) k ks ready in
       let can : CanBeShown layout margin (line_numbers r s.line_numbering) (info_at s spans k) = own.1 in
@@ -174,23 +159,20 @@ module _ (r : Renderer) (layout : Layout) (s : Snippet Annotation)
       let source_row : NamedRow = record { name = SourceRow k; cells = shows.source } in
       let line : IsLineDrawn r layout (closes && last) s open_bars k (shows.source ∷ shows.below) = subst
       (IsLineDrawn r layout (closes && last) s open_bars k) shows.rows_are
-      (line_drawn r layout s margin (margin_room r layout s) refl (closes && last) open_bars k info rows
-      here shown) in
+      (line_drawn r layout s margin (margin_room r layout s) refl _ open_bars k info rows here shown) in
       subst (AreNamed open_bars (k ∷ ks)) (sym (ap (λ rs. named_line k rs ++ after) shows.rows_are)) (record {
         lines = ap (λ js. k ∷ js) (lines_named-others shows.below after ∙ between.lines ∙ below.lines);
         are = (
           line_and_marks (closes && last) open_bars k info rows after own.0 here can.number shown shows between.begins,
           others_are last shows.below after between.ends
-              (λ i inside. row_below layout.decor layout (closes && last) _ _ shows.below i (shows.strokes.are i inside))
-              between.are,
+              (λ i inside. row_below layout.decor layout (closes && last) _ _ shows.below i (shows.strokes.are i inside)) between.are,
         );
         ends = some_more (length (others shows.below ++ after)) (length ks);
         begins = refl;
         drawn = (
           subst (λ below. IsLineDrawn r layout (closes && length below == length (others shows.below ++ after)) s open_bars k (shows.source ∷ below))
               (sym (below-own shows.below after between.begins))
-              (subst (λ b. IsLineDrawn r layout b s open_bars k (shows.source ∷ shows.below)) (sym (last_is shows.below after last between.ends))
-              line),
+              (subst (λ b. IsLineDrawn r layout b s open_bars k (shows.source ∷ shows.below)) (sym (last_is shows.below after last between.ends)) line),
           others_drawn past shows.below after between.drawn,
         );
       })

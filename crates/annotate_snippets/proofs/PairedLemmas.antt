@@ -12,8 +12,7 @@ pub flat-same : {A B : Type 0} (P : A → A → Type 0) (f : A → List B) → (
 flat-same P f same [] [] pairs = refl
 flat-same P f same [] (y ∷ ys) pairs = absurd pairs
 flat-same P f same (x ∷ xs) [] pairs = absurd pairs
-flat-same {B = B} P f same (x ∷ xs) (y ∷ ys) pairs =
-    ap₂ (λ (a b : List B). a ++ b) (same x y pairs.0) (flat-same P f same xs ys pairs.1)
+flat-same {B = B} P f same (x ∷ xs) (y ∷ ys) pairs = ap₂ (λ (a b : List B). a ++ b) (same x y pairs.0) (flat-same P f same xs ys pairs.1)
 
 pub option-same : {A B : Type 0} (P : A → A → Type 0) (f : A → List B) → ((x y : A) → P x y → f y ≡ f x) → (a b : Option A) → SameOption P a b
     → flat_map f (option_to_list b) ≡ flat_map f (option_to_list a)
@@ -28,8 +27,7 @@ pub flat-zip : {A B : Type 0} (P : A → A → Type 0) (Q : B → B → Type 0) 
 flat-zip P Q f each [] [] pairs = tt
 flat-zip P Q f each [] (y ∷ ys) pairs = absurd pairs
 flat-zip P Q f each (x ∷ xs) [] pairs = absurd pairs
-flat-zip P Q f each (x ∷ xs) (y ∷ ys) pairs =
-    zip_append Q (f x) (flat_map f xs) (f y) (flat_map f ys) (each x y pairs.0) (flat-zip P Q f each xs ys pairs.1)
+flat-zip P Q f each (x ∷ xs) (y ∷ ys) pairs = zip_append Q (f x) (flat_map f xs) (f y) (flat_map f ys) (each x y pairs.0) (flat-zip P Q f each xs ys pairs.1)
 
 pub option-zip : {A B : Type 0} (P : A → A → Type 0) (Q : B → B → Type 0) (f : A → List B) → ((x y : A) → P x y → AllZip Q (f x) (f y)) → (a b : Option A)
     → SameOption P a b → AllZip Q (flat_map f (option_to_list a)) (flat_map f (option_to_list b))
@@ -44,8 +42,7 @@ pub faults-same : {X : Type 0} (P : X → X → Type 0) (f g : ℕ → X → Lis
 faults-same P f g same n [] [] pairs = refl
 faults-same P f g same n [] (y ∷ ys) pairs = absurd pairs
 faults-same P f g same n (x ∷ xs) [] pairs = absurd pairs
-faults-same P f g same n (x ∷ xs) (y ∷ ys) pairs =
-    ap₂ (λ (a b : List RenderError). a ++ b) (same n x y pairs.0) (faults-same P f g same (n + 1) xs ys pairs.1)
+faults-same P f g same n (x ∷ xs) (y ∷ ys) pairs = ap₂ (λ (a b : List RenderError). a ++ b) (same n x y pairs.0) (faults-same P f g same (n + 1) xs ys pairs.1)
 
 -- ---- what holds of them
 
@@ -55,8 +52,7 @@ pub all-over : {A : Type 0} (R : A → A → Type 0) (P : A → Type 0) → ((x 
 all-over R P over [] [] pairs all = All-nil P
 all-over R P over [] (y ∷ ys) pairs all = absurd pairs
 all-over R P over (x ∷ xs) [] pairs all = absurd pairs
-all-over R P over (x ∷ xs) (y ∷ ys) pairs all =
-    All-cons P y ys (over x y pairs.0 (All-head P x xs all)) (all-over R P over xs ys pairs.1 (All-tail P x xs all))
+all-over R P over (x ∷ xs) (y ∷ ys) pairs all = All-cons P y ys (over x y pairs.0 (All-head P x xs all)) (all-over R P over xs ys pairs.1 (All-tail P x xs all))
 
 -- what holds of the second of each pair holds of all of them
 pub all-second : {X Y : Type 0} (P : X → Y → Type 0) (Q : Y → Type 0) → ((x : X) (y : Y) → P x y → Q y) → (xs : List X) (ys : List Y) → AllZip P xs ys
@@ -74,8 +70,7 @@ compose P Q R step [] [] (z ∷ zs) first second = absurd second
 compose P Q R step [] (y ∷ ys) zs first second = absurd first
 compose P Q R step (x ∷ xs) [] zs first second = absurd first
 compose P Q R step (x ∷ xs) (y ∷ ys) [] first second = absurd second
-compose P Q R step (x ∷ xs) (y ∷ ys) (z ∷ zs) first second =
-    (step x y z first.0 second.0, compose P Q R step xs ys zs first.1 second.1)
+compose P Q R step (x ∷ xs) (y ∷ ys) (z ∷ zs) first second = (step x y z first.0 second.0, compose P Q R step xs ys zs first.1 second.1)
 
 -- ---- which of them there are
 
@@ -102,8 +97,7 @@ pub record Paired {X : Type 0} (P : X → X → Type 0) (ys : List X) (i : ℕ) 
 pub paired : {X : Type 0} (P : X → X → Type 0) (xs ys : List X) → AllZip P xs ys → (i : ℕ) (x : X) → slice_get xs i ≡ Some x → Paired P ys i x
 paired P [] ys pairs i x there = cc
 paired P (a ∷ xs) [] pairs i x there = absurd pairs
-paired P (a ∷ xs) (b ∷ ys) pairs zero x there =
-    record { other = b; there = refl; pair = subst (λ z. P z b) (some_same there) pairs.0 }
+paired P (a ∷ xs) (b ∷ ys) pairs zero x there = record { other = b; there = refl; pair = subst (λ z. P z b) (some_same there) pairs.0 }
 paired P (a ∷ xs) (b ∷ ys) pairs (suc i) x there =
     let rest : Paired P ys i x = paired P xs ys pairs.1 i x there in record { other = rest.other; there = rest.there; pair = rest.pair }
 

@@ -1,6 +1,6 @@
 -- What is known of the lines of a snippet, in the words of its page.
 use Rattle.annotate_snippets.proofs.Common.{◌≡◌, ℕ, ◌+◌, ◌<◌, ◌≤◌, ◌^◌, ◌&&◌, not, Bool, true, false, List, map, length, count_by}
-use Rattle.annotate_snippets.proofs.Common.{Contains, filter, list_all, Annotation, AnnotatedLineInfo, cond, ◌==◌, ◌||◌, sym, subst, ◌∙◌, get_or}
+use Rattle.annotate_snippets.proofs.Common.{Contains, filter, list_all, Annotation, AnnotatedLineInfo, ◌==◌, ◌||◌, sym, subst, ◌∙◌, get_or}
 use Rattle.annotate_snippets.proofs.Common.{ap, arith, inl, inr, IfSome, [], list_any, cases_Bool, or_parts, nat_tests, All-contains, All-nil, All-weaker}
 use Rattle.annotate_snippets.proofs.Common.{Contains-get_or, get_or-range_with_len, length-range_with_len, range_with_len, keeps, kept_lines, none-unkept}
 use Rattle.annotate_snippets.proofs.Common.{length-in_order, from_map, length-map, count_by-le-length, length-filter, AnnotationFits, LineAnnotationType}
@@ -52,9 +52,7 @@ bar_cell layout deepest code part depth = by part depth
     after : (depth : ℕ) → 0 < depth → depth ≤ deepest → layout.gutter + 3 + depth < layout.code
     after depth some low =
         let more : (deepest == 0) ≡ false = grind (arith, nat_tests, some, low) in
-        let wide : code_after layout.gutter deepest ≡ layout.gutter + 3 + deepest + 1 = ap (λ b.
-        cond b (layout.gutter + 3) (layout.gutter + 3 + deepest + 1)) more in
-        omega (arith, code, wide, low)
+        let wide : code_after layout.gutter deepest ≡ layout.gutter + 3 + deepest + 1 = cc more in omega (arith, code, wide, low)
 
     by : (part : LineAnnotationType) → HasDepthWithin deepest part → HasBarCellAt layout part
     by Singleline depth = tt

@@ -1,12 +1,11 @@
 -- What a suggestion's rows stand below, and the element that they are.
 use Rattle.std.proofs.lemmas.Grind.{common_steps}
 use Rattle.std.proofs.Common.{arith, append_assoc}
-use Rattle.annotate_snippets.proofs.Common.{◌≡◌, ℕ, not, Bool, true, false, if◌then◌else◌, Option, None, Some, List, [], ◌∷◌, ◌++◌}
-use Rattle.annotate_snippets.proofs.Common.{length, refl, sym, ap, ◌∙◌, AllocError, flat_map, is_some, option_to_list, append-nil, on_ok_weaker, row_at}
-use Rattle.annotate_snippets.proofs.Common.{Cell, LineNumbers, Suggestion, Patch, Snippet, SuggestionLayout, SuggestionStart, Opening, Path, Ends, body_cells}
-use Rattle.annotate_snippets.proofs.Common.{rows_shared, suggestion_cells, is_end, path_bytes, suggestion_layout, line_numbers, path_row, suggestion_head}
-use Rattle.annotate_snippets.proofs.Common.{HasPathFor, begins_in_row_above, is_next_start, shared_row, drawn_rows, path_head, Renderer, Layout, ElementContext}
-use Rattle.annotate_snippets.proofs.Common.{separator_row}
+use Rattle.annotate_snippets.proofs.Common.{◌≡◌, ℕ, not, Bool, true, false, if◌then◌else◌, Option, None, Some, List, [], ◌∷◌, ◌++◌, length, refl, sym, ap, ◌∙◌}
+use Rattle.annotate_snippets.proofs.Common.{AllocError, flat_map, is_some, option_to_list, append-nil, on_ok_weaker, row_at, Cell, LineNumbers, Suggestion}
+use Rattle.annotate_snippets.proofs.Common.{Patch, Snippet, SuggestionLayout, SuggestionStart, Opening, Path, Ends, body_cells, rows_shared, suggestion_cells}
+use Rattle.annotate_snippets.proofs.Common.{is_end, suggestion_layout, line_numbers, path_row, suggestion_head, HasPathFor, begins_in_row_above}
+use Rattle.annotate_snippets.proofs.Common.{is_next_start, shared_row, drawn_rows, path_head, Renderer, Layout, ElementContext, separator_row}
 use Rattle.std.specs.Prelude.{OnOk}
 use Rattle.std.specs.declared.result.Result.{Result}
 use Rattle.snippet_suggest.specs.declared.SuggestionStart.TheVariants.{Next}
@@ -33,30 +32,9 @@ begun_below : (r : Renderer) (layout : Layout) (at : SuggestionStart) (first : B
     (above old mid : List (List Cell)) → old ≡ above ++ shared_row (is_next_start at) found → HasPathFor at s
     → (at ≡ Path → mid ≡ old ++ path_head r layout first s) → ((at ≡ Path → ⊥) → mid ≡ old)
     → Begun r layout at found (above ++ suggestion_head_at at r layout first s) mid
-begun_below r layout Opening first s found above old mid is path headed same =
-    record {
-      end = [];
-      is = same (λ is. absurd (cc)) ∙ is ∙ ap (λ rows. rows ++ []) (sym (append-nil above));
-      count = refl;
-      under = refl;
-    }
-begun_below r layout Next first s found above old mid is path headed same =
-    record {
-      end = found ∷ [];
-      is = same (λ is. absurd (cc)) ∙ is ∙ ap (λ rows. rows ++ found ∷ []) (sym (append-nil above));
-      count = refl;
-      under = refl;
-    }
-begun_below r layout Path first s found above old mid is path headed same =
-    let head : List (List Cell) = path_row r layout first s (path_bytes s.path) in
-    let head_is : path_head r layout first s ≡ head ++ (separator_row layout.decor layout.gutter ∷ []) = path_head_is r layout first s
-    (path_bytes s.path) (path refl) in
-    record {
-      end = (separator_row layout.decor layout.gutter ∷ []);
-      is = grind (arith, common_steps, append-nil, head_is, append_assoc, head, layout.decor, layout.gutter);
-      count = refl;
-      under = refl;
-    }
+begun_below r layout Opening first s found above old mid is path headed same = grind (arith, common_steps, append-nil)
+begun_below r layout Next first s found above old mid is path headed same = grind (arith, common_steps, append-nil)
+begun_below r layout Path first s found above old mid is path headed same = grind (arith, common_steps, path_head_is, append-nil, append_assoc)
 
 -- whether an element follows
 abbrev pub follows : ElementContext → Bool
@@ -71,8 +49,7 @@ whole suggested at next s under = refl
 -- rows and a last one, which is shared or not
 last_shared : (shares : Bool) (head body : List (List Cell)) (last : List Cell)
     → head ++ (body ++ last ∷ []) ≡ (head ++ (body ++ (if shares then [] else last ∷ []))) ++ shared_row shares last
-last_shared true head body last =
-    sym (append_assoc head body (last ∷ [])) ∙ ap (λ rows. (head ++ rows) ++ last ∷ []) (sym (append-nil body))
+last_shared true head body last = sym (append_assoc head body (last ∷ [])) ∙ ap (λ rows. (head ++ rows) ++ last ∷ []) (sym (append-nil body))
 last_shared false head body last = sym (append-nil (head ++ (body ++ last ∷ [])))
 
 -- the rows of a suggestion below those that it begins with are the element's: its last row is its own, or the next one begins in it

@@ -3,7 +3,7 @@ use Rattle.std.proofs.lemmas.Grind.{common_steps}
 use Rattle.annotate_snippets.proofs.Common.{◌≡◌, ℕ, ◌==◌, ◌&&◌, Bool, true, false, cond, Option, None, Some, List, [], ◌∷◌, All, refl}
 use Rattle.annotate_snippets.proofs.Common.{sym, subst, arith, cow_str_bytes, flat_map, list_any, nat_tests, flat_map-cons, All-append, All-cons, All-head}
 use Rattle.annotate_snippets.proofs.Common.{All-nil, All-tail, Cell, DecorStyle, Ascii, Unicode, norm, shown, Annotation, Snippet, file_glyph, file_row}
-use Rattle.annotate_snippets.proofs.Common.{line_text, origin_row, origin_text, snippet_head, padding_row, FileStart, Alone, First, Later, Secondary}
+use Rattle.annotate_snippets.proofs.Common.{origin_row, origin_text, snippet_head, padding_row, FileStart, Alone, First, Later, Secondary}
 use Rattle.annotate_snippets.proofs.Common.{OriginLayout, OriginLocation, IsDigit, opening_rows-each, nameless_head-each, primary_head-each}
 use Rattle.annotate_snippets.proofs.Common.{secondary_head-each, each-fails, place-each, Renderer, ElementContext, Layout, closes_after, is_before_message}
 use Rattle.annotate_snippets.proofs.Common.{path_bytes, is_first_group, cause_head, origin_rows, rows_after_cause, HasNoFeed, closing_row, separator_row}
@@ -59,8 +59,7 @@ file_plain layout start = grind (arith, after_spaces, cells_plain, each-fails, g
 origin_text-plain : (anonymized : Bool) (path : List ℕ) (place : OriginLocation) → All IsNoFeed (chars path) → All IsNoFeed (origin_text anonymized path place)
 unfolding origin_text
 origin_text-plain anonymized path place plain =
-    All-append IsNoFeed (norm (chars path)) (line_text anonymized place.line place.column) (norm-plain (chars path) plain)
-    (place-each IsNoFeed digit_plain refl refl anonymized place)
+    All-append IsNoFeed _ _ (norm-plain (chars path) plain) (place-each IsNoFeed digit_plain refl refl anonymized place)
 
 -- the row of a path that holds none holds none
 pub row_plain : (layout : OriginLayout) (start : FileStart) (path : List ℕ) (place : OriginLocation) → All IsNoFeed (chars path)
@@ -94,8 +93,7 @@ head_one_line r layout around s plain = grind (arith, head_plain, around.primary
 
 -- nor do the rows below a snippet's lines hold one, whatever follows
 pub after_one_line : (r : Renderer) (layout : Layout) (around : ElementContext) → All HasNoFeed (rows_after_cause r layout around)
-after_one_line r layout around =
-    either (is_first_group around.place && is_before_message around.next)
+after_one_line r layout around = either (is_first_group around.place && is_before_message around.next)
   where
     either : (sets_off : Bool)
         → All HasNoFeed (cond sets_off (separator_row layout.decor layout.gutter ∷ [])

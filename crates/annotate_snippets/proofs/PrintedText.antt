@@ -50,8 +50,7 @@ module _ (sheet : Stylesheet) (level : LevelInner) where
   link_ended : (cells : List Cell) (style : Style) (link : Option Url) → link ≢ next_link cells → PiecesOf (Some style) None cells
       → PiecesOf (Some style) link cells
   link_ended cells style None differs rest = rest
-  link_ended cells style (Some url) differs (ps, prints) =
-      (LinkEnd ∷ ps, ((λ h. none≢some (sym h)), differs, (λ h. none≢some (sym h)), prints))
+  link_ended cells style (Some url) differs (ps, prints) = (LinkEnd ∷ ps, ((λ h. none≢some (sym h)), differs, (λ h. none≢some (sym h)), prints))
 
   -- a cell before which some style and some link are open
   cell_next : (cell : Cell) (cells : List Cell) (style : Style) (link : Option Url) → PiecesOf (Some (own cell)) cell.link cells

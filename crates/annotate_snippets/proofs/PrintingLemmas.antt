@@ -40,8 +40,7 @@ weaves_below sheet level old now fed new (head ∷ rows) (row ∷ more) some oth
       are = (
         are.0,
         are.1 ++ pieces,
-        ap (λ (ps : List Piece). ps ++ pieces) are.2
-            ∙ append_assoc are.0 are.1 pieces,
+        ap (λ (ps : List Piece). ps ++ pieces) are.2 ∙ append_assoc are.0 are.1 pieces,
         are.3,
         further-append sheet level are.1 pieces rows (row ∷ more) are.4 further,
       );
@@ -49,8 +48,7 @@ weaves_below sheet level old now fed new (head ∷ rows) (row ∷ more) some oth
 
 -- no rows are printed by nothing
 weaves_none : (sheet : Stylesheet) (level : LevelInner) (old now : List ℕ) → WeavesRows sheet level [] old now → now ≡ old
-weaves_none sheet level old now woven =
-    woven.text_is ∙ ap (λ (ps : List Piece). old ++ flat_map piece_text ps) woven.are ∙ append-nil old
+weaves_none sheet level old now woven = woven.text_is ∙ ap (λ (ps : List Piece). old ++ flat_map piece_text ps) woven.are ∙ append-nil old
 
 -- rows that are printed below those of a group, be there any or not: after a line feed where there are
 rows_below : (sheet : Stylesheet) (level : LevelInner) (begun : Bool) (old now lead new : List ℕ) (printed more : List (List Cell))
@@ -111,8 +109,7 @@ pub printing_more : (sheet now : Stylesheet) (level own : LevelInner) (old lead 
 printing_more sheet now level own old lead page done rows more same_sheet same_level begun empty flushed some led added printing =
     let woven = subst (λ s. WeavesRows s level more lead (string_bytes done.text)) same_sheet
     (subst (λ l. WeavesRows now l more lead (string_bytes done.text)) same_level added) in
-    let whole : rows ≡ printing.printed = printing.rows_are ∙ ap (λ (below : List (List Cell)). printing.printed ++ below) flushed
-    ∙ append-nil printing.printed in
+    let whole : rows ≡ printing.printed = cc (printing.rows_are, flushed, append-nil printing.printed) in
     let all = rows_below sheet level page.begun old (string_bytes page.text) lead (string_bytes done.text) printing.printed more printing.unbegun
     printing.begun led some printing.woven woven in
     record {
@@ -145,13 +142,11 @@ pub record ElementsPrinted (sheet : Stylesheet) (level : LevelInner) (r : Render
 last_of_later : {X : Type 0} (printed later above : List X) (x : X) → 0 < length later → printed ++ later ≡ above ++ x ∷ []
     → (init : List X) × (later ≡ init ++ x ∷ []) × (above ≡ printed ++ init)
 last_of_later [] later above x some is = (above, is, refl)
-last_of_later (p ∷ printed) later [] x some is =
-    absurd (omega (arith, some, ap length is, length-append printed later))
+last_of_later (p ∷ printed) later [] x some is = absurd (omega (arith, some, ap length is, length-append printed later))
 last_of_later (p ∷ printed) later (a ∷ above) x some is =
     let rest : printed ++ later ≡ above ++ x ∷ [] = cc in
     let first : a ≡ p = cc in
-    let split = last_of_later printed later above x some rest in
-    (split.0, split.1, ap (λ xs. a ∷ xs) split.2 ∙ ap (λ y. y ∷ (printed ++ split.0)) first)
+    let split = last_of_later printed later above x some rest in (split.0, split.1, ap (λ xs. a ∷ xs) split.2 ∙ ap (λ y. y ∷ (printed ++ split.0)) first)
 
 -- an element that is drawn in the grid is drawn below all rows of its group; where the next one shares its last row, the grid has that
 record DrawnBelow (r : Renderer) (layout : Layout) (at : ElementContext) (found : List Cell) (e : Element) (above printed new : List (List Cell))
@@ -165,8 +160,7 @@ drawn_below : (r : Renderer) (layout : Layout) (at : ElementContext) (e : Elemen
     → new ≡ above ++ drawn_rows r layout at found e)
     → (above : List (List Cell)) (found : List Cell) → printed ++ mid ≡ above ++ shared_row (begins_in_row_above at) found
     → DrawnBelow r layout at found e above printed new
-drawn_below r layout at e printed mid new shares adds above found is =
-    by (begins_in_row_above at) refl
+drawn_below r layout at e printed mid new shares adds above found is = by (begins_in_row_above at) refl
   where
     put : (first start : List (List Cell)) → start ≡ printed ++ first → new ≡ first ++ drawn_rows r layout at found e
         → DrawnBelow r layout at found e start printed new
@@ -198,12 +192,7 @@ pub elements_none : (sheet : Stylesheet) (level : LevelInner) (r : Renderer) (la
     (es : List Element) (above : List (List Cell)) (old : List ℕ) (page : Printing) → IsPrinting sheet level old page above
     → ElementsPrinted sheet level r layout place file es 0 above old page
 elements_none sheet level r layout place file es above old page printing =
-    record {
-      rows = above;
-      drawn = drawn_none r layout place file es above;
-      printing = printing;
-      shared = λ is. cc;
-    }
+    record { rows = above; drawn = drawn_none r layout place file es above; printing = printing; shared = λ is. cc }
 
 -- one more, drawn in the grid
 pub elements_drawn : (sheet : Stylesheet) (level : LevelInner) (r : Renderer) (layout : Layout) (place : GroupPosition) (file : Option (List ℕ))
@@ -256,8 +245,7 @@ elements_printed sheet level own r layout place file ps n p at message style abo
           (λ start row ends. plain_added r layout at row p (Message message) start before.rows (before.rows ++ more) more of stands (λ a. a) ends refl
           (rows_are ∙ sym (cells_of-others (message_rows r layout at message))));
       printing = here before.rows before.printing;
-      shared = λ shares. absurd (never (shares_before es (n + 1)) (shares_after es n
-          ∙ sym (ap (λ (a : ElementContext). a.shared) at_is) ∙ alone.1) shares);
+      shared = λ shares. absurd (never (shares_before es (n + 1)) (shares_after es n ∙ sym (ap (λ (a : ElementContext). a.shared) at_is) ∙ alone.1) shares);
     }
   where
     never : (b : Bool) → b ≡ false → b ≡ true → ⊥

@@ -1,7 +1,8 @@
 -- What a report that is made of another, title by title and element by element, has in common with it: its faults, its links, and the listed
 -- characters of its trusted texts.
+use Rattle.std.proofs.lemmas.Grind.{common_steps}
 use Rattle.std.proofs.Common.{arith, chars}
-use Rattle.annotate_snippets.proofs.Common.{◌≡◌, ◌∙◌, ℕ, Bool, true, false, List, [], ◌∷◌, ◌++◌, Option, None, Some, All, IfSome}
+use Rattle.annotate_snippets.proofs.Common.{◌≡◌, ◌∙◌, ℕ, Bool, true, false, List, [], ◌∷◌, Option, None, Some, All, IfSome}
 use Rattle.annotate_snippets.proofs.Common.{if◌then◌else◌, is_none, ◌⊎◌, inl, inr, refl, sym, ap, ap₂, subst, false≢true, All-contains}
 use Rattle.annotate_snippets.proofs.Common.{All-contains_itself, All-weaker, Contains-append_cases, Contains-append_left, Contains-append_right, AllZip}
 use Rattle.annotate_snippets.proofs.Common.{Contains, flat_map, slice_get, option_or, option_to_list, ElementFits, ReportFits, TitleFits, SameOption}
@@ -94,8 +95,7 @@ module _ (T : Title → Title → Type 0) (E : Element → Element → Type 0) w
   missing-made Short [] [] pairs = refl
   missing-made Short [] (b ∷ bs) pairs = absurd pairs
   missing-made Short (a ∷ gs) [] pairs = absurd pairs
-  missing-made Short (a ∷ gs) (b ∷ bs) pairs =
-      ap (λ (missing : Bool). if missing then Some NoTitle else None) (title-there T a.title b.title pairs.0.1)
+  missing-made Short (a ∷ gs) (b ∷ bs) pairs = ap (λ (missing : Bool). if missing then Some NoTitle else None) (title-there T a.title b.title pairs.0.1)
 
   -- what goes over to the title and to the elements goes over to all groups
   pub over-made : (P : Title → Type 0) (Q : Element → Type 0) → ((a b : Title) → T a b → P a → P b) → ((a b : Element) → E a b → Q a → Q b)
@@ -128,12 +128,7 @@ module _ (T : Title → Title → Type 0) (E : Element → Element → Type 0) w
   pub trusted-zip : (Q : List ℕ → List ℕ → Type 0) → ((a b : Title) → T a b → AllZip Q (trusted_of_title a) (trusted_of_title b))
       → ((a b : Element) → E a b → AllZip Q (trusted_of_element a) (trusted_of_element b)) → (groups shown : List Group) → AllZip Made groups shown
       → AllZip Q (trusted_texts groups) (trusted_texts shown)
-  trusted-zip Q title element groups shown pairs =
-      flat-zip Made Q (λ g. flat_map trusted_of_title (option_to_list g.title) ++ flat_map trusted_of_element g.elements.items)
-      (λ a b is. zip_append Q (flat_map trusted_of_title (option_to_list a.title)) (flat_map trusted_of_element a.elements.items)
-      (flat_map trusted_of_title (option_to_list b.title)) (flat_map trusted_of_element b.elements.items)
-      (option-zip T Q trusted_of_title title a.title b.title is.1)
-      (flat-zip E Q trusted_of_element element a.elements.items b.elements.items is.2)) groups shown pairs
+  trusted-zip Q title element groups shown pairs = grind (arith, common_steps, flat-zip, zip_append, option-zip)
 
   module _ (faithful : IsFaithful T E) where
     fault-made : (groups shown : List Group) → AllZip Made groups shown → first_fault shown ≡ first_fault groups

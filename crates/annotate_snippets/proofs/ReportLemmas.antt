@@ -60,8 +60,7 @@ module _ (r : Renderer) (groups : List Group) where
       → IsFreeBut (trusted_texts gs) (page_text page) → IsFreeBut (trusted_texts (g ∷ gs)) (page_text (part ∷ page))
   free_above g gs part [] first rest = free_first g gs (plain_text (group_rows part)) first
   free_above g gs part (other ∷ page) first rest =
-      free_joined (trusted_texts (g ∷ gs)) (plain_text (group_rows part)) (page_text (other ∷ page)) (free_first g gs (plain_text (group_rows part)) first)
-      (free_rest g gs (page_text (other ∷ page)) rest)
+      free_joined _ _ _ (free_first g gs (plain_text (group_rows part)) first) (free_rest g gs (page_text (other ∷ page)) rest)
 
   pages_shown : (n : ℕ) (gs : List Group) → ((i : ℕ) (g : Group) → slice_get gs i ≡ Some g → IsShownAt (n + i) g) → ArePagesShown n gs
   pages_shown n [] shown =
@@ -74,8 +73,7 @@ module _ (r : Renderer) (groups : List Group) where
       }
   pages_shown n (g ∷ gs) shown =
       let here : IsShownAt n g = subst (λ k. IsShownAt k g) (none_more n) (shown 0 g refl) in
-      let rest : ArePagesShown (n + 1) gs = pages_shown (n + 1) gs
-      (λ i h at. subst (λ k. IsShownAt k h) (next i) (shown (suc i) h at)) in
+      let rest : ArePagesShown (n + 1) gs = pages_shown (n + 1) gs (λ i h at. subst (λ k. IsShownAt k h) (next i) (shown (suc i) h at)) in
       let page : GroupPage = page_at r groups n g in
       record {
         count = ap suc rest.count;
@@ -106,13 +104,11 @@ module _ (r : Renderer) (groups : List Group) (drawable : All IsGroupDrawable gr
   page_shown i g at =
       let within : i < length groups = slice_get_within groups i g at in
       let same : get_or groups i g ≡ g = get_or_from_slice_get groups i g g at in
-      group_shown r (layout_of_group r groups g) (position_of_group (length groups) i) (file_of_group groups g) g
-      (subst IsGroupDrawable same (All-get_or IsGroupDrawable groups i g within drawable)) (room_in_report r groups drawable i g at)
+      group_shown r _ _ _ g (subst IsGroupDrawable same (All-get_or IsGroupDrawable groups i g within drawable)) (room_in_report r groups drawable i g at)
       (subst IsTextGroup same (All-get_or IsTextGroup groups i g within texts))
 
   report_page : ArePagesShown r groups 0 groups
-  report_page =
-      pages_shown r groups 0 groups (λ i g at. subst (λ k. IsShownAt r groups k g) (sym (zero-add i)) (page_shown i g at))
+  report_page = pages_shown r groups 0 groups (λ i g at. subst (λ k. IsShownAt r groups k g) (sym (zero-add i)) (page_shown i g at))
 
   -- it shows each group
   page_shows : AreGroupsShown r groups (graphic_form r groups)
@@ -132,8 +128,7 @@ module _ (r : Renderer) (groups : List Group) (drawable : All IsGroupDrawable gr
         links = report_page.links ∙ links_of_titles r groups;
         one_line = λ plain. report_page.one_line (one_line_groups (r.label_lines || r.wrap) groups plain);
         lines = λ plain. lines_of_page (graphic_form r groups) (report_page.one_line (one_line_groups (r.label_lines || r.wrap) groups plain));
-        numbers = λ i g part at there. group_numbered r (layout_of_group r groups g) (position_of_group (length groups) i) (file_of_group groups g)
-            (drawn_elements g) part (page_shows.each i g part at there).elements;
+        numbers = λ i g part at there. group_numbered r _ _ _ _ part (page_shows.each i g part at there).elements;
         titles = λ i g part title at there titled words. group_title_unnumbered r (layout_of_group r groups g) (position_of_group (length groups) i)
             (next_of (drawn_elements g)) g.title title part.title (page_shows.each i g part at there).title titled words;
       }
@@ -150,14 +145,12 @@ within_laws r groups within texts =
 -- a text that prints a page is woven of its characters, with what it links to
 pub page_woven : (sheet : Stylesheet) (page : Page) (links : List (List ℕ)) (text : List ℕ) → page_links page ≡ links
     → PrintsPage sheet page text → IsWoven sheet text (page_text page) links
-page_woven sheet page links text linked prints =
-    subst (IsWoven sheet text (page_text page)) linked (IsWoven-from_page sheet page text prints)
+page_woven sheet page links text linked prints = subst (IsWoven sheet text (page_text page)) linked (IsWoven-from_page sheet page text prints)
 
 -- so under a plain sheet, where nothing links, it is these characters and nothing else
 pub plain_printed : (sheet : Stylesheet) (page : Page) (text : List ℕ) → page_links page ≡ []
     → is_plain_sheet sheet ≡ true → PrintsPage sheet page text → text ≡ encode_utf8_all (page_text page)
-plain_printed sheet page text none plain prints =
-    plain_woven sheet text (page_text page) [] plain refl (page_woven sheet page [] text none prints)
+plain_printed sheet page text none plain prints = plain_woven sheet text (page_text page) [] plain refl (page_woven sheet page [] text none prints)
 
 -- what holds of an answer holds of it where another error stands for the first
 pub IfOk-map_err : {T E D : Type 0} (P : T → Type 0) (R : E → D → Type 0) (r : Result T E) (q : Result T D) → IfOk r P

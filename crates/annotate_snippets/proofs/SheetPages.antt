@@ -1,7 +1,8 @@
 -- The pages of a report under several sheets, a group at a time.
+use Rattle.std.proofs.lemmas.Grind.{common_steps}
 use Rattle.annotate_snippets.proofs.Common.{◌≡◌, ℕ, zero, suc, ◌+◌, ◌≤◌, ◌<◌, ◌==◌, Bool, true, List, [], ◌∷◌, ◌++◌, arith}
-use Rattle.annotate_snippets.proofs.Common.{drop, get_or, length, map, set, sym, subst, ◌∙◌, string_bytes, take, AllZip, Group, AllZip-weaker, Cell}
-use Rattle.annotate_snippets.proofs.Common.{LevelInner, Stylesheet, graphic_form, IsTextUnder, PageLaws, GroupPage, PrintsPage, group_rows, Takes, AddsGroup}
+use Rattle.annotate_snippets.proofs.Common.{drop, get_or, length, map, set, subst, string_bytes, take, AllZip, Group, AllZip-weaker, Cell}
+use Rattle.annotate_snippets.proofs.Common.{LevelInner, Stylesheet, graphic_form, IsTextUnder, PageLaws, GroupPage, PrintsPage, group_rows, Takes}
 use Rattle.annotate_snippets.proofs.Common.{AddsToPage, IsEmptyPage, Renderer, Graphic, SheetPage, SheetPages}
 use Rattle.annotate_snippets.proofs.SinkLemmas.{holds_after}
 use Rattle.annotate_snippets.proofs.WriteLemmas.{group_more, page_text_is}
@@ -20,13 +21,7 @@ module _ (first : Bool) (level : LevelInner) (rows : List (List Cell)) where
   grew_next n old [] d page within adds before = absurd (omega (arith, within))
   grew_next zero [] (y ∷ now) d page within adds before = grind (arith, before.rest)
   grew_next (suc n) [] (y ∷ now) d page within adds before = absurd before.grew
-  grew_next zero (x ∷ old) (y ∷ now) d page within adds before =
-      let same : y ∷ now ≡ x ∷ old = before.rest in
-      let here : y ≡ x = cc in
-      record {
-        grew = (subst (λ (p : SheetPage). AddsToPage first level rows p page) here adds, tt);
-        rest = cc;
-      }
+  grew_next zero (x ∷ old) (y ∷ now) d page within adds before = grind (arith, common_steps)
   grew_next (suc n) (x ∷ old) (y ∷ now) d page within adds before =
       let next = grew_next n old now d page (omega (arith, within)) adds (record { grew = before.grew.1; rest = before.rest }) in
       record { grew = (before.grew.0, next.grew); rest = next.rest }
@@ -34,8 +29,7 @@ module _ (first : Bool) (level : LevelInner) (rows : List (List Cell)) where
   pub grew_more : (n : ℕ) (old now : List SheetPage) (d page : SheetPage) → n < length now → AddsToPage first level rows (get_or now n d) page
       → GrewSoFar n old now → GrewSoFar (n + 1) old (set now n page)
   grew_more n old now d page within adds before =
-      let on : suc n ≡ n + 1 = omega arith in
-      subst (λ k. GrewSoFar k old (set now n page)) on (grew_next n old now d page within adds before)
+      let on : suc n ≡ n + 1 = omega arith in subst (λ k. GrewSoFar k old (set now n page)) on (grew_next n old now d page within adds before)
 
   -- all of them
   pub grew_all : (n : ℕ) (old new : List SheetPage) → length new ≤ n → GrewSoFar n old new → AllZip (AddsToPage first level rows) old new
@@ -45,8 +39,7 @@ module _ (first : Bool) (level : LevelInner) (rows : List (List Cell)) where
   grew_all zero (x ∷ old) [] all grew = grind (arith, grew.rest)
   grew_all (suc n) (x ∷ old) [] all grew = absurd grew.grew
   grew_all zero (x ∷ old) (y ∷ new) all grew = absurd (omega (arith, all))
-  grew_all (suc n) (x ∷ old) (y ∷ new) all grew =
-      (grew.grew.0, grew_all n old new (omega (arith, all)) (record { grew = grew.grew.1; rest = grew.rest }))
+  grew_all (suc n) (x ∷ old) (y ∷ new) all grew = (grew.grew.0, grew_all n old new (omega (arith, all)) (record { grew = grew.grew.1; rest = grew.rest }))
 
 -- ---- all groups
 
@@ -64,20 +57,12 @@ pub record IsPageSoFar (before : List GroupPage) (sheet : Stylesheet) (page : Sh
 
 -- before the first group
 pub page_none : (sheet : Stylesheet) (page : SheetPage) → IsEmptyPage sheet page → IsPageSoFar [] sheet page
-page_none sheet page empty =
-    record { under = empty.under; printed = record { parts = []; printed = tt; joined = empty.empty } }
+page_none sheet page empty = record { under = empty.under; printed = record { parts = []; printed = tt; joined = empty.empty } }
 
 -- after one more
 page_more : (sheet : Stylesheet) (before : List GroupPage) (g : GroupPage) (old new : SheetPage) → IsPageSoFar before sheet old
     → AddsGroupToPage (length before == 0) g old new → IsPageSoFar (before ++ g ∷ []) sheet new
-page_more sheet before g old new printed adds =
-    let more = subst (λ (s : Stylesheet). AddsGroup s (length before == 0) g.level (group_rows g) (string_bytes old.text) (string_bytes new.text))
-    printed.under adds.added in
-    record {
-      under = adds.under ∙ printed.under;
-      printed = subst (PrintsPage sheet (before ++ g ∷ [])) (sym more.added)
-          (group_more sheet before g (string_bytes old.text) more.text printed.printed more.prints);
-    }
+page_more sheet before g old new printed adds = grind (arith, common_steps, group_more)
 
 pages_more : (sheets : List Stylesheet) (before : List GroupPage) (g : GroupPage) (old new : List SheetPage) → AllZip (IsPageSoFar before) sheets old
     → AllZip (AddsGroupToPage (length before == 0) g) old new → AllZip (IsPageSoFar (before ++ g ∷ [])) sheets new
@@ -108,5 +93,4 @@ pages_after r groups sheets old new empty laws taken =
     texts [] [] printed = tt
     texts [] (page ∷ pages) printed = absurd printed
     texts (sheet ∷ sheets) [] printed = absurd printed
-    texts (sheet ∷ sheets) (page ∷ pages) printed =
-        (page_text_is r groups sheet (string_bytes page.text) laws printed.0.printed, texts sheets pages printed.1)
+    texts (sheet ∷ sheets) (page ∷ pages) printed = (page_text_is r groups sheet (string_bytes page.text) laws printed.0.printed, texts sheets pages printed.1)

@@ -1,15 +1,14 @@
 -- The parts of the short form: a group's first annotated snippet, the place before the title, and the labels after it.
 use Rattle.std.proofs.lemmas.Grind.{common_steps}
-use Rattle.annotate_snippets.proofs.Common.{◌≡◌, ◌≢◌, ℕ, ◌+◌, ◌*◌, ◌<◌, ◌≤◌, ◌^◌, ◌==◌, ◌∙◌, Bool, true, false}
-use Rattle.annotate_snippets.proofs.Common.{Option, None, Some, Result, Ok, Err, IfSome, List, [], ◌∷◌, ◌++◌, All, cond, get_or, if◌then◌else◌}
-use Rattle.annotate_snippets.proofs.Common.{length, take, suc, arith, ap, refl, sym, is_whitespace, cow_str_bytes, flat_map, list_all, OnOk, is_ok, IsAscii}
-use Rattle.annotate_snippets.proofs.Common.{IsUtf8, Global, CowStr, nat_tests, flat_map-append, append-nil, append_assoc, length-append, take_more, All-head}
-use Rattle.annotate_snippets.proofs.Common.{All-tail, filter-append, filter_map-append, IsUtf8-append, IsUtf8-from_ascii, chars-append, chars-IsAscii}
-use Rattle.annotate_snippets.proofs.Common.{IsAscii-cons, IsAscii-nil, AnnotationFits, ElementFits, SnippetFits, Annotation, Primary, Element, Message, Cause}
-use Rattle.annotate_snippets.proofs.Common.{Suggestion, Origin, Padding, Group, Snippet, annotated_lines, is_empty-chars, length-chars_le, norm, length-norm}
-use Rattle.annotate_snippets.proofs.Common.{column_text, line_name, line_text, origin_text, OriginLocation, path_bytes, numbered_source, IsDrawable}
-use Rattle.annotate_snippets.proofs.Common.{IsElementDrawable, IsGroupDrawable, first_cause, joined_labels, place_named, place_of_cause, place_of_path}
-use Rattle.annotate_snippets.proofs.Common.{primary_labels, Renderer}
+use Rattle.annotate_snippets.proofs.Common.{◌≡◌, ◌≢◌, ℕ, ◌+◌, ◌*◌, ◌<◌, ◌≤◌, ◌^◌, ◌==◌, ◌∙◌, Bool, true, false, Option, None, Some, Result, Ok, Err, IfSome}
+use Rattle.annotate_snippets.proofs.Common.{List, [], ◌∷◌, ◌++◌, All, cond, get_or, if◌then◌else◌, length, take, suc, arith, ap, refl, sym, is_whitespace}
+use Rattle.annotate_snippets.proofs.Common.{cow_str_bytes, flat_map, list_all, OnOk, is_ok, IsAscii, IsUtf8, Global, CowStr, nat_tests, flat_map-append}
+use Rattle.annotate_snippets.proofs.Common.{append-nil, append_assoc, length-append, take_more, All-head, All-tail, filter-append, filter_map-append}
+use Rattle.annotate_snippets.proofs.Common.{IsUtf8-append, IsUtf8-from_ascii, chars-append, chars-IsAscii, IsAscii-cons, IsAscii-nil, AnnotationFits}
+use Rattle.annotate_snippets.proofs.Common.{ElementFits, SnippetFits, Annotation, Primary, Element, Message, Cause, Suggestion, Origin, Padding, Group, Snippet}
+use Rattle.annotate_snippets.proofs.Common.{annotated_lines, is_empty-chars, length-chars_le, norm, length-norm, column_text, line_name, line_text, origin_text}
+use Rattle.annotate_snippets.proofs.Common.{OriginLocation, path_bytes, numbered_source, IsDrawable, IsElementDrawable, IsGroupDrawable, first_cause}
+use Rattle.annotate_snippets.proofs.Common.{joined_labels, place_named, place_of_cause, place_of_path, primary_labels, Renderer}
 use Rattle.std.proofs.Common.{chars}
 use Rattle.annotate_snippets.proofs.RoomLemmas.{digits}
 
@@ -97,8 +96,7 @@ origin_text-short anonymized path place fits =
 
 -- a path with a place, and a colon after it
 pub place-added : (text new shown : List ℕ) → IsUtf8 text → chars text ≡ shown → new ≡ text ++ 58 ∷ 32 ∷ [] → chars new ≡ shown ++ 58 ∷ 32 ∷ []
-place-added text new shown utf8 is added =
-    ap chars added ∙ chars-append text (58 ∷ 32 ∷ []) utf8 ∙ ap (λ cs. cs ++ chars (58 ∷ 32 ∷ [])) is ∙ ap (λ cs. shown ++ cs) (lead-chars true)
+place-added text new shown utf8 is added = cc (added, chars-append text (58 ∷ 32 ∷ []) utf8, is, lead-chars true)
 
 -- a place with its colon has room, where its path and its numbers fit
 pub place-short : (anonymized : Bool) (path : List ℕ) (place : OriginLocation) (new : List ℕ) → length path < 2 ^ 56 → PlaceFits place
@@ -110,8 +108,7 @@ place-short anonymized path place new short fits is =
 pub origin_text-place_of_cause : (r : Renderer) (s : Snippet Annotation) (path : List ℕ) (place : OriginLocation) → path_bytes s.path ≡ Some path
     → place ≡ place_named true (annotated_lines s.fold (numbered_source s) s.markers.items)
     → origin_text r.anonymized_origin_line_numbers path place ++ 58 ∷ 32 ∷ [] ≡ place_of_cause r (Some s)
-origin_text-place_of_cause r s path place has is =
-    ap (λ p. origin_text r.anonymized_origin_line_numbers path p ++ 58 ∷ 32 ∷ []) is ∙ sym (ap (place_of_path r s) has)
+origin_text-place_of_cause r s path place has is = cc (is, has)
 
 -- a snippet without a path has none
 pub place-of_none : (r : Renderer) (s : Snippet Annotation) (path : Option (CowStr Global)) → ((p : CowStr Global) → path ≢ Some p)

@@ -7,7 +7,7 @@ use Rattle.annotate_snippets.proofs.Common.{Contains-append_left, length-slice_s
 use Rattle.annotate_snippets.proofs.Common.{trusted_of_element, trusted_texts, Annotation, Group, Snippet, Title, KeptLine, annotated_lines, is_long}
 use Rattle.annotate_snippets.proofs.Common.{is_marking, IsLocation, primary_place, primary_place-location, row_at, Cell, plain_text, row_text, IsWoven, Prints}
 use Rattle.annotate_snippets.proofs.Common.{links_of, some_same, LevelInner, Stylesheet, IsWoven-from_prints, plain_woven, is_listed, norm, short-free}
-use Rattle.annotate_snippets.proofs.Common.{links_of-short_rows, row_text-short_rows, heading_lines, indent_cells, heading_label_text, label_width, line_text}
+use Rattle.annotate_snippets.proofs.Common.{links_of-short_rows, row_text-short_rows, heading_lines, indent_cells, heading_label_text, label_width}
 use Rattle.annotate_snippets.proofs.Common.{origin_text, with_end, IsFreeButText, texts_below, id_links, OriginLocation, place-each, digit_unlisted, path_bytes}
 use Rattle.annotate_snippets.proofs.Common.{BeginsWithPlace, LawsIn, ShortLaws, ShowsShort, IsTextUnder, IsShortForm, ShortShown, short_links, numbered_source}
 use Rattle.annotate_snippets.proofs.Common.{IsDrawable, IsGroupDrawable, place_found, place_named, before_title, after_title, first_cause, joined_labels}
@@ -63,16 +63,13 @@ after-free (Some s) = joined-free (primary_labels s.markers.items) (primary-free
 
 origin-free : (anonymized : Bool) (path : List ℕ) (place : OriginLocation) → All IsUnlisted (origin_text anonymized path place)
 unfolding origin_text
-origin-free anonymized path place =
-    All-append IsUnlisted (norm (chars path)) (line_text anonymized place.line place.column) (norm-free (chars path))
-    (place-each IsUnlisted digit_unlisted refl refl anonymized place)
+origin-free anonymized path place = All-append IsUnlisted _ _ (norm-free (chars path)) (place-each IsUnlisted digit_unlisted refl refl anonymized place)
 
 path-free : (r : Renderer) (s : Snippet Annotation) (path : Option (List ℕ)) → All IsUnlisted (place_of_path r s path)
 path-free r s None = All-nil IsUnlisted
 path-free r s (Some path) =
     let place = place_named true (annotated_lines s.fold (numbered_source s) s.markers.items) in
-    All-append IsUnlisted (origin_text r.anonymized_origin_line_numbers path place) (codes ": ") (origin-free r.anonymized_origin_line_numbers path place)
-    (sep-free 58 refl)
+    All-append IsUnlisted _ _ (origin-free r.anonymized_origin_line_numbers path place) (sep-free 58 refl)
 
 before-free : (r : Renderer) (cause : Option (Snippet Annotation)) → All IsUnlisted (place_of_cause r cause)
 before-free r None = All-nil IsUnlisted
@@ -85,8 +82,7 @@ first_text : (before label further after : List ℕ) (lines : List (List ℕ)) �
 first_text before label further after [] some = absurd (omega (arith, some))
 first_text before label further after (line ∷ lines) some = (
   label ++ (line ++ after),
-  ap (λ t. t ++ after) (append_assoc before label line) ∙ append_assoc before (label ++ line) after
-      ∙ ap (λ t. before ++ t) (append_assoc label line after),
+  ap (λ t. t ++ after) (append_assoc before label line) ∙ append_assoc before (label ++ line) after ∙ ap (λ t. before ++ t) (append_assoc label line after),
 )
 
 -- ---- what a title links to
@@ -142,8 +138,7 @@ begins r g title rows are drawable s first path has some none =
     let before : List ℕ = before_title r g in
     let text = first_text before (heading_label_text heading) (row_text (indent_cells style.Short (label_width heading))) (after_title g)
     (heading_lines heading) (omega (arith, length-slice_split (λ c. c == 10) (shown_text heading))) in
-    let named : before ≡ origin_text r.anonymized_origin_line_numbers path (place_found (Some found.0)) ++ codes ": " = ap (place_of_cause r) first
-    ∙ ap (place_of_path r s) has ∙ ap (λ o. origin_text r.anonymized_origin_line_numbers path (place_found o) ++ codes ": ") found.1 in
+    let named : before ≡ origin_text r.anonymized_origin_line_numbers path (place_found (Some found.0)) ++ codes ": " = cc (first, has, found.1) in
     record {
       place = found.0;
       is = found.2;
@@ -214,8 +209,7 @@ short-law r groups laws sheet level g title text first titled prints =
     let links : links_of (short_page r groups) ≡ short_links r groups = ap links_of own ∙ laws.links in
     let printed : Prints sheet level (short_page r groups) text = subst (λ rows. Prints sheet level rows text) (sym page) prints in
     let woven : IsWoven sheet text (plain_text (short_page r groups)) (short_links r groups) = subst
-    (IsWoven sheet text (plain_text (short_page r groups))) links
-    (IsWoven-from_prints sheet level (short_page r groups) text printed) in
+    (IsWoven sheet text (plain_text (short_page r groups))) links (IsWoven-from_prints sheet level (short_page r groups) text printed) in
     record {
       form_laws = laws;
       woven = woven;

@@ -34,8 +34,7 @@ module _ {S : Type 0} (took : Bool → GroupPage → S → S → Type 0) where
 
   pub takes_more : (page : List GroupPage) (g : GroupPage) (old mid new : S) → Takes took true page old mid
       → took (length page == 0) g mid new → Takes took true (page ++ g ∷ []) old new
-  takes_more page g old mid new taken adds =
-      takes_last true page g old mid new taken (subst (λ b. took b g mid new) (next_is page) adds)
+  takes_more page g old mid new taken adds = takes_last true page g old mid new taken (subst (λ b. took b g mid new) (next_is page) adds)
 
   -- what holds of the sink before any group, and after one more wherever it did, holds after all
   module _ (Holds : List GroupPage → S → Type 0)

@@ -1,7 +1,6 @@
 -- Small reports, of which the laws on wrong results speak.
-use Rattle.annotate_snippets.proofs.Common.{ℕ, ◌<◌, ◌^◌, true, false, Option, None, Some, Vec, List, [], ◌∷◌, codes, length, refl, arith}
-use Rattle.annotate_snippets.proofs.Common.{option_map, Global, unindexed, Annotation, Standard, Element, Group, Id, Snippet, Title, Error, Note, text_of}
-use Rattle.annotate_snippets.proofs.Common.{error_level}
+use Rattle.annotate_snippets.proofs.Common.{ℕ, ◌<◌, ◌^◌, true, false, Option, None, Some, Vec, List, [], ◌∷◌, codes, length, refl, arith, option_map, Global}
+use Rattle.annotate_snippets.proofs.Common.{unindexed, Annotation, Standard, Element, Group, Id, Snippet, Title, Error, Note, text_of, error_level}
 use Rattle.snippet_model.specs.declared.level.LevelName.TheVariants.{Hidden}
 use Rattle.snippet_model.specs.declared.snippet.Element.TheVariants as element
 

@@ -5,9 +5,9 @@ use Rattle.annotate_snippets.proofs.Common.{Some, List, [], ◌∷◌, ◌++◌,
 use Rattle.annotate_snippets.proofs.Common.{arith, inl, inr, cow_str_bytes, option_map_or, cases_lt, get_or-drop, get_or-map, get_or-take, length-drop}
 use Rattle.annotate_snippets.proofs.Common.{length-map, All-append, All-cons, All-drop, All-from_get_or, All-head, All-nil, All-replicate, All-tail, All-take}
 use Rattle.annotate_snippets.proofs.Common.{All-weaker, row_text, Cell, SPACE, written, placeholder_of, separator_of, DecorStyle, Ascii, Unicode, norm}
-use Rattle.annotate_snippets.proofs.Common.{decimal-all, AreReplaced, chars_at, covered_columns, covered_end, inner_part, reaching, uncovered_part, window}
+use Rattle.annotate_snippets.proofs.Common.{decimal-all, AreReplaced, chars_at, covered_columns, inner_part, reaching, uncovered_part, window}
 use Rattle.annotate_snippets.proofs.Common.{shown_number, LineNumbers, Anonymized, Hidden, Shown, Annotation, Snippet, Renderer, Layout, line_numbers}
-use Rattle.annotate_snippets.proofs.Common.{number_text, ShowsSourceLine, cells_left, wide_spans, margin_in, HasNoFeed, each-fails, Margin}
+use Rattle.annotate_snippets.proofs.Common.{number_text, ShowsSourceLine, cells_left, margin_in, HasNoFeed, each-fails, Margin}
 use Rattle.annotate_snippets.proofs.MarginWords.{room_of}
 use Rattle.annotate_snippets.proofs.OneLineTexts.{HoldsNoFeed, IsNoFeed}
 use Rattle.annotate_snippets.proofs.FeedLaws.{at_any, bar_cell}
@@ -25,8 +25,7 @@ unfolding written
 written_plain xs at new plain own =
     let blanks : List ℕ = replicate (at - length xs) 32 in
     let before : All IsNoFeed (take at (xs ++ blanks)) = grind (arith, common_steps, All-take, blanks, All-append, All-replicate) in
-    All-append IsNoFeed (take at (xs ++ blanks) ++ new) (drop (at + length new) xs) (All-append IsNoFeed (take at (xs ++ blanks)) new before own)
-    (All-drop IsNoFeed (at + length new) xs plain)
+    All-append IsNoFeed _ _ (All-append IsNoFeed (take at (xs ++ blanks)) new before own) (All-drop IsNoFeed (at + length new) xs plain)
 
 begun_plain : (placeholder : List ℕ) (columns : Option ℕ) (text : List ℕ) → All IsNoFeed placeholder → All IsNoFeed text
     → All IsNoFeed (option_map_or (λ n. cond (length text == 0) placeholder (written 32 placeholder n text)) columns text)
@@ -44,8 +43,7 @@ ended_plain placeholder None text own plain = plain
 ended_plain placeholder (Some at) text own plain = written_plain text at placeholder plain own
 
 uncovered_plain : (left : ℕ) (placeholder inner : List ℕ) → All IsNoFeed inner → All IsNoFeed (uncovered_part left placeholder inner)
-uncovered_plain left placeholder inner plain =
-    either (left == 0) inner (drop (reaching _ inner) inner) plain (All-drop IsNoFeed _ inner plain)
+uncovered_plain left placeholder inner plain = either (left == 0) inner (drop (reaching _ inner) inner) plain (All-drop IsNoFeed _ inner plain)
   where
     either : (b : Bool) (xs ys : List ℕ) → All IsNoFeed xs → All IsNoFeed ys → All IsNoFeed (cond b xs ys)
     either true xs ys one other = one
@@ -57,8 +55,7 @@ pub window_plain : (placeholder : List ℕ) (room left right : ℕ) (text : List
 window_plain placeholder room left right text own plain =
     let inner : List ℕ = inner_part room left right text in
     let kept : All IsNoFeed inner = All-take IsNoFeed _ _ (All-drop IsNoFeed _ text plain) in
-    ended_plain placeholder (covered_end room left right placeholder text) _ own
-    (begun_plain placeholder (covered_columns left placeholder inner) _ own (uncovered_plain left placeholder inner kept))
+    ended_plain placeholder _ _ own (begun_plain placeholder (covered_columns left placeholder inner) _ own (uncovered_plain left placeholder inner kept))
 
 -- and neither does one of which stretches gave their place to a placeholder
 pub replaced_plain : (placeholder : List ℕ) (n : ℕ) (before after : List ℕ) → All IsNoFeed placeholder → AreReplaced placeholder n before after
@@ -108,8 +105,7 @@ code_plain code row plain c right within =
     let holds : IsNoFeed (get_or (row_text (drop code row)) n 32) = plain n 32 (omega (arith, inside, length-map (drop code row) Ch)) in
     let same : get_or (row_text (drop code row)) n 32 ≡ Ch (get_or (drop code row) n SPACE) = get_or-map Ch (drop code row) n SPACE 32 inside in
     let there : get_or (drop code row) n SPACE ≡ get_or row (code + n) SPACE = get_or-drop code row n SPACE in
-    let at : code + n ≡ c = omega (arith, right) in
-    subst IsNoFeed (same ∙ ap Ch (there ∙ ap (λ i. get_or row i SPACE) at)) holds
+    let at : code + n ≡ c = omega (arith, right) in subst IsNoFeed (same ∙ ap Ch (there ∙ ap (λ i. get_or row i SPACE) at)) holds
 
 -- a source row holds no line feed where the characters of its line hold none, and that is so where stretches gave their place to a
 -- placeholder too
@@ -125,8 +121,7 @@ source_one_line r layout s k dropped row shows plain =
     let windowed : All IsNoFeed (window placeholder margin.term_width margin.computed_left margin.computed_right line) =
     window_plain placeholder margin.term_width margin.computed_left margin.computed_right line own
     (norm-plain (chars_at (cow_str_bytes s.source.text) k) plain) in
-    let text : All IsNoFeed shown = replaced_plain placeholder (wide_spans room (length placeholder) s k)
-    (window placeholder margin.term_width margin.computed_left margin.computed_right line) shown own shows.window.shown_is windowed in
+    let text : All IsNoFeed shown = replaced_plain placeholder _ _ shown own shows.window.shown_is windowed in
     let number : List ℕ = number_text r s.line_numbering layout.gutter (s.line_start + k) in
     let left : HasNoFeed (cells_left layout.decor layout.gutter number) = left_plain layout.decor layout.gutter number
     (number_plain (line_numbers r s.line_numbering) layout.gutter (s.line_start + k)) in

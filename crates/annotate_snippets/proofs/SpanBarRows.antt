@@ -1,16 +1,15 @@
 -- Beside the rows of a snippet's lines stand the bars of its spans.
 use Rattle.std.proofs.lemmas.Grind.{common_steps}
-use Rattle.annotate_snippets.proofs.Common.{◌≡◌, ℕ, zero, suc, ◌+◌, ◌-◌, ◌<◌, ◌≤◌, ◌==◌, ◌&&◌, Bool, true, false, not, cond}
-use Rattle.annotate_snippets.proofs.Common.{leb, take, ◌≢◌, List, [], ◌∷◌, ◌++◌, ◌⊎◌, fold, length, get_or, inl, inr, refl, sym, ap}
-use Rattle.annotate_snippets.proofs.Common.{subst, ◌∙◌, arith, Contains, filter, cow_str_bytes, le-leb, and_from, cases_Bool, nat_tests, All-contains}
-use Rattle.annotate_snippets.proofs.Common.{All-filter, All-head, All-nil, All-tail, Annotation, Snippet, Cell, SPACE, DecorStyle, length-text_cells}
-use Rattle.annotate_snippets.proofs.Common.{length-append, length-replicate, length-take, IsSpan, deepest, depth_of, is_long, LineAnnotation}
-use Rattle.annotate_snippets.proofs.Common.{LineAnnotationType, MultilineEnd, MultilineStart, touches, first_line, last_line, Among, depth-within, Bar}
-use Rattle.annotate_snippets.proofs.Common.{bars_apart, ends_of_bars, HasOwnDepth, has_depth, bare_elision_row, BarEnds, IsNoBar, BarBegins, all_from_among}
-use Rattle.annotate_snippets.proofs.Common.{among_contains, contains_among, bar_ends, elision_stands, highlighted_left, line_clear, begins, gap_space}
-use Rattle.annotate_snippets.proofs.Common.{line_source, is_end_part, Renderer, Layout, number_text, code_after, Elision, NamedRow, OfferedLine, Other}
-use Rattle.annotate_snippets.proofs.Common.{RemovedLine, RowName, SourceRow, lines_named, rows_below, shows_lines, AreRowsOf, IsRowOf, cells_left, BarStarts}
-use Rattle.annotate_snippets.proofs.Common.{ShowsBars, bar_beside, line_beside}
+use Rattle.annotate_snippets.proofs.Common.{◌≡◌, ℕ, zero, suc, ◌+◌, ◌-◌, ◌<◌, ◌≤◌, ◌==◌, ◌&&◌, Bool, true, false, not, cond, take, ◌≢◌, List, [], ◌∷◌}
+use Rattle.annotate_snippets.proofs.Common.{◌++◌, ◌⊎◌, fold, length, get_or, inl, inr, refl, sym, ap, subst, ◌∙◌, arith, Contains, filter, cow_str_bytes}
+use Rattle.annotate_snippets.proofs.Common.{le-leb, and_from, cases_Bool, nat_tests, All-contains, All-filter, All-head, All-nil, All-tail, Annotation, Snippet}
+use Rattle.annotate_snippets.proofs.Common.{Cell, SPACE, DecorStyle, length-text_cells, length-append, length-replicate, length-take, IsSpan, deepest, depth_of}
+use Rattle.annotate_snippets.proofs.Common.{is_long, LineAnnotation, LineAnnotationType, MultilineEnd, MultilineStart, touches, first_line, last_line, Among}
+use Rattle.annotate_snippets.proofs.Common.{depth-within, Bar, bars_apart, ends_of_bars, HasOwnDepth, has_depth, bare_elision_row, BarEnds, IsNoBar, BarBegins}
+use Rattle.annotate_snippets.proofs.Common.{all_from_among, among_contains, contains_among, bar_ends, elision_stands, highlighted_left, line_clear, begins}
+use Rattle.annotate_snippets.proofs.Common.{gap_space, line_source, is_end_part, Renderer, Layout, number_text, code_after, Elision, NamedRow, OfferedLine}
+use Rattle.annotate_snippets.proofs.Common.{Other, RemovedLine, RowName, SourceRow, lines_named, rows_below, shows_lines, AreRowsOf, IsRowOf, cells_left}
+use Rattle.annotate_snippets.proofs.Common.{BarStarts, ShowsBars, bar_beside, line_beside}
 use Rattle.std.specs.List.{All}
 use Rattle.annotate_snippets.proofs.LineWords.{bars_on, entries_on}
 use Rattle.annotate_snippets.proofs.DrawnRows.{AreRowsDrawn, IsRowDrawn, open_after}
@@ -135,8 +134,7 @@ module _ (r : Renderer) (layout : Layout) (closes : Bool) (s : Snippet Annotatio
       let bar : Bar = bar_by_place s a in
       let here : Contains open_bars bar = among_contains open_bars bar (are_open.all a among long above (omega (arith, below))) in
       let own : HasOwnDepth bar open_bars = alone (source s) (marks s) spans n open_bars are_open a among long above (omega (arith, below)) in
-      ap (λ (cells : List Cell). get_or cells (bar_cell_of layout s a) SPACE) drawn.0
-      ∙ elision_stands layout bar open_bars (bare_elision_row layout.decor layout.gutter) own here
+      cc (drawn.0, elision_stands layout bar open_bars (bare_elision_row layout.decor layout.gutter) own here)
 
   -- a cell of bars is a space that has the depth of no span which touches line k
   abbrev HasSpaces : ℕ → List Cell → Type 0
@@ -179,17 +177,15 @@ module _ (r : Renderer) (layout : Layout) (closes : Bool) (s : Snippet Annotatio
       (sym (bars_seen s k line.entries line.are)) (ends_apart (source s) (marks s) spans k depth free) in
       let others = open_apart (source s) (marks s) spans k depth open_bars are_open free in
       let blank = line_blank open_bars k row rows shows line depth some within in
-      let clear = line_clear layout depth some within line.margin.term_width
-      (closes && length (rows_below rows) == length rows) line.text line.dropped line.entries line.highlighted ends blank open_bars all line.drawn others i
-      inside in
+      let clear = line_clear layout depth some within line.margin.term_width _ line.text line.dropped line.entries line.highlighted ends blank open_bars all
+      line.drawn others i inside in
       subst (λ (cells : List Cell). IsNoBar layout.decor (get_or cells (layout.gutter + 2 + depth) SPACE)) (get_or_any all i [] d inside) clear
 
   -- and in a row in place of lines
   elision_spaces : (open_bars : List Bar) (n : ℕ) (row : List Cell) (rows : List NamedRow) → IsRowDrawn r layout closes s open_bars Elision row rows
       → Open n open_bars → HasSpaces n row
   elision_spaces open_bars n row rows drawn are_open depth some within free =
-      ap (λ (cells : List Cell). get_or cells (layout.gutter + 2 + depth) SPACE) drawn.0
-      ∙ gap_space layout depth within open_bars (open_apart (source s) (marks s) spans n depth open_bars are_open free) some
+      cc (drawn.0, gap_space layout depth within open_bars (open_apart (source s) (marks s) spans n depth open_bars are_open free) some)
 
   -- a row of this name beside line k has its bars, and where it stands for lines spaces beside them
   record IsShown (name : RowName) (k : ℕ) (cells : List Cell) : Type 0 where
@@ -218,8 +214,7 @@ module _ (r : Renderer) (layout : Layout) (closes : Bool) (s : Snippet Annotatio
       let here : Open k open_bars = open_lower (source s) (marks s) spans n k open_bars ready.are_open up (λ a among long.
       let ends = ready.ends a among long in (
         past_next n k ks (first_line (cow_str_bytes s.source.text) a) ready.lines ends.0,
-        past_next n k ks
-            (last_line (cow_str_bytes s.source.text) a) ready.lines ends.1,
+        past_next n k ks (last_line (cow_str_bytes s.source.text) a) ready.lines ends.1,
       )) in
       let bars : All (HasBars Other k) (cells ∷ rows_below rows) = line_bars open_bars k cells rows ready.drawn.0 here in
       let others : All (HasNoOthers k) (cells ∷ rows_below rows) = line_others open_bars k cells rows ready.named.0 ready.drawn.0 here in
@@ -307,12 +302,7 @@ module _ (r : Renderer) (layout : Layout) (closes : Bool) (s : Snippet Annotatio
   -- it is the same for a row of this name
   renamed : (name : RowName) (row : NamedRow) (below : List NamedRow) → row.name ≡ name → IsKnown row below
       → IsKnown (record { name = name; cells = row.cells }) below
-  renamed name row below is known =
-      record {
-        named = subst (λ n. IsRowOf r layout closes s n row.cells below) is known.named;
-        bars = known.bars;
-        drawn = grind (arith, common_steps, known.bars, row.cells, known.drawn);
-      }
+  renamed name row below is known = grind (arith, common_steps)
 
   module _ (a : Annotation) (among : Contains (marks s) a) (long : is_long (cow_str_bytes s.source.text) a ≡ true)
       (room : layout.gutter + 2 + depth_of (source s) (marks s) a < layout.code) where
@@ -335,12 +325,10 @@ module _ (r : Renderer) (layout : Layout) (closes : Bool) (s : Snippet Annotatio
         let own : Contains (ends_of_bars line.entries) bar = subst (λ bs.
         Contains bs bar) ends (among_contains (bars_on s k) bar (start_here (source s) (marks s) k a among long here)) in
         let only : HasOwnDepth bar (ends_of_bars line.entries) = subst (HasOwnDepth bar) ends
-        (own_on_line (source s) (marks s) spans k a among long (omega (arith, here))
-        (omega (arith, here, longer (source s) (marks s) spans a among long))) in
+        (own_on_line (source s) (marks s) spans k a among long (omega (arith, here)) (omega (arith, here, longer (source s) (marks s) spans a among long))) in
         let none = none_there k (MultilineEnd bar.depth) line.entries line.are (no_end (source s) (marks s) spans k a among long here) in
         let blank = line_blank open_bars k row rows shows line bar.depth (depth-within (source s) (marks s) a among long).0 room in
-        begins layout bar room line.entries own only line.margin.term_width
-        (closes && length (rows_below rows) == length rows) line.text line.dropped open_bars line.highlighted (row ∷ rows_below rows) line.drawn none blank
+        begins layout bar room line.entries own only line.margin.term_width _ line.text line.dropped open_bars line.highlighted _ line.drawn none blank
 
     -- and ends in those of the last
     line_ends : (open_bars : List Bar) (k : ℕ) (row : List Cell) (rows : List NamedRow) → IsRowDrawn r layout closes s open_bars (SourceRow k) row rows
@@ -350,11 +338,9 @@ module _ (r : Renderer) (layout : Layout) (closes : Bool) (s : Snippet Annotatio
         let own : Contains (ends_of_bars line.entries) bar = subst (λ bs.
         Contains bs bar) ends (among_contains (bars_on s k) bar (end_here (source s) (marks s) k a among long here)) in
         let only : HasOwnDepth bar (ends_of_bars line.entries) = subst (HasOwnDepth bar) ends
-        (own_on_line (source s) (marks s) spans k a among long (omega (arith, here, longer (source s) (marks s) spans a among long))
-        (omega (arith, here))) in
+        (own_on_line (source s) (marks s) spans k a among long (omega (arith, here, longer (source s) (marks s) spans a among long)) (omega (arith, here))) in
         let none = none_there k (MultilineStart bar.depth) line.entries line.are (no_start (source s) (marks s) spans k a among long here) in
-        bar_ends layout bar room line.entries own only line.margin.term_width
-        (closes && length (rows_below rows) == length rows) line.text line.dropped open_bars line.highlighted (row ∷ rows_below rows) line.drawn none
+        bar_ends layout bar room line.entries own only line.margin.term_width _ line.text line.dropped open_bars line.highlighted _ line.drawn none
 
   -- so the rows of a snippet's lines show the bars of its spans
   pub bars_shown : (rows : List NamedRow) → AreRowsOf r layout closes s rows → AreRowsDrawn r layout closes s [] rows → rows_below rows ≡ []
@@ -415,14 +401,7 @@ module _ (r : Renderer) (layout : Layout) (closes : Bool) (s : Snippet Annotatio
           → bar_cell_of layout s a ≢ c) (marks s)
           → IsFreeAt (source s) (marks s) spans (line_from 0 above row.name) (c - (layout.gutter + 2))
       free_there above row c from free a among long first last same =
-          let text : List ℕ = cow_str_bytes s.source.text in
-          let k : ℕ = line_beside above row.name in
-          let line : line_from 0 above row.name ≡ k = from_start above row.name in
-          let up : leb (first_line text a) k ≡ true = le-leb (first_line text a) k (omega (arith, first, line)) in
-          let down : leb k (last_line text a) ≡ true = le-leb k (last_line text a) (omega (arith, last, line)) in
-          let touched : touches text a k ≡ true = and_from (leb (first_line text a) k) (leb k (last_line text a)) up down in
-          All-contains (λ a. is_long text a ≡ true → touches text a k ≡ true → bar_cell_of layout s a ≢ c) (marks s) a free among long touched
-          (omega (arith, same, from))
+          grind (arith, common_steps, from_start, le-leb, and_from, All-contains, bar_cell_of, marks)
 
       inside : (depth : ℕ) → 0 < depth → depth ≤ deepest (source s) (marks s)
           → (layout.gutter + 3 ≤ layout.gutter + 2 + depth) × (layout.gutter + 2 + depth + 1 < layout.code)

@@ -97,13 +97,7 @@ module _ (s : Source) (marks : List Annotation) where
   end_bar k bar here =
       let found = filter_map_cases has (parts_on s marks k) bar here in
       let is = part_bar k found.0 bar found.1 found.2 in
-      record {
-        span = is.span;
-        among = is.among;
-        long = is.long;
-        bar_is = is.bar_is;
-        line = elim is.line [ inl start ↦ inl start.1 | inr end ↦ inr end.1 ];
-      }
+      record { span = is.span; among = is.among; long = is.long; bar_is = is.bar_is; line = elim is.line [ inl start ↦ inl start.1 | inr end ↦ inr end.1 ] }
 
   -- the entries of a span's place
   place_ends : (a : Annotation) → Contains marks a → is_long s.text a ≡ true → HasEnds places spans_in_order longs (place_in s a)

@@ -28,8 +28,7 @@ none_later : (e : LineAnnotation) (later : List LineAnnotation) → stands_among
 none_later e [] none = refl
 none_later e (d ∷ later) none =
     let parts = or_parts (same_place (long_place e) (long_place d)) (stands_among e later) none in
-    ap (λ b. (is_primary d.kind && b) || is_primary_at later (long_place e)) parts.0
-    ∙ neither (is_primary d.kind) (is_primary_at later (long_place e)) (none_later e later parts.1)
+    cc (parts.0, neither (is_primary d.kind) (is_primary_at later (long_place e)) (none_later e later parts.1))
   where
     neither : (a b : Bool) → b ≡ false → ((a && false) || b) ≡ false
     neither true b is = is
@@ -43,8 +42,7 @@ kind_drawn before e later last =
     let test : LineAnnotation → Bool = λ d. is_primary d.kind && same_place place (long_place d) in
     let earlier : Bool = is_primary_at before place in
     let after : earlier || ((is_primary e.kind && true) || false) ≡ earlier
-    || ((is_primary e.kind && true) || is_primary_at later place) = ap (λ b.
-    earlier || ((is_primary e.kind && true) || b)) (sym (none_later e later last)) in
+    || ((is_primary e.kind && true) || is_primary_at later place) = ap (λ b. earlier || ((is_primary e.kind && true) || b)) (sym (none_later e later last)) in
     let itself = ap (λ b. earlier || ((is_primary e.kind && b) || is_primary_at later place)) (sym (same-refl place)) in
     promoted-kind before e ∙ either (is_primary e.kind) earlier ∙ after ∙ itself ∙ sym (list_any-append test before (e ∷ later))
   where
@@ -191,8 +189,7 @@ module _ (s : Source) (places : List LongExtent) (before : List LineAnnotation) 
             absurd (no_bar (own_bar (bar_part drawn depth (s.first + made.0)) made.2))
         | inr (inl same) ↦ is_own last (own_bar end same) (inr (
           sym (ap (λ (q : LineAnnotation). q.annotation_type) same),
-          sym
-              (ap (λ (q : LineAnnotation). q.start.line) same) ∙ ap (λ l. l.line) (promoted-end before e),
+          sym (ap (λ (q : LineAnnotation). q.start.line) same) ∙ ap (λ l. l.line) (promoted-end before e),
         ))
         | inr (inr none) ↦ absurd none
       ]

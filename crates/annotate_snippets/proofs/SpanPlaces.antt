@@ -32,8 +32,7 @@ place_from s start end =
 -- spans of the same bytes have one place
 pub same_bytes : (s : Source) (a b : Annotation) → a.span.start ≡ b.span.start → a.span.end ≡ b.span.end → place_in s a ≡ place_in s b
 unfolding place_from
-same_bytes s a b starts ends =
-    ap (λ n. place_from s n a.span.end) starts ∙ ap (λ n. place_from s b.span.start n) ends
+same_bytes s a b starts ends = ap (λ n. place_from s n a.span.end) starts ∙ ap (λ n. place_from s b.span.start n) ends
 
 -- and spans of one place the same bytes
 pub bytes_same : (s : Source) (a b : Annotation) → place_in s a ≡ place_in s b → (a.span.start ≡ b.span.start) × (a.span.end ≡ b.span.end)
@@ -98,8 +97,6 @@ module _ (s : Snippet Annotation) where
           let among = among_filter (is_long source.text) marks b found.1 (long_too source.text a b long (primary_marks b.kind parts.0) starts ends) in
           let ordered = among_in_order stands_before (map (long_entry source) (filter (is_long source.text) marks)) (long_entry source b)
           (among_map (long_entry source) (filter (is_long source.text) marks) b among) in
-          let same : same_place (place_in source a) (place_in source b) ≡ true = ap (same_place (place_in source a)) (same_bytes source b a starts ends)
-          ∙ same-refl (place_in source a) in
+          let same : same_place (place_in source a) (place_in source b) ≡ true = cc (same_bytes source b a starts ends, same-refl (place_in source a)) in
           any_among (λ (d : LineAnnotation). is_primary d.kind && same_place (place_in source a) (long_place d)) (long_spans source marks)
-          (long_entry source b) ordered
-          (and_from (is_primary b.kind) (same_place (place_in source a) (place_in source b)) parts.0 same)
+          (long_entry source b) ordered (and_from (is_primary b.kind) (same_place (place_in source a) (place_in source b)) parts.0 same)

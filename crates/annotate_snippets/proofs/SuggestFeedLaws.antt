@@ -6,7 +6,7 @@ use Rattle.annotate_snippets.proofs.Common.{inr, cow_str_bytes, AllZip, list_any
 use Rattle.annotate_snippets.proofs.Common.{false≢true, nat_tests, get_or-drop, get_or-take, All-append, All-cons, All-from_get_or, All-head, All-nil}
 use Rattle.annotate_snippets.proofs.Common.{All-tail, Line, lines_of, text_at, shown_number, LineNumbers, Anonymized, Hidden, Shown, Patch, Snippet, texts_of}
 use Rattle.annotate_snippets.proofs.Common.{Cell, SPACE, text_cells, DecorStyle, Ascii, Unicode, ElementStyle, Addition, LineNumber, NoStyle, norm}
-use Rattle.annotate_snippets.proofs.Common.{primary_start, each-fails, All-unmapped, line_cells, offered_cells, put, sign_of, with_stretches, first_given}
+use Rattle.annotate_snippets.proofs.Common.{primary_start, each-fails, All-unmapped, line_cells, offered_cells, put, sign_of, first_given}
 use Rattle.annotate_snippets.proofs.Common.{given_lines, given_text, shown_kind, suggestion_glyph_of, suggestion_role_of, Begins, Empty, Ends, Offers, Removes}
 use Rattle.annotate_snippets.proofs.Common.{Skips, SuggestionRow, rows_of_suggestion, IsBareRow, IsMarkOrSpace, IsRemovedRow, is_stroke, Shows, IsBeforeSign}
 use Rattle.annotate_snippets.proofs.Common.{IsLeftOver, body_cells, new_on, SuggestionLayout, SuggestionStart, SuggestionGlyph, Leading, Closing, Kept, Changed}
@@ -133,8 +133,7 @@ put_plain role (c ∷ cs) at row plain own = row_written row at (text_cells role
 
 -- nor does a row that holds the same characters
 same_plain : (now row : List Cell) → map without_role now ≡ map without_role row → HasNoFeed row → HasNoFeed now
-same_plain now row same plain =
-    All-from_get_or HoldsNoFeed now SPACE (λ c within. subst IsNoFeed (sym (same_ch c now row same)) (at_any row plain c))
+same_plain now row same plain = All-from_get_or HoldsNoFeed now SPACE (λ c within. subst IsNoFeed (sym (same_ch c now row same)) (at_any row plain c))
 
 line_row_plain : (suggested : SuggestionLayout) (glyph : SuggestionGlyph) (number : ℕ) (line : List ℕ) → All IsNoFeed (chars line)
     → HasNoFeed (line_cells suggested glyph number line)
@@ -174,8 +173,7 @@ given_line (l ∷ ls) (suc k) = given_line ls k
 -- no line of a text holds one
 text_line_plain : (text : List ℕ) (k : ℕ) → IsUtf8 text → All IsNoFeed (chars (slice_index_or (texts_of (lines_of text)) k []))
 text_line_plain [] k utf8 = line_plain [] 1 utf8
-text_line_plain (b ∷ bs) k utf8 =
-    subst (λ line. All IsNoFeed (chars line)) (sym (given_line (lines_of (b ∷ bs)) k)) (line_plain (b ∷ bs) k utf8)
+text_line_plain (b ∷ bs) k utf8 = subst (λ line. All IsNoFeed (chars line)) (sym (given_line (lines_of (b ∷ bs)) k)) (line_plain (b ∷ bs) k utf8)
 
 module _ (suggested : SuggestionLayout) (s : Snippet Patch) (utf8 : IsUtf8 (given_text s)) where
   offer_plain : (under : List Cell) (shown : SuggestionRow) → IsPlainOffer shown (row_cells suggested s under shown)
@@ -186,8 +184,7 @@ module _ (suggested : SuggestionLayout) (s : Snippet Patch) (utf8 : IsUtf8 (give
       let glyph : SuggestionGlyph = sign_of (shown_kind s) (length (given_lines s)) line (new_on s k) in
       let number : ℕ = capped_sum (s.line_start + first_given s) k in
       let row : List Cell = line_cells suggested glyph number line in
-      same_plain (with_stretches Addition suggested.base.gutter (chars line) (new_on s k) row) row
-      (with_same Addition suggested.base.gutter (chars line) (new_on s k) row)
+      same_plain _ row (with_same Addition suggested.base.gutter (chars line) (new_on s k) row)
       (line_row_plain suggested glyph number line (text_line_plain (given_text s) k utf8))
   offer_plain under Skips = tt
   offer_plain under (Removes i number text) = tt
@@ -213,8 +210,7 @@ module _ (r : Renderer) (layout : Layout) (around : ElementContext) (found : Lis
   one_row Skips row utf8 is offer own = bare_one_line own_layout.base.decor own_layout.base.gutter row is.bare
   one_row (Removes i number text) row utf8 is offer own =
       let plain : All IsNoFeed (chars text) = subst (λ t. All IsNoFeed (chars t)) (sym own.1) (line_plain (cow_str_bytes s.source.text) i utf8) in
-      removed_one_line own_layout.numbers own_layout.base.decor own_layout.base.gutter (shown_number own_layout.numbers own_layout.base.gutter number)
-      (norm (chars text)) row is (norm-plain (chars text) plain)
+      removed_one_line own_layout.numbers own_layout.base.decor own_layout.base.gutter _ _ row is (norm-plain (chars text) plain)
   one_row Empty row utf8 is offer own = bare_one_line own_layout.base.decor own_layout.base.gutter row is.bare
   one_row (Ends follows) row utf8 is offer own = bare_one_line own_layout.base.decor own_layout.base.gutter row is.bare
 
@@ -245,5 +241,4 @@ module _ (r : Renderer) (layout : Layout) (around : ElementContext) (found : Lis
       let lines : List (List Cell) = suggestion_lines r layout around found s in
       let offers : AllZip IsPlainOffer (suggestion_rows around s) lines = lines_each r layout around found s IsPlainOffer
       (offers_body own_layout s texts.given_utf8 around.start (under_of r layout around.start found)) tt in
-      All-append HasNoFeed (suggestion_head r layout around s) lines (head_plain around.start around.first plain)
-      (all_rows (suggestion_rows around s) lines texts.utf8 are offers own)
+      All-append HasNoFeed _ lines (head_plain around.start around.first plain) (all_rows (suggestion_rows around s) lines texts.utf8 are offers own)

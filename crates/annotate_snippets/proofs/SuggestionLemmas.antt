@@ -1,12 +1,11 @@
 -- The rows of a suggestion's lines, with their names.
-use Rattle.annotate_snippets.proofs.Common.{◌≡◌, ◌≢◌, ℕ, ◌+◌, ◌-◌, ◌<◌, ◌≤◌, Option, None, Some, List, [], ◌∷◌, map}
-use Rattle.annotate_snippets.proofs.Common.{length, take, get_or, refl, sym, ap, subst, ◌∙◌, arith, AllZip, cons_option, filter_map, zip, All-nil}
-use Rattle.annotate_snippets.proofs.Common.{All-cons, All-head, All-tail, Patch, Snippet, Cell, SPACE, suggestion_glyph_of, row_text, norm, shown_number}
-use Rattle.annotate_snippets.proofs.Common.{IsFree, sign_of, first_given, given_lines, shown_kind, IsSuggestible, Begins, Empty, Ends, Offers, Removes, Skips}
-use Rattle.annotate_snippets.proofs.Common.{SuggestionRow, removed_number, new_on, IsRemovedRow, HasSign, Shows, lines_taken, numbers_offered, AreRising}
-use Rattle.annotate_snippets.proofs.Common.{given-is-patched, suggestion_layout, line_numbers, number_text, Elision, NamedRow, OfferedLine, Other, RemovedLine}
-use Rattle.annotate_snippets.proofs.Common.{RowName, SourceRow, cells_of, line_offered, lines_offered, HasStrokes, IsOfferedRow, IsSuggestionRow, name_of_row}
-use Rattle.annotate_snippets.proofs.Common.{Renderer, Layout, capped_sum}
+use Rattle.annotate_snippets.proofs.Common.{◌≡◌, ◌≢◌, ℕ, ◌+◌, ◌-◌, ◌<◌, ◌≤◌, Option, None, Some, List, [], ◌∷◌, map, length, take, get_or, refl, sym, ap, subst}
+use Rattle.annotate_snippets.proofs.Common.{◌∙◌, arith, AllZip, cons_option, filter_map, zip, All-nil, All-cons, All-head, All-tail, Patch, Snippet, Cell}
+use Rattle.annotate_snippets.proofs.Common.{SPACE, suggestion_glyph_of, row_text, norm, shown_number, IsFree, sign_of, first_given, given_lines, shown_kind}
+use Rattle.annotate_snippets.proofs.Common.{IsSuggestible, Begins, Empty, Ends, Offers, Removes, Skips, SuggestionRow, removed_number, new_on, IsRemovedRow}
+use Rattle.annotate_snippets.proofs.Common.{HasSign, Shows, lines_taken, numbers_offered, AreRising, given-is-patched, suggestion_layout, line_numbers}
+use Rattle.annotate_snippets.proofs.Common.{number_text, Elision, NamedRow, OfferedLine, Other, RemovedLine, RowName, SourceRow, cells_of, line_offered}
+use Rattle.annotate_snippets.proofs.Common.{lines_offered, HasStrokes, IsOfferedRow, IsSuggestionRow, name_of_row, Renderer, Layout, capped_sum}
 use Rattle.std.proofs.Common.{chars}
 use Rattle.std.specs.List.{All}
 use Rattle.snippet_suggest.proofs.OrderLaws.{IsRowOf}
@@ -17,8 +16,7 @@ use Rattle.snippet_suggest.proofs.RisingLemmas.{rising_bound as rising_within}
 pub rising_ascends : (from to : ℕ) (ks : List ℕ) → AreRising from to ks → IsAscending ks
 rising_ascends from to [] rising = tt
 rising_ascends from to (j ∷ []) rising = tt
-rising_ascends from to (j ∷ k ∷ ks) rising =
-    (omega (arith, rising.1.0), rising_ascends (j + 1) to (k ∷ ks) rising.1)
+rising_ascends from to (j ∷ k ∷ ks) rising = (omega (arith, rising.1.0), rising_ascends (j + 1) to (k ∷ ks) rising.1)
 
 -- rows of a suggestion with their names
 abbrev pub named_rows : Snippet Patch → List SuggestionRow → List (List Cell) → List NamedRow
@@ -30,8 +28,7 @@ pub cells_of-named : (P : SuggestionRow → List Cell → Type 0) (s : Snippet P
 cells_of-named P s [] [] are = refl
 cells_of-named P s [] (row ∷ part) are = absurd are
 cells_of-named P s (shows ∷ shown) [] are = absurd are
-cells_of-named P s (shows ∷ shown) (row ∷ part) are =
-    ap (λ rows. row ∷ rows) (cells_of-named P s shown part are.1)
+cells_of-named P s (shows ∷ shown) (row ∷ part) are = ap (λ rows. row ∷ rows) (cells_of-named P s shown part are.1)
 
 -- the names of a suggestion's rows are those of what they show
 pub names_of-named : (P : SuggestionRow → List Cell → Type 0) (s : Snippet Patch) (shown : List SuggestionRow) (part : List (List Cell)) → AllZip P shown part
@@ -39,8 +36,7 @@ pub names_of-named : (P : SuggestionRow → List Cell → Type 0) (s : Snippet P
 names_of-named P s [] [] are = refl
 names_of-named P s [] (row ∷ part) are = absurd are
 names_of-named P s (shows ∷ shown) [] are = absurd are
-names_of-named P s (shows ∷ shown) (row ∷ part) are =
-    ap (λ names. name_of_row s shows ∷ names) (names_of-named P s shown part are.1)
+names_of-named P s (shows ∷ shown) (row ∷ part) are = ap (λ names. name_of_row s shows ∷ names) (names_of-named P s shown part are.1)
 
 -- so they offer the lines that these offer
 offered_names : (rows : List NamedRow) → lines_offered rows ≡ filter_map line_offered (map (λ (row : NamedRow). row.name) rows)
@@ -134,8 +130,7 @@ module _ (r : Renderer) (layout : Layout) (s : Snippet Patch) where
         → shown_number (line_numbers r s.line_numbering) layout.gutter (capped_sum (s.line_start + first_given s) k)
         ≡ number_text r s.line_numbering layout.gutter (s.line_start + (first_given s + k))
     number_is k within =
-        let same : capped_sum (s.line_start + first_given s) k ≡ s.line_start + (first_given s + k) = omega (arith, suggestible.numbers) in
-        ap (shown_number (line_numbers r s.line_numbering) layout.gutter) same
+        let same : capped_sum (s.line_start + first_given s) k ≡ s.line_start + (first_given s + k) = omega (arith, suggestible.numbers) in cc same
 
     -- the row of a line that is given offers it
     offered_row : (k : ℕ) (row : List Cell) → k < length (given_lines s)

@@ -1,13 +1,13 @@
 -- What the rows of a suggestion's lines show, by their value.
-use Rattle.annotate_snippets.proofs.Common.{◌≡◌, ◌≢◌, ℕ, zero, suc, ◌+◌, ◌-◌, ◌≤◌, nat_eq, ◌&&◌, not, Bool, true, false}
-use Rattle.annotate_snippets.proofs.Common.{if◌then◌else◌, Some, List, [], ◌∷◌, drop, length, refl, sym, ap, arith, subst, decimal, AllZip}
-use Rattle.annotate_snippets.proofs.Common.{list_all, list_any, slice_get, and_parts, nat_tests, Element, Cause, Message, Origin, Padding, Suggestion, Patch}
-use Rattle.annotate_snippets.proofs.Common.{Snippet, DecorStyle, Ascii, Unicode, LineNumber, Cell, separator_of, separator_row, Layout, is_listed, number_width}
-use Rattle.annotate_snippets.proofs.Common.{Shown, Anonymized, Hidden, SuggestionStart, Opening, Path, counted_line, first_given, given_lines, IsSuggestible}
-use Rattle.annotate_snippets.proofs.Common.{Ends, SuggestionRow, rows_of_suggestion, body_cells, begin_glyph, beside_gutter, end_glyph, is_stroke, HasGutter}
-use Rattle.annotate_snippets.proofs.Common.{IsEdgeRow, IsUnder, Shows, stroke_led, body_shows, last_shows, zip_append, first_two_share, is_end, share_file}
-use Rattle.annotate_snippets.proofs.Common.{suggestion_rows, last_row, suggestion_layout, suggestion_lines, begins_in_row_above, is_next_start, HasRoomFor}
-use Rattle.annotate_snippets.proofs.Common.{Renderer, ElementContext}
+use Rattle.std.proofs.lemmas.Grind.{common_steps}
+use Rattle.annotate_snippets.proofs.Common.{◌≡◌, ◌≢◌, ℕ, zero, suc, ◌+◌, ◌-◌, ◌≤◌, nat_eq, ◌&&◌, not, Bool, true, false, if◌then◌else◌, Some, List, [], ◌∷◌}
+use Rattle.annotate_snippets.proofs.Common.{drop, length, refl, sym, ap, arith, subst, decimal, AllZip, list_all, list_any, slice_get, and_parts, nat_tests}
+use Rattle.annotate_snippets.proofs.Common.{Element, Cause, Message, Origin, Padding, Suggestion, Patch, Snippet, DecorStyle, Ascii, Unicode, LineNumber, Cell}
+use Rattle.annotate_snippets.proofs.Common.{separator_of, separator_row, Layout, is_listed, number_width, Shown, Anonymized, Hidden, SuggestionStart, Opening}
+use Rattle.annotate_snippets.proofs.Common.{Path, counted_line, first_given, given_lines, IsSuggestible, Ends, SuggestionRow, rows_of_suggestion, body_cells}
+use Rattle.annotate_snippets.proofs.Common.{begin_glyph, beside_gutter, end_glyph, is_stroke, HasGutter, IsEdgeRow, IsUnder, Shows, stroke_led, body_shows}
+use Rattle.annotate_snippets.proofs.Common.{last_shows, zip_append, first_two_share, is_end, share_file, suggestion_rows, last_row, suggestion_layout}
+use Rattle.annotate_snippets.proofs.Common.{suggestion_lines, begins_in_row_above, is_next_start, HasRoomFor, Renderer, ElementContext}
 use Rattle.snippet_suggest.specs.declared.SuggestionStart.TheVariants.{Next}
 use Rattle.snippet_suggest.specs.Suggested.{suggested_cells as row_cells}
 use Rattle.annotate_snippets.proofs.PageWords.{found_at, under_of}
@@ -43,8 +43,7 @@ found_ends r layout es i shares =
 
 -- the separator row shows no line
 separator_stroke : (decor : DecorStyle) (gutter : ℕ) → IsEdgeRow decor gutter (beside_gutter gutter (begin_glyph decor Path)) (separator_row decor gutter)
-separator_stroke decor gutter =
-    stroke_led decor gutter (gutter + 1) LineNumber (separator_of decor ∷ []) (omega arith) (strokes decor) (unlisted decor)
+separator_stroke decor gutter = stroke_led decor gutter (gutter + 1) LineNumber (separator_of decor ∷ []) (omega arith) (strokes decor) (unlisted decor)
   where
     strokes : (decor : DecorStyle) → list_all (is_stroke decor) (separator_of decor ∷ []) ≡ true
     strokes Ascii = refl
@@ -88,12 +87,7 @@ module _ (r : Renderer) (layout : Layout) (around : ElementContext) (found : Lis
       → AllZip P (rows_of_suggestion around.start s) (body_cells (suggestion_layout r layout s) around.start s (under_of r layout around.start found))
       → P (Ends (not (is_end around.next))) (row_cells (suggestion_layout r layout s) s [] (Ends (not (is_end around.next))))
       → AllZip P (suggestion_rows around s) (suggestion_lines r layout around found s)
-  lines_each P body last =
-      let next : Bool = not (is_end around.next) in
-      let row : List Cell = row_cells (suggestion_layout r layout s) s [] (Ends next) in
-      zip_append P (rows_of_suggestion around.start s) (if around.shared then [] else Ends next ∷ [])
-      (body_cells (suggestion_layout r layout s) around.start s (under_of r layout around.start found))
-      (if around.shared then [] else row ∷ []) body (ends around.shared)
+  lines_each P body last = grind (arith, common_steps, zip_append, under_of, ends)
     where
       ends : (shared : Bool) → AllZip P (if shared then [] else Ends (not (is_end around.next)) ∷ [])
           (if shared then [] else row_cells (suggestion_layout r layout s) s [] (Ends (not (is_end around.next))) ∷ [])

@@ -57,13 +57,10 @@ module _ (around : ElementContext) (s : Snippet Patch) where
 
   all_offer : numbers_offered (suggestion_rows around s) ≡ numbers_given s
   all_offer =
-      filter_map-append number_offered rows (ends around.shared) ∙ ap (λ ks. numbers_offered rows ++ ks) (ends_offer around.shared)
-      ∙ append-nil (numbers_offered rows) ∙ rows-offer around.start s
+      cc (filter_map-append number_offered rows (ends around.shared), ends_offer around.shared, append-nil (numbers_offered rows), rows-offer around.start s)
 
   all_take : lines_taken (suggestion_rows around s) ≡ removed_lines s
-  all_take =
-      filter_map-append line_taken rows (ends around.shared) ∙ ap (λ ks. lines_taken rows ++ ks) (ends_take around.shared) ∙ append-nil (lines_taken rows)
-      ∙ rows-take around.start s
+  all_take = cc (filter_map-append line_taken rows (ends around.shared), ends_take around.shared, append-nil (lines_taken rows), rows-take around.start s)
 
   -- so rows with their names, in their order, offer just the lines that the suggestion offers, and show as removed those that it takes away
   pub offered_in_order : (after : List NamedRow) → map (λ row. row.name) after ≡ map (name_of_row s) (suggestion_rows around s)
@@ -81,8 +78,7 @@ module _ (around : ElementContext) (s : Snippet Patch) where
 same_lines_given : (s : Snippet Patch) → HaveSpans s → AreDisjoint (edits_of s) → s.markers.items ≢ [] → IsOfferable s
     → texts_of (lines_of (spliced_text s.fold (cow_str_bytes s.source.text) (edits_of s))) ≡ given_lines s
 same_lines_given s spans disjoint some offerable =
-    let part = given-part s spans disjoint some offerable in
-    ap (λ text. texts_of (lines_of text)) (part.spliced ∙ sym part.text)
+    let part = given-part s spans disjoint some offerable in ap (λ text. texts_of (lines_of text)) (part.spliced ∙ sym part.text)
 
 pub given_as_it_was : (s : Snippet Patch) → HaveSpans s → AreDisjoint (edits_of s) → s.markers.items ≢ [] → IsOfferable s → IsAsItWas s
     → given_lines s ≡ last_reached s ∷ []
@@ -96,8 +92,7 @@ spliced_as_it_was s spans disjoint some offerable same = same_lines_given s span
 lines_signed : (r : Renderer) (layout : Layout) (around : ElementContext) (found : List Cell) (s : Snippet Patch)
     → AllZip (HasSign (suggestion_layout r layout s) s) (suggestion_rows around s) (suggestion_lines r layout around found s)
 lines_signed r layout around found s =
-    lines_each r layout around found s (HasSign (suggestion_layout r layout s) s)
-    (body_signs (suggestion_layout r layout s) around.start s (under_of r layout around.start found)) tt
+    lines_each r layout around found s _ (body_signs (suggestion_layout r layout s) around.start s (under_of r layout around.start found)) tt
 
 -- the cells of a suggestion's rows are those of its head and of its lines
 pub patch_cells : (r : Renderer) (layout : Layout) (around : ElementContext) (found : List Cell) (s : Snippet Patch)

@@ -1,9 +1,8 @@
 -- The lines of a page's text are its rows, where no row holds a line feed.
-use Rattle.annotate_snippets.proofs.Common.{◌≡◌, ℕ, ◌<◌, ◌==◌, Bool, true, false, List, [], ◌∷◌, ◌++◌, All, codes, length, map, refl}
-use Rattle.annotate_snippets.proofs.Common.{sym, ap, ◌∙◌, arith, flat_map, onto_first, append-nil, All-head, All-map, All-tail, length-slice_split}
-use Rattle.annotate_snippets.proofs.Common.{slice_split-cons_no, slice_split-cons_yes, slice_split_at, slice_split_none, further_text, plain_text, row_text}
-use Rattle.annotate_snippets.proofs.Common.{Cell, text_cells, LineNumber, Error, HasNoFeed, or_empty_line, page_lines, text_lines, GroupPage, group_rows}
-use Rattle.annotate_snippets.proofs.Common.{page_text}
+use Rattle.annotate_snippets.proofs.Common.{◌≡◌, ℕ, ◌<◌, ◌==◌, Bool, true, false, List, [], ◌∷◌, ◌++◌, All, codes, length, map, refl, sym, ap, ◌∙◌, arith}
+use Rattle.annotate_snippets.proofs.Common.{flat_map, onto_first, append-nil, All-head, All-map, All-tail, length-slice_split, slice_split-cons_no}
+use Rattle.annotate_snippets.proofs.Common.{slice_split-cons_yes, slice_split_at, slice_split_none, further_text, plain_text, row_text, Cell, text_cells}
+use Rattle.annotate_snippets.proofs.Common.{LineNumber, Error, HasNoFeed, or_empty_line, page_lines, text_lines, GroupPage, group_rows, page_text}
 use Rattle.annotate_snippets.proofs.PageWords.{Page}
 use Rattle.annotate_snippets.proofs.OneLineTexts.{HasOneLineRows, IsNoFeed}
 
@@ -58,8 +57,7 @@ lines_of_page (g ∷ h ∷ page) all =
     lines_joined (plain_text (group_rows g)) (page_text later)
     ∙ ap (λ lines. lines ++ text_lines (page_text later)) (lines_of_rows (group_rows g) (All-head HasOneLineRows g later all))
     ∙ ap (λ lines. group_lines g ++ lines) (lines_of_page (h ∷ page) (All-tail HasOneLineRows g later all)
-    ∙ some_lines (map row_text (group_rows h)) (flat_map group_lines page))
-    ∙ sym (some_lines (map row_text (group_rows g)) (flat_map group_lines later))
+    ∙ some_lines (map row_text (group_rows h)) (flat_map group_lines page)) ∙ sym (some_lines (map row_text (group_rows g)) (flat_map group_lines later))
 
 -- ---- computed on small inputs
 

@@ -1,20 +1,19 @@
 -- The lines of a report's text form are those of its paragraphs, where line feeds are shown.
-use Rattle.annotate_snippets.proofs.Common.{◌≡◌, ℕ, ◌==◌, ◌&&◌, not, Bool, true, false, IfSome, Option, None, Some, List, [], ◌∷◌}
-use Rattle.annotate_snippets.proofs.Common.{◌++◌, All, codes, if◌then◌else◌, map, replicate, refl, arith, cow_str_bytes, decimal, flat_map}
-use Rattle.annotate_snippets.proofs.Common.{option_map, nat_tests, All-append, All-cons, All-filter, All-head, All-nil, All-replicate, All-tail, Source}
-use Rattle.annotate_snippets.proofs.Common.{locations_of, Heading, heading_of_message, heading_of_title, is_hidden, name_of, Annotation, Element, Group, Id}
-use Rattle.annotate_snippets.proofs.Common.{Patch, Snippet, Title, picture_of, with_line_feeds_shown, Edit, without_final_line_feeds, trimmed_of, is_blank_text}
-use Rattle.annotate_snippets.proofs.Common.{norm, normalized_chars, width_of, further_indent, is_labelled, named_spans, span_text, FormPiece, form_text}
-use Rattle.annotate_snippets.proofs.Common.{before_id, before_name, heading_form, heading_label, id_label, label_of_id, added_words, edit_line}
-use Rattle.annotate_snippets.proofs.Common.{heading_paragraph, line_paragraph, lines_after, lines_of_paragraphs, option_lines, span_lines}
-use Rattle.annotate_snippets.proofs.Common.{suggestion_paragraphs, place, place_in_file, added_text, before_added, edit_indent, edit_place, named_path}
-use Rattle.annotate_snippets.proofs.Common.{HeadingKind, SuggestionContext, SuggestionSettings, All-named_spans, IsTextOf, cause-text, heading-text}
-use Rattle.annotate_snippets.proofs.Common.{lines-of_text, no_text, origin-text, suggestion-text, text-append, text-each, PathIs, before_added-each}
-use Rattle.annotate_snippets.proofs.Common.{before_id-each, before_name-each, decimal-each, edit_indent-each, edit_place-each, further_indent-each, is_odd}
-use Rattle.annotate_snippets.proofs.Common.{known-each, place_in_file-each, span_text-each, colon_of, is_set, drawn_elements, file_of_group, first_two_share}
-use Rattle.annotate_snippets.proofs.Common.{path_bytes, is_drawn, HasOneLineTexts, text_lines, element_paragraphs, elements_paragraphs, group_paragraphs}
-use Rattle.annotate_snippets.proofs.Common.{report_paragraphs, title_paragraphs, PreviousSuggestion, before_next, element_form, elements_form, group_form}
-use Rattle.annotate_snippets.proofs.Common.{suggestion_place, suggestion_settings, text_form, Renderer}
+use Rattle.annotate_snippets.proofs.Common.{◌≡◌, ℕ, ◌==◌, ◌&&◌, not, Bool, true, false, IfSome, Option, None, Some, List, [], ◌∷◌, ◌++◌, All, codes}
+use Rattle.annotate_snippets.proofs.Common.{if◌then◌else◌, map, replicate, refl, arith, cow_str_bytes, decimal, flat_map, option_map, nat_tests, All-append}
+use Rattle.annotate_snippets.proofs.Common.{All-cons, All-filter, All-head, All-nil, All-replicate, All-tail, Source, locations_of, Heading, heading_of_message}
+use Rattle.annotate_snippets.proofs.Common.{heading_of_title, is_hidden, name_of, Annotation, Element, Group, Id, Patch, Snippet, Title, picture_of}
+use Rattle.annotate_snippets.proofs.Common.{with_line_feeds_shown, Edit, without_final_line_feeds, trimmed_of, is_blank_text, norm, normalized_chars, width_of}
+use Rattle.annotate_snippets.proofs.Common.{further_indent, is_labelled, named_spans, span_text, FormPiece, form_text, before_id, before_name, heading_form}
+use Rattle.annotate_snippets.proofs.Common.{heading_label, id_label, label_of_id, added_words, edit_line, heading_paragraph, line_paragraph, lines_after}
+use Rattle.annotate_snippets.proofs.Common.{lines_of_paragraphs, option_lines, span_lines, suggestion_paragraphs, place, place_in_file, added_text}
+use Rattle.annotate_snippets.proofs.Common.{before_added, edit_indent, edit_place, named_path, HeadingKind, SuggestionContext, SuggestionSettings}
+use Rattle.annotate_snippets.proofs.Common.{All-named_spans, IsTextOf, cause-text, heading-text, lines-of_text, no_text, origin-text, suggestion-text}
+use Rattle.annotate_snippets.proofs.Common.{text-append, text-each, PathIs, before_added-each, before_id-each, before_name-each, decimal-each, edit_indent-each}
+use Rattle.annotate_snippets.proofs.Common.{edit_place-each, further_indent-each, is_odd, known-each, place_in_file-each, span_text-each, colon_of, is_set}
+use Rattle.annotate_snippets.proofs.Common.{drawn_elements, file_of_group, first_two_share, path_bytes, is_drawn, HasOneLineTexts, text_lines}
+use Rattle.annotate_snippets.proofs.Common.{element_paragraphs, elements_paragraphs, group_paragraphs, report_paragraphs, title_paragraphs, PreviousSuggestion}
+use Rattle.annotate_snippets.proofs.Common.{before_next, element_form, elements_form, group_form, suggestion_place, suggestion_settings, text_form, Renderer}
 use Rattle.std.proofs.Common.{chars, filter}
 use Rattle.snippet_model.specs.declared.snippet.Element.TheVariants as element
 use Rattle.snippet_parts.specs.Numbered.{numbered_source}
@@ -32,8 +31,7 @@ element_text : (r : Renderer) (file : Option (List ℕ)) (before : Option Previo
     → IsTextOf (element_paragraphs r file before followed e) (element_form r file before followed e)
 element_text r file before followed (element.Message m) = heading-text r.hyperlink kind.Message (heading_of_message m)
 element_text r file before followed (element.Cause s) = cause-text r.anonymized_origin_line_numbers s
-element_text r file before followed (element.Suggestion s) =
-    suggestion-text (suggestion_settings r) (suggestion_place file before followed s) s
+element_text r file before followed (element.Suggestion s) = suggestion-text (suggestion_settings r) (suggestion_place file before followed s) s
 element_text r file before followed (element.Origin o) = origin-text r.anonymized_origin_line_numbers o
 element_text r file before followed (element.Padding p) = no_text
 
@@ -224,8 +222,7 @@ suggestion-lines settings at s asked own =
 
 element-lines : (r : Renderer) (file : Option (List ℕ)) (before : Option PreviousSuggestion) (followed : Bool) (e : Element) → r.show_line_feeds ≡ true
     → IsOneLineElement false e → AreLines (element_paragraphs r file before followed e)
-element-lines r file before followed (element.Message m) asked plain =
-    heading-lines kind.Message (heading_of_message m) (plain, tt)
+element-lines r file before followed (element.Message m) asked plain = heading-lines kind.Message (heading_of_message m) (plain, tt)
 element-lines r file before followed (element.Cause s) asked plain =
     let lines : List (List ℕ) = span_lines r.anonymized_origin_line_numbers (numbered_source s) (path_bytes s.path) (named_spans s.markers.items) in
     each_line lines (spans-plain r.anonymized_origin_line_numbers (numbered_source s) (path_bytes s.path) (named_spans s.markers.items) plain.0

@@ -1,17 +1,16 @@
 -- The texts that are woven of a report's text form show it.
 use Rattle.std.proofs.lemmas.Grind.{common_steps}
 use Rattle.std.proofs.Common.{arith}
-use Rattle.annotate_snippets.proofs.Common.{◌≡◌, ◌∙◌, ℕ, ◌==◌, Bool, true, false, not, Option, None, Some, List, [], ◌∷◌, ◌++◌}
-use Rattle.annotate_snippets.proofs.Common.{cond, if◌then◌else◌, refl, sym, ap, subst, AllZip, filter, flat_map, list_any, option_to_list, append-nil}
-use Rattle.annotate_snippets.proofs.Common.{All-nil, All-head, All-tail, All-append, All-filter, flat_map-append, IsWoven, Stylesheet, plain_woven, Heading}
-use Rattle.annotate_snippets.proofs.Common.{heading_of_message, heading_of_title, trusted_of_element, trusted_of_title, trusted_texts, Element, Message, Cause}
-use Rattle.annotate_snippets.proofs.Common.{Suggestion, Origin, Padding, Group, Title, id_links, cause_form, FormPiece, begun_after, form_bytes, form_text}
-use Rattle.annotate_snippets.proofs.Common.{plain_from, form_links, piece_links, heading_form, StandInOrder, origin_form, HeadingKind, cause-free, heading-free}
-use Rattle.annotate_snippets.proofs.Common.{origin-free, suggestion-free, cause-links, heading-links, origin-links, suggestion-links, cause-holds}
-use Rattle.annotate_snippets.proofs.Common.{heading_stays, plain-append, stand-append, drawn_elements, file_of_group, first_two_share, LawsIn, TextLaws}
-use Rattle.annotate_snippets.proofs.Common.{IsTextUnder, is_drawn, TextShown, IsFreeBut, report_links, PreviousSuggestion, before_next, element_form}
-use Rattle.annotate_snippets.proofs.Common.{element_texts, elements_form, group_form, group_texts, report_texts, suggestion_place, suggestion_settings}
-use Rattle.annotate_snippets.proofs.Common.{text_form, whole_text, Renderer, Text, AllZip-weaker}
+use Rattle.annotate_snippets.proofs.Common.{◌≡◌, ◌∙◌, ℕ, ◌==◌, Bool, true, false, not, Option, None, Some, List, [], ◌∷◌, ◌++◌, cond, if◌then◌else◌, refl, sym}
+use Rattle.annotate_snippets.proofs.Common.{ap, subst, AllZip, filter, flat_map, list_any, option_to_list, append-nil, All-nil, All-head, All-tail, All-append}
+use Rattle.annotate_snippets.proofs.Common.{All-filter, flat_map-append, IsWoven, Stylesheet, plain_woven, Heading, heading_of_message, heading_of_title}
+use Rattle.annotate_snippets.proofs.Common.{trusted_of_element, trusted_of_title, trusted_texts, Element, Message, Cause, Suggestion, Origin, Padding, Group}
+use Rattle.annotate_snippets.proofs.Common.{Title, id_links, cause_form, FormPiece, begun_after, form_bytes, form_text, plain_from, form_links, piece_links}
+use Rattle.annotate_snippets.proofs.Common.{heading_form, StandInOrder, origin_form, HeadingKind, cause-free, heading-free, origin-free, suggestion-free}
+use Rattle.annotate_snippets.proofs.Common.{cause-links, heading-links, origin-links, suggestion-links, cause-holds, heading_stays, plain-append, stand-append}
+use Rattle.annotate_snippets.proofs.Common.{drawn_elements, file_of_group, first_two_share, LawsIn, TextLaws, IsTextUnder, is_drawn, TextShown, IsFreeBut}
+use Rattle.annotate_snippets.proofs.Common.{report_links, PreviousSuggestion, before_next, element_form, element_texts, elements_form, group_form, group_texts}
+use Rattle.annotate_snippets.proofs.Common.{report_texts, suggestion_place, suggestion_settings, text_form, whole_text, Renderer, Text, AllZip-weaker}
 use Rattle.std.specs.List.{All}
 use Rattle.snippet_titles.specs.HeadingRows.{shown_text}
 use Rattle.snippet_text_form.specs.declared.heading.HeadingKind.TheVariants as kind
@@ -54,11 +53,9 @@ both_free trusted begun a b first second =
 -- the links of an element, of elements and of a group
 element_links : (r : Renderer) (file : Option (List ℕ)) (before : Option PreviousSuggestion) (followed : Bool) (e : Element)
     → form_links (element_form r file before followed e) ≡ []
-element_links r file before followed (Message m) =
-    heading-links r.hyperlink kind.Message (heading_of_message m)
+element_links r file before followed (Message m) = heading-links r.hyperlink kind.Message (heading_of_message m)
 element_links r file before followed (Cause s) = cause-links r.anonymized_origin_line_numbers s
-element_links r file before followed (Suggestion s) =
-    suggestion-links (suggestion_settings r) (suggestion_place file before followed s) s
+element_links r file before followed (Suggestion s) = suggestion-links (suggestion_settings r) (suggestion_place file before followed s) s
 element_links r file before followed (Origin o) = origin-links r.anonymized_origin_line_numbers o
 element_links r file before followed (Padding p) = refl
 
@@ -95,10 +92,8 @@ heading_holds begun hyperlink of heading = by (list_any (λ c. c == 10) (shown_t
 
 element_holds : (r : Renderer) (file : Option (List ℕ)) (before : Option PreviousSuggestion) (followed : Bool) (e : Element) (begun : Bool)
     → StandInOrder (element_texts e) (plain_from begun (element_form r file before followed e))
-element_holds r file before followed (Message m) begun =
-    heading_holds begun r.hyperlink kind.Message (heading_of_message m)
-element_holds r file before followed (Cause s) begun =
-    cause-holds begun r.anonymized_origin_line_numbers s
+element_holds r file before followed (Message m) begun = heading_holds begun r.hyperlink kind.Message (heading_of_message m)
+element_holds r file before followed (Cause s) begun = cause-holds begun r.anonymized_origin_line_numbers s
 element_holds r file before followed (Suggestion s) begun = tt
 element_holds r file before followed (Origin o) begun = tt
 element_holds r file before followed (Padding p) begun = tt
@@ -108,8 +103,7 @@ elements_hold : (r : Renderer) (file : Option (List ℕ)) (before : Option Previ
 elements_hold r file before [] begun = tt
 elements_hold r file before (e ∷ es) begun =
     both_hold (element_texts e) (flat_map element_texts es) begun (element_form r file before (first_two_share (e ∷ es)) e)
-    (elements_form r file (before_next before e) es) (element_holds r file before (first_two_share (e ∷ es)) e)
-    (elements_hold r file (before_next before e) es)
+    (elements_form r file (before_next before e) es) (element_holds r file before (first_two_share (e ∷ es)) e) (elements_hold r file (before_next before e) es)
 
 title_holds : (r : Renderer) (title : Option Title) (begun : Bool)
     → StandInOrder (flat_map (λ (t : Title). whole_text (heading_of_title t)) (option_to_list title)) (plain_from begun (title_form r title))
@@ -187,21 +181,17 @@ IsFormText r groups sheet text =
 
 report_woven : (r : Renderer) (groups : List Group) (sheet : Stylesheet) (text : List ℕ) → IsFormText r groups sheet text
     → IsWoven sheet text (form_text (text_form r groups)) (report_links r groups)
-report_woven r groups sheet text is =
-    subst (IsWoven sheet text (form_text (text_form r groups))) (groups_links r groups groups ∙ links_of_titles r groups) is.1
+report_woven r groups sheet text is = subst (IsWoven sheet text (form_text (text_form r groups))) (groups_links r groups groups ∙ links_of_titles r groups) is.1
 
 -- texts of the text form show the report
 pub text-shown : (r : Renderer) (groups : List Group) (sheets : List Stylesheet) (texts : List (List ℕ)) → AllZip (IsFormText r groups) sheets texts
     → TextShown r groups sheets texts
 text-shown r groups sheets texts are =
-    record {
-      are = AllZip-weaker (IsFormText r groups) (λ sheet text. text ≡ form_bytes sheet (text_form r groups)) (λ sheet text is. is.0) sheets texts are;
-    }
+    record { are = AllZip-weaker (IsFormText r groups) (λ sheet text. text ≡ form_bytes sheet (text_form r groups)) (λ sheet text is. is.0) sheets texts are }
 
 -- a report's text form has its laws
 pub text-laws : (r : Renderer) (groups : List Group) → TextLaws r groups
-text-laws r groups =
-    record { holds = groups_hold r groups groups false; free = groups_free r groups groups false; lines = paragraph_lines r groups }
+text-laws r groups = record { holds = groups_hold r groups groups false; free = groups_free r groups groups false; lines = paragraph_lines r groups }
 
 -- so has a text of it
 pub text-law : (r : Renderer) (groups : List Group) (sheet : Stylesheet) (text : List ℕ) → IsFormText r groups sheet text → LawsIn Text r groups sheet text

@@ -1,12 +1,11 @@
 -- No row of a title that begins with a word begins with a number.
-use Rattle.annotate_snippets.proofs.Common.{◌≡◌, ℕ, zero, suc, ◌+◌, ◌<◌, ◌≤◌, ◌==◌, ◌||◌, not, Bool, true, false, cond, Option}
-use Rattle.annotate_snippets.proofs.Common.{Some, List, [], ◌∷◌, ◌++◌, All, get_or, length, map, replicate, take, refl, sym, ap, subst, ◌∙◌}
-use Rattle.annotate_snippets.proofs.Common.{arith, is_ascii_alphanumeric, is_ascii_digit, is_in_range, slice_index_or, append_assoc, All-append, All-cons}
-use Rattle.annotate_snippets.proofs.Common.{All-from_get_or, All-nil, row_text, Heading, heading_of_title, is_hidden, name_of, HasNoNumber, Title, Cell, SPACE}
-use Rattle.annotate_snippets.proofs.Common.{norm, colon_of, heading_lines, id_text, heading_label_text, label_width, roles_of, row_text-label, HeadingRoles}
-use Rattle.annotate_snippets.proofs.Common.{width_of, texts_below, closing_row-unnumbered, separator_row-unnumbered, IsTitleOfWords, begins_with_number}
-use Rattle.annotate_snippets.proofs.Common.{begins_with_word, rows_after_title, ShowsTitlePart, Renderer, Layout, GroupPosition, Next, closing_row}
-use Rattle.annotate_snippets.proofs.Common.{separator_row}
+use Rattle.annotate_snippets.proofs.Common.{◌≡◌, ℕ, zero, suc, ◌+◌, ◌<◌, ◌≤◌, ◌==◌, ◌||◌, not, Bool, true, false, cond, Option, Some, List, [], ◌∷◌, ◌++◌, All}
+use Rattle.annotate_snippets.proofs.Common.{get_or, length, map, replicate, take, refl, sym, ap, subst, ◌∙◌, arith, is_ascii_alphanumeric, is_ascii_digit}
+use Rattle.annotate_snippets.proofs.Common.{is_in_range, slice_index_or, append_assoc, All-append, All-cons, All-from_get_or, All-nil, row_text, Heading}
+use Rattle.annotate_snippets.proofs.Common.{heading_of_title, is_hidden, name_of, HasNoNumber, Title, Cell, SPACE, norm, colon_of, heading_lines, id_text}
+use Rattle.annotate_snippets.proofs.Common.{heading_label_text, label_width, roles_of, row_text-label, HeadingRoles, width_of, texts_below}
+use Rattle.annotate_snippets.proofs.Common.{closing_row-unnumbered, separator_row-unnumbered, IsTitleOfWords, begins_with_number, begins_with_word}
+use Rattle.annotate_snippets.proofs.Common.{rows_after_title, ShowsTitlePart, Renderer, Layout, GroupPosition, Next, closing_row, separator_row}
 use Rattle.std.proofs.Common.{chars}
 use Rattle.snippet_titles.specs.declared.style.TitleStyle.TheVariants as style
 use Rattle.annotate_snippets.proofs.HeadingShown.{texts_of}
@@ -43,8 +42,7 @@ unnumbered_row : (n : ℕ) (row : List Cell) → ((c : ℕ) → c < n → is_asc
 unnumbered_row zero row none = refl
 unnumbered_row (suc n) [] none = refl
 unnumbered_row (suc n) (cell ∷ cells) none =
-    none_there (cell.ch == 32) (is_ascii_alphanumeric cell.ch) (is_ascii_digit cell.ch) (begins_with_number (take n (row_text cells))) (digit_too cell.ch)
-    (none 0 (omega arith)) (unnumbered_row n cells (λ c within. none (suc c) (omega (arith, within))))
+    none_there (cell.ch == 32) _ _ _ (digit_too cell.ch) (none 0 (omega arith)) (unnumbered_row n cells (λ c within. none (suc c) (omega (arith, within))))
 
 -- a row has no number where those of lines stand, in the cells up to the one before the separator
 abbrev IsUnnumbered : ℕ → List Cell → Type 0
@@ -96,11 +94,9 @@ title_unnumbered r layout place follows title rows shown words =
     let each : (i : ℕ) → i < length shown.own → IsUnnumbered layout.gutter (get_or shown.own i []) =
     λ i within. ap (λ text. begins_with_number (take (layout.gutter + 1) text)) (texts_of shown.shows i ∙ ap (λ first. text_at first i) label)
     ∙ text_of_row (layout.gutter + 1) (norm (chars (name_of title.level))) after_name (label_width heading) words.word
-    (omega (arith, words.wide roles, ap width_of (row_text-label false roles heading)))
-    (heading_lines heading) i in
+    (omega (arith, words.wide roles, ap width_of (row_text-label false roles heading))) (heading_lines heading) i in
     subst (All (IsUnnumbered layout.gutter)) (sym shown.rows_are) (All-append (IsUnnumbered layout.gutter) shown.own
-    (rows_after_title r layout place follows title.allows_styling) (All-from_get_or (IsUnnumbered layout.gutter) shown.own [] each)
-    (after_title r layout _ _))
+    (rows_after_title r layout place follows title.allows_styling) (All-from_get_or (IsUnnumbered layout.gutter) shown.own [] each) (after_title r layout _ _))
 
 -- the same of the title that a group has
 pub group_title_unnumbered : (r : Renderer) (layout : Layout) (place : GroupPosition) (follows : Next) (own : Option Title) (title : Title)

@@ -111,18 +111,13 @@ title_part-free r layout place follows (Some title) more =
 pub element_free : (trusted : List (List ℕ)) (e : Element) (part : List NamedRow) → AreTextsAmong trusted (trusted_of_element e) → IsFreeElement e part
     → All (IsFreeRow trusted) (cells_of part)
 element_free trusted (Message message) part among free =
-    All-map (IsFreeRow trusted) (λ (row : NamedRow). row.cells)
-    part (All-weaker (λ (row : NamedRow). IsFreeButText (heading_of_message message)
+    All-map (IsFreeRow trusted) (λ (row : NamedRow). row.cells) part (All-weaker (λ (row : NamedRow). IsFreeButText (heading_of_message message)
     row.cells) (λ (row : NamedRow). IsFreeRow trusted row.cells)
     (λ row own. own_row trusted (heading_of_message message) (λ styled. message_among trusted message among) row.cells own) part free)
-element_free trusted (Cause snippet) part among free =
-    free_rows trusted (cells_of part) (All-map IsFree (λ (row : NamedRow). row.cells) part free)
-element_free trusted (Suggestion snippet) part among free =
-    free_rows trusted (cells_of part) (All-map IsFree (λ (row : NamedRow). row.cells) part free)
-element_free trusted (Origin origin) part among free =
-    free_rows trusted (cells_of part) (All-map IsFree (λ (row : NamedRow). row.cells) part free)
-element_free trusted (Padding padding) part among free =
-    free_rows trusted (cells_of part) (All-map IsFree (λ (row : NamedRow). row.cells) part free)
+element_free trusted (Cause snippet) part among free = free_rows trusted (cells_of part) (All-map IsFree (λ (row : NamedRow). row.cells) part free)
+element_free trusted (Suggestion snippet) part among free = free_rows trusted (cells_of part) (All-map IsFree (λ (row : NamedRow). row.cells) part free)
+element_free trusted (Origin origin) part among free = free_rows trusted (cells_of part) (All-map IsFree (λ (row : NamedRow). row.cells) part free)
+element_free trusted (Padding padding) part among free = free_rows trusted (cells_of part) (All-map IsFree (λ (row : NamedRow). row.cells) part free)
 
 -- the trusted texts of each of some elements are among those of all
 pub texts_among : (titles : List (List ℕ)) (es : List Element) → All (λ e. AreTextsAmong (titles ++ flat_map trusted_of_element es) (trusted_of_element e)) es
@@ -143,6 +138,5 @@ texts_among titles es =
         let same : flat_map chars (own ++ others) ≡ flat_map chars own ++ flat_map chars others = flat_map-append chars own others in
         let All_in : Element → Type 0 = λ e. AreTextsAmong (own ++ others) (trusted_of_element e) in
         All-cons All_in x xs (λ c is. subst (λ cs. Contains cs c) (sym same) (Contains-append_left (flat_map chars own) (flat_map chars others) c is))
-        (All-weaker (λ e. AreTextsAmong others (trusted_of_element e))
-        All_in (λ e among c is. subst (λ cs. Contains cs c) (sym same)
+        (All-weaker (λ e. AreTextsAmong others (trusted_of_element e)) All_in (λ e among c is. subst (λ cs. Contains cs c) (sym same)
         (Contains-append_right (flat_map chars own) (flat_map chars others) c (among c is))) xs (each xs))

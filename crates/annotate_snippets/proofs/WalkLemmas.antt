@@ -8,20 +8,17 @@ use Rattle.snippet_model.specs.declared.snippet.Origin.{Origin as PlaceGiven}
 -- what the rest of a list gives, one item on
 pub filter_map-rest : {X Y : Type 0} (h : X → Option Y) (xs : List X) (i : ℕ) (x : X) → i < length xs → x ≡ get_or xs i x
     → filter_map h (drop i xs) ≡ cons_option (h x) (filter_map h (drop (i + 1) xs))
-filter_map-rest h xs i x within is =
-    ap (filter_map h) (drop_more xs i x within) ∙ ap (λ y. cons_option (h y) (filter_map h (drop (i + 1) xs))) (sym is)
+filter_map-rest h xs i x within is = ap (filter_map h) (drop_more xs i x within) ∙ ap (λ y. cons_option (h y) (filter_map h (drop (i + 1) xs))) (sym is)
 
 -- where nothing before an item gives anything, and the item does, it is the first
 pub filter_map-first : {X Y : Type 0} (h : X → Option Y) (xs : List X) (i : ℕ) (x : X) (y : Y) → filter_map h xs ≡ filter_map h (drop i xs) → i < length xs
     → x ≡ get_or xs i x → h x ≡ Some y → slice_get (filter_map h xs) 0 ≡ Some y
-filter_map-first h xs i x y none within is some =
-    ap (λ ys. slice_get ys 0) (none ∙ filter_map-rest h xs i x within is ∙ ap (λ t. cons_option t (filter_map h (drop (i + 1) xs))) some)
+filter_map-first h xs i x y none within is some = cc (none, filter_map-rest h xs i x within is, some)
 
 -- nor does it give anything, where it doesn't
 pub filter_map-passed : {X Y : Type 0} (h : X → Option Y) (xs : List X) (i : ℕ) (x : X) → filter_map h xs ≡ filter_map h (drop i xs) → i < length xs
     → x ≡ get_or xs i x → h x ≡ None → filter_map h xs ≡ filter_map h (drop (i + 1) xs)
-filter_map-passed h xs i x none within is nothing =
-    none ∙ filter_map-rest h xs i x within is ∙ ap (λ t. cons_option t (filter_map h (drop (i + 1) xs))) nothing
+filter_map-passed h xs i x none within is nothing = none ∙ filter_map-rest h xs i x within is ∙ ap (λ t. cons_option t (filter_map h (drop (i + 1) xs))) nothing
 
 -- and nothing does, where no item is left
 pub filter_map-none : {X Y : Type 0} (h : X → Option Y) (xs : List X) (i : ℕ) → filter_map h xs ≡ filter_map h (drop i xs) → length xs ≤ i
@@ -50,5 +47,4 @@ no_file (Padding p) cause origin = refl
 -- the path of a report's primary file
 pub report_path-first : (gs : List Group) (i : ℕ) (g : Group) (path : List ℕ) → filter_map primary_path gs ≡ filter_map primary_path (drop i gs) → i < length gs
     → g ≡ get_or gs i g → primary_path g ≡ Some path → Some path ≡ slice_get (filter_map primary_path gs) 0
-report_path-first gs i g path none within is some =
-    sym (filter_map-first primary_path gs i g path none within is some)
+report_path-first gs i g path none within is some = sym (filter_map-first primary_path gs i g path none within is some)

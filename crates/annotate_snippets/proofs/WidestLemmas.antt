@@ -23,8 +23,7 @@ unnumbered false n = refl
 pub width-undrawn : (e : Element) → is_drawn e ≡ false → width_wanted e ≡ 0
 width-undrawn (Message m) out = refl
 width-undrawn (Cause s) out = cc
-width-undrawn (Suggestion s) out =
-    ap (λ t. cond (s.line_numbering && t) (length (decimal (counted_line s))) 0) out ∙ unnumbered s.line_numbering (length (decimal (counted_line s)))
+width-undrawn (Suggestion s) out = cc (out, unnumbered s.line_numbering (length (decimal (counted_line s))))
 width-undrawn (Origin o) out = refl
 width-undrawn (Padding p) out = refl
 
@@ -44,11 +43,8 @@ widest-drawn wants none most (e ∷ es) = by (is_drawn e) refl (λ m. widest-dra
   where
     by : (drawn : Bool) → is_drawn e ≡ drawn → ((m : ℕ) → fold (greater wants) m (filter is_drawn es) ≡ fold (greater wants) m es)
         → fold (greater wants) most (cond (is_drawn e) (e ∷ filter is_drawn es) (filter is_drawn es)) ≡ fold (greater wants) (greater wants most e) es
-    by true is rest =
-        ap (λ b. fold (greater wants) most (cond b (e ∷ filter is_drawn es) (filter is_drawn es))) is ∙ rest (greater wants most e)
-    by false is rest =
-        let same : most ≡ greater wants most e = omega (arith, none e is) in
-        ap (λ b. fold (greater wants) most (cond b (e ∷ filter is_drawn es) (filter is_drawn es))) is ∙ rest most ∙ ap (λ m. fold (greater wants) m es) same
+    by true is rest = ap (λ b. fold (greater wants) most (cond b (e ∷ filter is_drawn es) (filter is_drawn es))) is ∙ rest (greater wants most e)
+    by false is rest = let same : most ≡ greater wants most e = omega (arith, none e is) in cc (is, rest most, same)
 
 -- that of a group's elements that were prepared is that of the group
 pub widest-prepared : (wants : Element → ℕ) → ((e : Element) → is_drawn e ≡ false → wants e ≡ 0)

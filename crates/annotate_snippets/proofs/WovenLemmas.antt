@@ -8,8 +8,7 @@ use Rattle.annotate_snippets.proofs.PageWords.{Page, PrintsPart}
 
 -- no text is woven
 pub IsWoven-nil : (sheet : Stylesheet) → IsWoven sheet [] [] []
-IsWoven-nil sheet =
-    record { pieces = []; text_is = refl; plain_is = refl; links_are = refl; of_sheet = All-nil (IsOfSheet sheet); ended = refl }
+IsWoven-nil sheet = record { pieces = []; text_is = refl; plain_is = refl; links_are = refl; of_sheet = All-nil (IsOfSheet sheet); ended = refl }
 
 -- two woven texts with a line feed between them
 pub IsWoven-joined : (sheet : Stylesheet) (a pa : List ℕ) (la : List (List ℕ)) (b pb : List ℕ) (lb : List (List ℕ)) → IsWoven sheet a pa la

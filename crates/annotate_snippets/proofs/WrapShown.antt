@@ -1,15 +1,15 @@
 -- A report whose titles and messages are wrapped: what it has in common with the one in whose place it is shown, and what follows of its texts.
-use Rattle.annotate_snippets.proofs.Common.{◌≡◌, ◌∙◌, ℕ, ◌+◌, ◌-◌, ◌≤◌, Bool, true, false, List, [], ◌∷◌, Option, None, Some}
-use Rattle.annotate_snippets.proofs.Common.{All, fold, if◌then◌else◌, max, refl, sym, ap, ap₂, subst, arith, false≢true, All-weaker, cow_str_bytes}
-use Rattle.annotate_snippets.proofs.Common.{AllZip, flat_map, Global, CowStr, AllZip-weaker, ReportFits, TitleFits, heading_of_message, heading_of_title}
-use Rattle.annotate_snippets.proofs.Common.{SameOption, trusted_of_element, trusted_of_title, Level, Element, Message, Cause, Suggestion, Origin, Padding}
-use Rattle.annotate_snippets.proofs.Common.{Group, Id, Title, message-within, title-within, wrapped-chars, wrapped-laws, IsGroupMasked, IsElementAsSet}
-use Rattle.annotate_snippets.proofs.Common.{IsGroupAsSet, IsTitleAsSet, IsElementWrapped, IsGroupWrapped, IsTextWrapped, IsTitleWrapped, room_of_message}
-use Rattle.annotate_snippets.proofs.Common.{room_of_title, IsElementWrappable, letters_of, IsGroupTaken, Stays, IsElementWithContext, IsGroupWithContext}
-use Rattle.annotate_snippets.proofs.Common.{AreRowsWithin, AreWithin, IsRewrapped, lines_in, width_of, heading_label_text, label_width, heading_texts}
-use Rattle.annotate_snippets.proofs.Common.{MessageContext, IsRemade, IsStep, adds_context, wraps, is_drawn, element_faults, gutter_of_report, width_wanted}
-use Rattle.annotate_snippets.proofs.Common.{HasOneLineTexts, AreRewrapped, IsElementRewrapped, IsGroupRewrapped, IsTextRewrapped, IsTitleRewrapped, Renderer}
-use Rattle.annotate_snippets.proofs.Common.{Form}
+use Rattle.std.proofs.lemmas.Grind.{common_steps}
+use Rattle.annotate_snippets.proofs.Common.{◌≡◌, ◌∙◌, ℕ, ◌+◌, ◌-◌, ◌≤◌, Bool, true, false, List, [], ◌∷◌, Option, None, Some, All, fold, if◌then◌else◌, max}
+use Rattle.annotate_snippets.proofs.Common.{refl, sym, ap, ap₂, subst, arith, false≢true, All-weaker, cow_str_bytes, AllZip, flat_map, Global, CowStr}
+use Rattle.annotate_snippets.proofs.Common.{AllZip-weaker, ReportFits, TitleFits, heading_of_message, heading_of_title, SameOption, trusted_of_element}
+use Rattle.annotate_snippets.proofs.Common.{trusted_of_title, Level, Element, Message, Cause, Suggestion, Origin, Padding, Group, Id, Title, message-within}
+use Rattle.annotate_snippets.proofs.Common.{title-within, wrapped-chars, wrapped-laws, IsGroupMasked, IsElementAsSet, IsGroupAsSet, IsTitleAsSet}
+use Rattle.annotate_snippets.proofs.Common.{IsElementWrapped, IsGroupWrapped, IsTextWrapped, IsTitleWrapped, room_of_message, room_of_title, IsElementWrappable}
+use Rattle.annotate_snippets.proofs.Common.{letters_of, IsGroupTaken, IsElementWithContext, IsGroupWithContext, AreRowsWithin, AreWithin, IsRewrapped}
+use Rattle.annotate_snippets.proofs.Common.{lines_in, width_of, heading_label_text, label_width, heading_texts, MessageContext, IsRemade, IsStep, adds_context}
+use Rattle.annotate_snippets.proofs.Common.{wraps, is_drawn, element_faults, gutter_of_report, width_wanted, HasOneLineTexts, AreRewrapped, IsElementRewrapped}
+use Rattle.annotate_snippets.proofs.Common.{IsGroupRewrapped, IsTextRewrapped, IsTitleRewrapped, Renderer, Form}
 use Rattle.std.proofs.Common.{chars}
 use Rattle.snippet_model.specs.declared.snippet.Message as message
 use Rattle.snippet_titles.specs.declared.style.TitleStyle.TheVariants as style
@@ -60,8 +60,7 @@ module _ (term_width gutter : ℕ) where
   trusted-title : (a b : Title) → IsTitleWrapped term_width a b → AllZip IsTextOf (trusted_of_title a) (trusted_of_title b)
   trusted-title a b is =
       let own : AllZip IsTextOf (cow_str_bytes a.text ∷ []) (cow_str_bytes b.text ∷ []) =
-      (IsTextOf-wrapped (room_of_title term_width a) a.allows_styling a.text b.text is.2, tt) in
-      by a.allows_styling b.allows_styling is.3 own
+      (IsTextOf-wrapped (room_of_title term_width a) a.allows_styling a.text b.text is.2, tt) in by a.allows_styling b.allows_styling is.3 own
     where
       by : (s t : Bool) → t ≡ s → AllZip IsTextOf (cow_str_bytes a.text ∷ []) (cow_str_bytes b.text ∷ [])
           → AllZip IsTextOf (if s then cow_str_bytes a.text ∷ [] else []) (if t then cow_str_bytes b.text ∷ [] else [])
@@ -127,8 +126,7 @@ module _ (term_width gutter : ℕ) where
       → AreWithin (room_of_title term_width b) (lines_in (letters_of b.allows_styling (chars (cow_str_bytes b.text))))
       → AreRowsWithin b.allows_styling term_width (heading_texts style.Title (heading_of_title b))
   title-rows b enough within =
-      let here : 4 ≤ term_width - label_width (heading_of_title b) = enough in
-      title-within term_width (heading_of_title b) (omega (arith, here)) within
+      let here : 4 ≤ term_width - label_width (heading_of_title b) = enough in title-within term_width (heading_of_title b) (omega (arith, here)) within
 
   title-rewrapped : (a b : Option Title) → SameOption (IsTitleWrapped term_width) a b → SameOption (IsTitleRewrapped term_width) a b
   title-rewrapped None None is = is
@@ -139,8 +137,7 @@ module _ (term_width gutter : ℕ) where
       ap₂ (λ (level : Level) (id : Option Id). term_width - width_of (label_of level id)) (sym is.0) (sym is.1) in
       let text : IsTextRewrapped (room_of_title term_width b) b.allows_styling a.text b.text =
       subst (λ (trusted : Bool). IsTextRewrapped (room_of_title term_width b) trusted a.text b.text) (sym is.3)
-      (subst (λ (n : ℕ). IsTextRewrapped n a.allows_styling a.text b.text) room
-      (rewrapped (room_of_title term_width a) a.allows_styling a.text b.text is.2)) in
+      (subst (λ (n : ℕ). IsTextRewrapped n a.allows_styling a.text b.text) room (rewrapped (room_of_title term_width a) a.allows_styling a.text b.text is.2)) in
       (text, λ enough. title-rows b enough (text.rows enough))
 
   message-rows : (n : ℕ) (b : message.Message) (place : MessageContext) → place.layout.gutter ≡ n → 4 ≤ room_of_message term_width n b
@@ -169,13 +166,7 @@ module _ (term_width gutter : ℕ) where
       → AllZip GroupWraps groups shown → AreRewrapped r groups shown
   wrapped-laws-hold r groups shown width beside pairs =
       let same : gutter_of_report r shown ≡ gutter = wrapped-gutter r groups shown pairs ∙ beside in
-      subst (λ (n : ℕ). AllZip (IsGroupRewrapped n (gutter_of_report r shown)) groups shown) (sym width)
-      (AllZip-weaker GroupWraps (IsGroupRewrapped term_width (gutter_of_report r shown))
-      (λ x y pair. (
-        title-rewrapped x.title y.title pair.1,
-        AllZip-weaker Wraps (IsElementRewrapped term_width (gutter_of_report r shown)) (element-rewrapped (gutter_of_report r shown) same)
-            x.elements.items y.elements.items pair.2,
-      )) groups shown pairs)
+      grind (arith, common_steps, AllZip-weaker, title-rewrapped, element-rewrapped, same)
 
 -- ---- what is asked
 
@@ -212,39 +203,28 @@ module _ (term_width gutter : ℕ) where
   group-fed : (feeds : Bool) (a b c : Group) → IsGroupAsSet feeds a b → IsGroupRewrapped term_width gutter b c → IsGroupRewrapped term_width gutter a c
   group-fed feeds a b c first second = (
     title-fed feeds a.title b.title c.title first.1 second.0,
-    compose (IsElementAsSet feeds) (IsElementRewrapped term_width gutter) (IsElementRewrapped term_width gutter) (element-fed feeds) a.elements.items
-        b.elements.items c.elements.items first.2 second.1,
+    compose _ _ _ (element-fed feeds) a.elements.items b.elements.items _ first.2 second.1,
   )
 
   -- ---- lines around those that are kept
 
-  title-around : (a b c : Option Title) → SameOption Stays a b → SameOption (IsTitleRewrapped term_width) b c
-      → SameOption (IsTitleRewrapped term_width) a c
-  title-around None None c first second = second
-  title-around None (Some b) c first second = cc
-  title-around (Some a) None c first second = absurd first
-  title-around (Some a) (Some b) c first second = subst (λ t. SameOption (IsTitleRewrapped term_width) (Some t) c) first second
-
   element-around : (before after : ℕ) (a b c : Element) → IsElementWithContext before after a b → IsElementRewrapped term_width gutter b c
       → IsElementRewrapped term_width gutter a c
-  element-around before after (Message a) (Message b) c first second =
-      subst (λ m. IsElementRewrapped term_width gutter (Message m) c) first second
+  element-around before after (Message a) (Message b) c first second = subst (λ m. IsElementRewrapped term_width gutter (Message m) c) first second
   element-around before after (Message a) b c first second = absurd first
   element-around before after a b c first second = tt
 
   around-same : (adds : Bool) (before after : ℕ) (fed around shown : List Group) → IsStep adds (IsGroupWithContext before after) fed around
       → AllZip (IsGroupRewrapped term_width gutter) around shown → AllZip (IsGroupRewrapped term_width gutter) fed shown
   around-same true before after fed around shown first second = grind (arith, compose, element-around)
-  around-same false before after fed around shown first second =
-      subst (λ (gs : List Group). AllZip (IsGroupRewrapped term_width gutter) gs shown) first second
+  around-same false before after fed around shown first second = subst (λ (gs : List Group). AllZip (IsGroupRewrapped term_width gutter) gs shown) first second
 
 -- ---- all steps
 
 -- the titles and messages that are shown where they are wrapped
 pub rewrapped-set : (form : Form) (r : Renderer) (groups shown : List Group) (made : IsRemade form r groups shown) (masks : Bool) → r.mask_controls ≡ masks
     → wraps form r ≡ true → AreRewrapped r (if masks then made.masked else groups) shown
-rewrapped-set form r groups shown made masks set asked =
-    by masks (subst (λ (given : Bool). IsStep given IsGroupMasked made.fed made.masked) set made.mask)
+rewrapped-set form r groups shown made masks set asked = by masks (subst (λ (given : Bool). IsStep given IsGroupMasked made.fed made.masked) set made.mask)
   where
     beside : ℕ
     beside = gutter_of_report r shown
@@ -262,6 +242,5 @@ rewrapped-set form r groups shown made masks set asked =
     by : (masks : Bool) → IsStep masks IsGroupMasked made.fed made.masked → AreRewrapped r (if masks then made.masked else groups) shown
     by true pairs = last
     by false same =
-        compose (IsGroupAsSet r.show_line_feeds) (IsGroupRewrapped r.term_width beside) (IsGroupRewrapped r.term_width beside)
-        (group-fed r.term_width beside r.show_line_feeds) groups made.fed shown made.feeds
-        (subst (λ (gs : List Group). AllZip (IsGroupRewrapped r.term_width beside) gs shown) same last)
+        compose _ (IsGroupRewrapped r.term_width beside) (IsGroupRewrapped r.term_width beside) (group-fed r.term_width beside r.show_line_feeds) groups
+        made.fed shown made.feeds (subst (λ (gs : List Group). AllZip (IsGroupRewrapped r.term_width beside) gs shown) same last)

@@ -1,13 +1,12 @@
 -- What a writer holds once a report was to be written to it, a group at a time.
 use Rattle.std.proofs.lemmas.Grind.{common_steps}
-use Rattle.annotate_snippets.proofs.Common.{◌≡◌, ◌⊎◌, ℕ, suc, ◌+◌, ◌<◌, ◌≤◌, ◌==◌, Bool, true, false, List, [], ◌∷◌}
-use Rattle.annotate_snippets.proofs.Common.{◌++◌, Option, refl, alloc_error, sym, ap, ◌∙◌, subst, inl, inr, arith, length, take, cond, Appends}
-use Rattle.annotate_snippets.proofs.Common.{AllZip, flat_map, join_with_byte, IfErr, OnOk, Appends-nil, Appends-trans, take-append-add, take-append_seam}
-use Rattle.annotate_snippets.proofs.Common.{append_assoc, append-nil, length-append, take-append-le, nat_tests, AllZip-long, piece_text, WeavesRows}
-use Rattle.annotate_snippets.proofs.Common.{Prints-from_pieces, Group, AllZip-last, Cell, LevelInner, Stylesheet, zip_append, graphic_form, IsTextUnder}
-use Rattle.annotate_snippets.proofs.Common.{PageLaws, held, GroupPage, PrintsPage, group_rows, Stops, Takes, AddsGroup, IsStop, IsTextIn, PrintsGroup, ShowsIn}
-use Rattle.annotate_snippets.proofs.Common.{StopsAtGroup, WritesGroup, WritesPart, WritesText, blames_writer, is_write, Renderer, Memory, Graphic, ReportWriter}
-use Rattle.annotate_snippets.proofs.Common.{RenderToError, Refused}
+use Rattle.annotate_snippets.proofs.Common.{◌≡◌, ◌⊎◌, ℕ, suc, ◌+◌, ◌<◌, ◌≤◌, ◌==◌, Bool, true, false, List, [], ◌∷◌, ◌++◌, Option, refl, alloc_error, sym, ap}
+use Rattle.annotate_snippets.proofs.Common.{◌∙◌, subst, inl, inr, arith, length, take, cond, Appends, AllZip, flat_map, join_with_byte, IfErr, OnOk}
+use Rattle.annotate_snippets.proofs.Common.{Appends-nil, Appends-trans, take-append-add, take-append_seam, append_assoc, append-nil, length-append}
+use Rattle.annotate_snippets.proofs.Common.{take-append-le, nat_tests, AllZip-long, piece_text, WeavesRows, Prints-from_pieces, Group, AllZip-last, Cell}
+use Rattle.annotate_snippets.proofs.Common.{LevelInner, Stylesheet, zip_append, graphic_form, IsTextUnder, PageLaws, held, GroupPage, PrintsPage, group_rows}
+use Rattle.annotate_snippets.proofs.Common.{Stops, Takes, AddsGroup, IsStop, IsTextIn, PrintsGroup, ShowsIn, StopsAtGroup, WritesGroup, WritesPart, WritesText}
+use Rattle.annotate_snippets.proofs.Common.{blames_writer, Renderer, Memory, Graphic, ReportWriter, RenderToError, Refused}
 use Rattle.std.specs.Prelude.{Result, Ok, Err}
 use Rattle.std.specs.Result.{OnErr}
 use Rattle.annotate_snippets.proofs.FormsShown.{page-law}
@@ -28,10 +27,8 @@ joined [] [] = refl
 joined [] (y ∷ ys) = refl
 joined (x ∷ []) [] = sym (append-nil x)
 joined (x ∷ []) (y ∷ ys) = refl
-joined (x ∷ z ∷ xs) [] =
-    ap (λ t. x ++ 10 ∷ t) (joined (z ∷ xs) []) ∙ sym (append_assoc x (10 ∷ join_with_byte 10 (z ∷ xs)) [])
-joined (x ∷ z ∷ xs) (y ∷ ys) =
-    ap (λ t. x ++ 10 ∷ t) (joined (z ∷ xs) (y ∷ ys)) ∙ sym (append_assoc x (10 ∷ join_with_byte 10 (z ∷ xs)) (10 ∷ join_with_byte 10 (y ∷ ys)))
+joined (x ∷ z ∷ xs) [] = ap (λ t. x ++ 10 ∷ t) (joined (z ∷ xs) []) ∙ sym (append_assoc x (10 ∷ join_with_byte 10 (z ∷ xs)) [])
+joined (x ∷ z ∷ xs) (y ∷ ys) = cc (joined (z ∷ xs) (y ∷ ys), append_assoc x (10 ∷ join_with_byte 10 (z ∷ xs)) (10 ∷ join_with_byte 10 (y ∷ ys)))
 
 -- a part that isn't the first adds a line feed at least
 after_some : {X Y : Type 0} (xs : List X) (ys : List Y) (text : List ℕ) → 0 < length xs → 0 < length ys → 0 < length (after xs ys text)
@@ -61,8 +58,7 @@ module _ (sheet : Stylesheet) where
         prints = grind (arith, common_steps, below, zip_append, joined, before.parts, below.0, before.printed, below.1);
         rest = after before.parts below.0 (join_with_byte 10 below.0);
         is = joined before.parts below.0 ∙ ap (λ t. t ++ after before.parts below.0 (join_with_byte 10 below.0)) (sym before.joined);
-        more = λ some follow. after_some before.parts below.0 (join_with_byte 10 below.0)
-            (omega (arith, some, AllZip-long (PrintsPart sheet) page before.parts before.printed))
+        more = λ some follow. after_some before.parts below.0 _ (omega (arith, some, AllZip-long (PrintsPart sheet) page before.parts before.printed))
             (omega (arith, follow, AllZip-long (PrintsPart sheet) further below.0 below.1));
       }
 
@@ -73,9 +69,7 @@ module _ (sheet : Stylesheet) where
       record {
         parts = before.parts ++ adds.part ∷ [];
         printed = AllZip-last (PrintsPart sheet) page before.parts g adds.part before.printed adds.prints;
-        joined = ap (λ t. t ++ more) before.joined
-            ∙ ap (λ t. join_with_byte 10 before.parts ++ t) (added page before.parts before.printed adds.text_is)
-            ∙ sym (joined before.parts (adds.part ∷ []));
+        joined = cc (before.joined, added page before.parts before.printed adds.text_is, joined before.parts (adds.part ∷ []));
       }
     where
       added : (page : Page) (parts : List (List ℕ)) → AllZip (PrintsPart sheet) page parts → more ≡ cond (length page == 0) adds.part (10 ∷ adds.part)
@@ -83,31 +77,19 @@ module _ (sheet : Stylesheet) where
       added [] [] printed text = text
       added [] (x ∷ parts) printed text = absurd printed
       added (h ∷ page) [] printed text = absurd printed
-      added (h ∷ page) (x ∷ parts) printed text =
-          text ∙ ap (λ b. cond b adds.part (10 ∷ adds.part)) (not_first (length page))
+      added (h ∷ page) (x ∷ parts) printed text = text ∙ ap (λ b. cond b adds.part (10 ∷ adds.part)) (not_first (length page))
 
 -- a first part of a text that goes on
 part_goes_on : (a b c : List ℕ) (k : ℕ) → k ≤ length b → take (length a + k) ((a ++ b) ++ c) ≡ a ++ take k b
-part_goes_on a b c k within =
-    ap (take (length a + k)) (append_assoc a b c) ∙ take-append-add a (b ++ c) k ∙ ap (λ t. a ++ t) (take-append-le k b c within)
+part_goes_on a b c k within = ap (take (length a + k)) (append_assoc a b c) ∙ take-append-add a (b ++ c) k ∙ ap (λ t. a ++ t) (take-append-le k b c within)
 
 -- ---- a report that is written a group at a time
 
 -- what was added after a line feed, or before anything, prints a group's rows
 pub rows_printed : (sheet : Stylesheet) (level : LevelInner) (rows : List (List Cell)) (first : Bool) (before text : List ℕ)
     → before ≡ cond first [] (10 ∷ []) → WeavesRows sheet level rows before text → PrintsGroup sheet first level rows text
-rows_printed sheet level rows true before text lead adds =
-    record {
-      part = flat_map piece_text adds.pieces;
-      prints = Prints-from_pieces sheet level rows _ (record { pieces = adds.pieces; text_is = refl; prints = adds.are });
-      text_is = adds.text_is ∙ ap (λ t. t ++ flat_map piece_text adds.pieces) lead;
-    }
-rows_printed sheet level rows false before text lead adds =
-    record {
-      part = flat_map piece_text adds.pieces;
-      prints = Prints-from_pieces sheet level rows _ (record { pieces = adds.pieces; text_is = refl; prints = adds.are });
-      text_is = adds.text_is ∙ ap (λ t. t ++ flat_map piece_text adds.pieces) lead;
-    }
+rows_printed sheet level rows true before text lead adds = grind (arith, common_steps, Prints-from_pieces)
+rows_printed sheet level rows false before text lead adds = grind (arith, common_steps, Prints-from_pieces)
 
 -- the same, as what a text grew by: `lead` is the text with the line feed, if there is one
 pub rows_added : (sheet : Stylesheet) (level : LevelInner) (rows : List (List Cell)) (first : Bool) (before lead text : List ℕ)
@@ -115,11 +97,7 @@ pub rows_added : (sheet : Stylesheet) (level : LevelInner) (rows : List (List Ce
 rows_added sheet level rows true before lead text is adds =
     record {
       text = flat_map piece_text adds.pieces;
-      prints = record {
-        part = flat_map piece_text adds.pieces;
-        prints = Prints-from_pieces sheet level rows _ (record { pieces = adds.pieces; text_is = refl; prints = adds.are });
-        text_is = refl;
-      };
+      prints = grind (arith, common_steps, Prints-from_pieces);
       added = adds.text_is ∙ ap (λ t. t ++ flat_map piece_text adds.pieces) is;
     }
 rows_added sheet level rows false before lead text is adds =
@@ -136,8 +114,7 @@ rows_added sheet level rows false before lead text is adds =
 -- a text that prints the page of a report, where this has its laws, is the report's
 pub page_text_is : (r : Renderer) (groups : List Group) (sheet : Stylesheet) (text : List ℕ) → PageLaws r groups (graphic_form r groups)
     → PrintsPage sheet (graphic_form r groups) text → IsTextUnder Graphic r groups sheet text
-page_text_is r groups sheet text laws prints =
-    record { shows = record { printed = (prints, tt) }; laws = page-law r groups laws sheet text prints }
+page_text_is r groups sheet text laws prints = record { shows = record { printed = (prints, tt) }; laws = page-law r groups laws sheet text prints }
 
 -- ---- a writer
 
@@ -151,17 +128,7 @@ module _ {W : Type 0} (contents : W → Option (List ℕ)) (sheet : Stylesheet) 
 
   -- before the first group
   written_none : start.codes.now ≡ sheet → WrittenSoFar [] start
-  written_none under =
-      record {
-        same_reference = refl;
-        under = under;
-        sound = refl;
-        written = record {
-          text = [];
-          is = record { parts = []; printed = tt; joined = refl };
-          appended = Appends-nil (held contents start);
-        };
-      }
+  written_none under = grind (arith, common_steps, joined, Appends-nil)
 
   -- after one more
   written_more : (page : Page) (g : GroupPage) (old new : ReportWriter W) → WrittenSoFar page old → WritesGroup contents (length page == 0) g old new
@@ -182,8 +149,7 @@ module _ {W : Type 0} (contents : W → Option (List ℕ)) (sheet : Stylesheet) 
       }
 
   written_after : (page : Page) (now : ReportWriter W) → start.codes.now ≡ sheet → Takes (WritesGroup contents) true page start now → WrittenSoFar page now
-  written_after page now under taken =
-      holds_after (WritesGroup contents) WrittenSoFar written_more page start now (written_none under) taken
+  written_after page now under taken = holds_after (WritesGroup contents) WrittenSoFar written_more page start now (written_none under) taken
 
   -- where it stops between groups, a first part of a text that prints the page was written
   part_between : (page further : Page) (now : ReportWriter W) → 0 < length page → 0 < length further → WrittenSoFar page now
@@ -219,8 +185,7 @@ module _ {W : Type 0} (contents : W → Option (List ℕ)) (sheet : Stylesheet) 
           short = omega (arith, ap length goes.is, length-append (text ++ adds.text) goes.rest, length-append text adds.text, adds.part.short);
           appended = subst (Appends (held contents start) (held contents now))
               (sym (ap (take (length text + count)) goes.is ∙ part_goes_on text adds.text goes.rest count (omega (arith, adds.part.short))))
-              (Appends-trans (held contents start) (held contents mid) (held contents now) text (take count adds.text) before.written.appended
-              adds.part.appended);
+              (Appends-trans _ _ _ text _ before.written.appended adds.part.appended);
         };
       }
 
@@ -271,14 +236,7 @@ module _ {A W : Type 0} (contents : W → Option (List ℕ)) (r : Renderer) (gro
         };
         part = tt;
       }
-  page_written (Err error) old new under laws taken (inl (memory, same)) =
-      record {
-        same_reference = ap (λ (w : ReportWriter W). w.target.ghost_name) same;
-        told = λ none. ap (λ (w : ReportWriter W). w.has_failed) same ∙ none ∙ sym (ap is_write memory);
-        stopped = subst IsStop (sym memory) refl;
-        whole = tt;
-        part = inl same;
-      }
+  page_written (Err error) old new under laws taken (inl (memory, same)) = grind (arith, common_steps)
   page_written (Err error) old new under laws taken (inr at) =
       let before = written_after contents r.stylesheet old at.before at.mid under at.taken in
       let stops = at.stops in

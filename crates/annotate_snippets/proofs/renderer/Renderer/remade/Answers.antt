@@ -1,4 +1,5 @@
-use Rattle.annotate_snippets.proofs.Common.{◌≡◌, ◌∙◌, List, ap, subst, sym, IfOk-weaker, AllZip, Group, IsGroupAsSet, adds_context}
+use Rattle.std.proofs.lemmas.Grind.{common_steps}
+use Rattle.annotate_snippets.proofs.Common.{◌≡◌, ◌∙◌, List, ap, subst, sym, IfOk-weaker, AllZip, Group, IsGroupAsSet, adds_context, arith}
 use Rattle.annotate_snippets.proofs.AsSetLemmas.{around-keeps, fed-keeps, mask-keeps}
 use Rattle.annotate_snippets.proofs.ContextShown.{groups-sound}
 use Rattle.annotate_snippets.proofs.RemadeLemmas.{Keeps, keeps-then}
@@ -33,21 +34,4 @@ with_wrapped-requires c =
     record { fits = c.in_ok-around.ensures.fits; faultless = around.fault ∙ kept.fault ∙ c.requires.faultless }
 
 pub returns-clause-set : goal.returns-clause-set
-returns-clause-set c =
-    let feeds = c.args.self.now.show_line_feeds in
-    let groups : List Group = c.args.groups.now in
-    let fed : List Group = c.in_ok-fed.fed.items in
-    let same : fed ≡ c.in_ok-made.made.items = ap (λ v. v.items) c.in_ok-fed.ensures.same in
-    let pairs : AllZip (IsGroupAsSet feeds) groups fed =
-    subst (λ (gs : List Group). AllZip (IsGroupAsSet feeds) groups gs) (sym same) c.in_ok-made.ensures.set in
-    IfOk-weaker c.with_wrapped.result _ _
-    (λ shown wrap. record {
-      fed = fed;
-      masked = c.in_ok-masked.masked.items;
-      around = c.in_ok-around.around.items;
-      feeds = pairs;
-      mask = c.in_ok-masked.ensures.made;
-      context = c.in_ok-around.ensures.made;
-      wrap = wrap;
-    })
-    c.with_wrapped.ensures.made
+returns-clause-set c = grind (arith, common_steps, IfOk-weaker)

@@ -4,8 +4,7 @@ use Rattle.annotate_snippets.proofs.AsSetLemmas.{ShowsAll, shows-all}
 use Rattle.annotate_snippets.proofs.renderer.Renderer.render.Goals as goal
 
 pub text_in_form-requires : goal.text_in_form-requires
-text_in_form-requires c =
-    grind (arith, c.deref.ensures.value, c.in_ok-shown.ensures.shown.drawable, c.form_of-form.result, c.in_ok-shown.ensures.shown.titled)
+text_in_form-requires c = grind (arith, c.deref.ensures.value, c.in_ok-shown.ensures.shown.drawable, c.form_of-form.result, c.in_ok-shown.ensures.shown.titled)
 
 pub returns : goal.returns
 returns c =
@@ -16,6 +15,5 @@ returns c =
     let set : IsAsSet form r groups shown = subst (λ (gs : List Group). IsAsSet form r groups gs) (sym c.deref.ensures.value) c.in_ok-shown.ensures.shown.set in
     let text = string_bytes c.in_ok-text.text in
     let all : ShowsAll r groups (r.stylesheet ∷ []) (text ∷ []) =
-    shows-all form r groups shown c.form_of-form.ensures.value set (r.stylesheet ∷ []) (text ∷ []) c.in_ok-text.ensures.text.shows
-    (c.in_ok-text.ensures.text.laws, tt) in
+    shows-all form r groups shown c.form_of-form.ensures.value set (r.stylesheet ∷ []) _ c.in_ok-text.ensures.text.shows (c.in_ok-text.ensures.text.laws, tt) in
     record { refused = search rules; renders = search rules; shows = all.shows; laws = all.laws.0; free = all.free }

@@ -21,8 +21,7 @@ returns-clause-article c =
       unbroken = subst (λ (gs : List Group). IsAsSet Graphic (unwrapped r) groups gs) (sym c.deref.ensures.value)
           (subst (λ (one : Renderer). IsAsSet Graphic one groups (cow_slice_items c.in_ok-whole.whole)) c.in_ok-unwrapped.ensures.value
           c.in_ok-whole.ensures.shown.set);
-      is = c.in_ok-text.ensures.value
-          ∙ ap (λ t. article r.hyperlink t c.as_str.result.now c.as_str-2.result.now) c.title_above-title.ensures.value
+      is = c.in_ok-text.ensures.value ∙ ap (λ t. article r.hyperlink t c.as_str.result.now c.as_str-2.result.now) c.title_above-title.ensures.value
           ∙ ap₂ (λ a b. article r.hyperlink (title_above Graphic whole) a b) c.as_str.ensures.value c.as_str-2.ensures.value;
       read = escaped-says;
       untagged = escaped-untagged;

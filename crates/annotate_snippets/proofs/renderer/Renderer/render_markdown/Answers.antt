@@ -23,10 +23,8 @@ returns-clause-markdown c =
           (subst (λ (f : Form). IsAsSet f (unwrapped r) c.args.groups.now (cow_slice_items c.in_ok-whole.whole)) form
           (subst (λ (one : Renderer). IsAsSet c.form_of-form.result one c.args.groups.now (cow_slice_items c.in_ok-whole.whole))
           c.in_ok-unwrapped.ensures.value c.in_ok-whole.ensures.shown.set));
-      is = c.in_ok-text.ensures.value
-          ∙ ap₂ markdown (c.title_above.ensures.value ∙ ap (λ (f : Form). title_above f whole) form)
-          (c.as_str.ensures.value ∙ plain-under r shown c.plain.result (string_bytes c.in_ok-page.page)
-          (ap is_plain_sheet c.plain.ensures.value) page);
+      is = c.in_ok-text.ensures.value ∙ ap₂ markdown (c.title_above.ensures.value ∙ ap (λ (f : Form). title_above f whole) form)
+          (c.as_str.ensures.value ∙ plain-under r shown c.plain.result (string_bytes c.in_ok-page.page) (ap is_plain_sheet c.plain.ensures.value) page);
     }
 
 pub returns-clause-laws : goal.returns-clause-laws

@@ -4,8 +4,7 @@ use Rattle.annotate_snippets.proofs.AsSetLemmas.{ShowsAll, shows-all}
 use Rattle.annotate_snippets.proofs.renderer.Renderer.render_sheets.Goals as goal
 
 pub texts_in_form-requires : goal.texts_in_form-requires
-texts_in_form-requires c =
-    grind (arith, c.deref.ensures.value, c.in_ok-shown.ensures.shown.drawable, c.form_of-form.result, c.in_ok-shown.ensures.shown.titled)
+texts_in_form-requires c = grind (arith, c.deref.ensures.value, c.in_ok-shown.ensures.shown.drawable, c.form_of-form.result, c.in_ok-shown.ensures.shown.titled)
 
 pub returns : goal.returns
 returns c =

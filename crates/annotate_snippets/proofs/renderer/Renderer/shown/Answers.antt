@@ -18,5 +18,4 @@ returns-clause-shown c =
     let none : refusal_in c.args.form c.args.groups.now ≡ None = sym c.first_refusal.ensures.value ∙ c.in_default.is in
     let made = c.in_ok-made.made.items in
     drawable-set c.args.form c.args.self.now c.args.groups.now made
-    (set-remade c.args.form c.args.self.now c.args.groups.now made (sym c.shows_as_given.ensures.value ∙ c.if-shows_as_given.false)
-    c.in_ok-made.ensures.set) c.in_ok-made.ensures.fits none
+    (set-remade _ _ _ made (sym c.shows_as_given.ensures.value ∙ c.if-shows_as_given.false) c.in_ok-made.ensures.set) c.in_ok-made.ensures.fits none

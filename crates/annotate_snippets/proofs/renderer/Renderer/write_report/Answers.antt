@@ -21,6 +21,5 @@ returns g c =
       renders = search rules;
       whole = on_ok_weaker c.write_form.result (written-shows form r groups shown c.form_of-form.ensures.value set _ _) c.write_form.ensures.whole;
       laws = on_ok_weaker c.write_form.result (written-laws form r groups shown c.form_of-form.ensures.value set _ _) c.write_form.ensures.whole;
-      part = on_err_weaker c.write_form.result (written-part form r groups shown c.form_of-form.ensures.value set (held g.W.Write.contents) _ _)
-          c.write_form.ensures.part;
+      part = on_err_weaker _ (written-part form r groups shown c.form_of-form.ensures.value set (held g.W.Write.contents) _ _) c.write_form.ensures.part;
     }

@@ -1,4 +1,4 @@
-use Rattle.annotate_snippets.proofs.Common.{string_bytes, codes, encode_utf8_all, on_ok_weaker, on_ok_value}
+use Rattle.annotate_snippets.proofs.Common.{encode_utf8_all, on_ok_weaker, on_ok_value}
 use Rattle.std.proofs.Common.{chars}
 use Rattle.snippet_grid.specs.Html.{escaped}
 use Rattle.annotate_snippets.proofs.ArticleLemmas.{bytes-added}
@@ -7,8 +7,6 @@ use Rattle.annotate_snippets.proofs.renderer.article.push_words.Goals as goal
 pub returns : goal.returns
 returns c = record {
   added = on_ok_weaker c.push_str-2.result
-      (λ third. bytes-added (string_bytes c.args.out.now) (codes "<pre class=\"snippet-text\">\n") (encode_utf8_all (escaped (chars c.args.words.now)))
-      (codes "</pre>") (string_bytes c.push_str.new.self) (string_bytes c.push_escaped.new.out) _
-      c.in_ok-push_str.ensures.bytes c.in_ok-push_escaped.ensures.added third)
-      (on_ok_value c.push_str-2.result _ _ _ c.push_str-2.ensures.bytes);
+      (λ third. bytes-added _ _ (encode_utf8_all (escaped (chars c.args.words.now))) _ _ _ _ c.in_ok-push_str.ensures.bytes c.in_ok-push_escaped.ensures.added
+      third) (on_ok_value c.push_str-2.result _ _ _ c.push_str-2.ensures.bytes);
 }

@@ -1,9 +1,8 @@
 use Rattle.std.proofs.Common.{arith}
-use Rattle.annotate_snippets.proofs.Common.{◌≡◌, ◌∙◌, ◌+◌, ◌-◌, ◌<◌, ◌≤◌, ◌^◌, ◌++◌, IfSome, [], All, Bool, List, ap}
-use Rattle.annotate_snippets.proofs.Common.{length, map, refl, subst, sym, on_ok_weaker, cow_str_bytes, Annotation, Source, shown_number, IsSpan, LineNumbers}
-use Rattle.annotate_snippets.proofs.Common.{AnnotatedLineInfo, infos_of, kept_of, infos_all, annotated_lines, kept_line, seen_kept, shown_lines, margin_of}
-use Rattle.annotate_snippets.proofs.Common.{LineAnnotation, Layout, IsDrawableLine, LineView, margin_in, rows_of_lines, cells_of, infos_rows, Cell}
-use Rattle.annotate_snippets.proofs.Common.{numbered_source, IsCausePrepared, PreparedCause}
+use Rattle.annotate_snippets.proofs.Common.{◌≡◌, ◌∙◌, ◌+◌, ◌-◌, ◌<◌, ◌≤◌, ◌^◌, ◌++◌, IfSome, [], All, Bool, List, ap, length, map, refl, subst, sym}
+use Rattle.annotate_snippets.proofs.Common.{on_ok_weaker, cow_str_bytes, Annotation, Source, shown_number, IsSpan, LineNumbers, AnnotatedLineInfo, infos_of}
+use Rattle.annotate_snippets.proofs.Common.{kept_of, infos_all, annotated_lines, kept_line, seen_kept, shown_lines, LineAnnotation, Layout, IsDrawableLine}
+use Rattle.annotate_snippets.proofs.Common.{LineView, margin_in, rows_of_lines, cells_of, infos_rows, Cell, numbered_source, IsCausePrepared, PreparedCause}
 use Rattle.annotate_snippets.proofs.GutterLemmas.{numbers_fit}
 use Rattle.annotate_snippets.proofs.LineValue.{lines_value}
 use Rattle.annotate_snippets.proofs.PartsFacts.{lines_entries, lines_labels, lines_texts, shown_clear}
@@ -29,16 +28,12 @@ shown_of cause prepared source is shown infos same between =
 shown_first : (c : After-deref) → map seen_kept (infos_of c.deref.result.now)
     ≡ map (kept_line (numbered_source c.args.cause.snippet.now) c.args.cause.snippet.now.markers.items)
     (shown_lines c.args.cause.snippet.now.fold (cow_str_bytes c.args.cause.snippet.now.source.text) c.args.cause.snippet.now.markers.items)
-shown_first c =
-    shown_of c.args.cause c.requires.prepared c.args.cause.map refl (infos_of c.in_ok-lines.lines.items) (infos_of c.deref.result.now)
-    (ap infos_of c.deref.ensures.value) c.in_ok-lines.ensures.value
+shown_first c = shown_of _ c.requires.prepared _ refl _ _ (ap infos_of c.deref.ensures.value) c.in_ok-lines.ensures.value
 
 shown_is : (c : After-deref-2) → map seen_kept (infos_of c.deref-2.result.now)
     ≡ map (kept_line (numbered_source c.args.cause.snippet.now) c.args.cause.snippet.now.markers.items)
     (shown_lines c.args.cause.snippet.now.fold (cow_str_bytes c.args.cause.snippet.now.source.text) c.args.cause.snippet.now.markers.items)
-shown_is c =
-    shown_of c.args.cause c.requires.prepared c.args.cause.map refl (infos_of c.in_ok-lines.lines.items) (infos_of c.deref-2.result.now)
-    (ap infos_of c.deref-2.ensures.value) c.in_ok-lines.ensures.value
+shown_is c = shown_of _ c.requires.prepared _ refl _ _ (ap infos_of c.deref-2.ensures.value) c.in_ok-lines.ensures.value
 
 -- a line's text fits, and its labels do
 abbrev TextFits : AnnotatedLineInfo → Type 0
@@ -66,8 +61,7 @@ margin_for-margin-requires c =
 kept_is : (c : After-deref-2)
     → map seen_kept (kept_of c.deref.result.now) ≡ annotated_lines c.args.cause.snippet.now.fold
     (numbered_source c.args.cause.snippet.now) c.args.cause.snippet.now.markers.items
-kept_is c =
-    ap (map seen_kept) (ap kept_of c.deref.ensures.value ∙ c.in_ok-lines.ensures.kept_are) ∙ c.requires.prepared.kept_are
+kept_is c = ap (map seen_kept) (ap kept_of c.deref.ensures.value ∙ c.in_ok-lines.ensures.kept_are) ∙ c.requires.prepared.kept_are
 
 -- each line can be drawn
 pub draw_snippet-requires : goal.draw_snippet-requires
@@ -113,8 +107,7 @@ returns c =
     let room : c.saturating_sub-room.result ≡ c.args.renderer.now.term_width - layout.code = c.saturating_sub-room.ensures
     ∙ ap (λ (l : Layout). c.args.renderer.now.term_width - l.code) c.layout.view_is in
     let view : LineView = record { margin = c.margin_for-margin.result; numbers = c.line_numbers-numbers.result; closes = c.args.closes } in
-    let margin : view.margin ≡ margin_in c.args.renderer.now layout s = c.margin_for-margin.ensures.bounds ∙ ap (margin_of c.saturating_sub-room.result) kept
-    ∙ ap (λ n. margin_of n (annotated_lines s.fold (numbered_source s) s.markers.items)) room in
+    let margin : view.margin ≡ margin_in c.args.renderer.now layout s = cc (c.margin_for-margin.ensures.bounds, kept, room) in
     let shown = shown_of c.args.cause prepared c.args.cause.map refl (infos_of c.in_ok-lines.lines.items) lines (ap infos_of c.deref-2.ensures.value)
     c.in_ok-lines.ensures.value in
     let value = lines_value c.args.renderer.now layout s view margin c.line_numbers-numbers.ensures.value []

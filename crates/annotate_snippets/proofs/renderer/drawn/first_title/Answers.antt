@@ -8,12 +8,10 @@ of_first : (r : Renderer) (groups : List Group) (g : Group) (title : Title) (ans
     → g.title ≡ Some title → IfOk answer (λ form. form.level ≡ g.level) → IfOk answer (λ form. form.rows ≡ short_form r g title)
     → IfOk answer (λ form. IsShortForm r groups form)
 of_first r groups g title (Err e) first titled level rows = tt
-of_first r groups g title (Ok form) first titled level rows =
-    record { group = g; title = title; first = first; titled = titled; level = level; rows = rows }
+of_first r groups g title (Ok form) first titled level rows = record { group = g; title = title; first = first; titled = titled; level = level; rows = rows }
 
 pub unreachable-requires-in-None : goal.unreachable-requires-in-None
-unreachable-requires-in-None c =
-    first-there c.args.groups.now c.requires.titled (sym c.first.ensures.value ∙ ap option_copied c.in-None.is)
+unreachable-requires-in-None c = first-there c.args.groups.now c.requires.titled (sym c.first.ensures.value ∙ ap option_copied c.in-None.is)
 
 pub unreachable-requires : goal.unreachable-requires
 unreachable-requires c =

@@ -9,7 +9,6 @@ returns c =
     let sheet : Stylesheet = c.args.sheet.now in
     let form = c.in_ok-form.form in
     record {
-      text = IfOk-weaker c.render.result (λ text. IsOfShort form sheet (string_bytes text))
-          (λ text. IsTextUnder Short r groups sheet (string_bytes text))
+      text = IfOk-weaker _ (λ text. IsOfShort form sheet (string_bytes text)) (λ text. IsTextUnder Short r groups sheet (string_bytes text))
           (λ text. short-under r groups sheet (string_bytes text) form c.requires.drawable c.in_ok-form.ensures.drawn) c.render.ensures.prints;
     }

@@ -1,20 +1,11 @@
-use Rattle.annotate_snippets.proofs.Common.{◌∙◌, [], ◌∷◌, List, ap, arith, map, string_bytes, subst, AllZip, map-append, take_all, Group}
-use Rattle.annotate_snippets.proofs.Common.{AllZip-weaker, Stylesheet, LawsIn, Text}
+use Rattle.std.proofs.lemmas.Grind.{common_steps}
+use Rattle.annotate_snippets.proofs.Common.{List, arith, map, string_bytes, subst, AllZip, map-append, take_all, Group, AllZip-weaker, Stylesheet, LawsIn, Text}
 use Rattle.annotate_snippets.proofs.ListLemmas.{AllZip-push}
 use Rattle.annotate_snippets.proofs.TextShown.{IsFormText, form-text, text-law, text-shown}
 use Rattle.annotate_snippets.proofs.renderer.drawn.text_form_texts.Goals as goal
 
 pub loop-sheet-preserved : goal.loop-sheet-preserved
-loop-sheet-preserved c =
-    let r = c.args.renderer.now in
-    let groups : List Group = c.args.groups.now in
-    let before = c.loop-sheet.texts.items in
-    AllZip-push (IsFormText r groups) c.args.sheets.now c.loop-sheet.sheet-index _ (omega arith) (map string_bytes before)
-    (map string_bytes c.push.new.self.items) (string_bytes c.in_ok-render.field-0)
-    (ap (map string_bytes) c.in_ok-push.ensures.items ∙ map-append string_bytes before (c.in_ok-render.field-0 ∷ []))
-    c.loop-sheet.invariant
-    (form-text r groups c.in_ok-form.form _ (string_bytes c.in_ok-render.field-0) c.in_ok-form.ensures.form c.in_ok-render.ensures.text
-    c.in_ok-render.ensures.woven)
+loop-sheet-preserved c = grind (arith, common_steps, AllZip-push, map-append, form-text)
 
 pub returns : goal.returns
 returns c =

@@ -12,15 +12,13 @@ loop-element-init c = record {
 
 pub draw_element-requires : goal.draw_element-requires
 draw_element-requires c =
-    let turn = passed c.args.group.now.place (option_copied c.args.group.now.file) c.args.elements.items c.loop-element.left.items c.pop_front.new.self.items
-    c.loop-element.invariant.passed c.loop-element.walk c.pass-around.new.self c.in-Some.element c.front.result c.pass-around.result
-    c.loop-element.invariant.left c.in-Some.ensures.items c.front.ensures.item c.pass-around.ensures.around c.pass-around.ensures.walked in
+    let turn = passed _ _ _ _ _ c.loop-element.invariant.passed _ _ _ _ _ c.loop-element.invariant.left c.in-Some.ensures.items c.front.ensures.item
+    c.pass-around.ensures.around c.pass-around.ensures.walked in
     let ps = c.args.elements.items in
     let n = c.loop-element.invariant.passed in
     record {
       prepared = all_at IsElementPrepared ps n c.in-Some.element c.requires.prepared turn.here;
-      room = all_at (λ (p : PreparedElement). HasRoomFor c.args.renderer.now c.args.group.now.layout (element_of p)) ps n c.in-Some.element c.requires.room
-          turn.here;
+      room = all_at (λ (p : PreparedElement). HasRoomFor c.args.renderer.now c.args.group.now.layout (element_of p)) ps n _ c.requires.room turn.here;
       around = stands_there c.args.group.now.place (option_copied c.args.group.now.file) ps n c.in-Some.element c.pass-around.result turn.here turn.at_is;
     }
 

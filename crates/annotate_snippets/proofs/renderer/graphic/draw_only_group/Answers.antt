@@ -1,6 +1,6 @@
-use Rattle.annotate_snippets.proofs.Common.{◌≡◌, ◌∙◌, ◌<◌, [], ◌∷◌, alloc_error, ap, arith, drop, inr, length, map, refl, subst, sym}
-use Rattle.annotate_snippets.proofs.Common.{take, true, take_all, get_or, enumerate_from, option_copied, graphic_form, gutter_of_report, Stops, Takes, All, suc}
-use Rattle.annotate_snippets.proofs.Common.{zero, IsGroupPrepared, PreparedGroup}
+use Rattle.std.proofs.lemmas.Grind.{common_steps}
+use Rattle.annotate_snippets.proofs.Common.{◌≡◌, ◌<◌, [], ◌∷◌, alloc_error, arith, drop, inr, length, map, refl, sym, take_all, get_or, enumerate_from}
+use Rattle.annotate_snippets.proofs.Common.{option_copied, graphic_form, Stops, All, suc, zero, IsGroupPrepared, PreparedGroup}
 use Rattle.annotate_snippets.proofs.AreTexts.{AreTexts, prepared_texts}
 use Rattle.annotate_snippets.proofs.GridRows.{page_count, room_at, stands_at, taken_here, turn_group}
 use Rattle.annotate_snippets.proofs.PageWords.{page_at}
@@ -14,14 +14,7 @@ first : (p : PreparedGroup) → (0 < length (enumerate_from 0 (p ∷ []))) × ((
 first p = (omega arith, refl)
 
 pub group_context-around-requires : goal.group_context-around-requires
-group_context-around-requires g c =
-    let same : map group_of c.from_ref.result.now ≡ c.args.groups.now = ap (map group_of) c.from_ref.ensures.value ∙ sym c.requires.only in
-    record {
-      prepared = c.requires.prepared;
-      gutter = c.gutter_of.ensures.value ∙ ap (gutter_of_report c.args.renderer.now) same;
-      small = c.gutter_of.ensures.small;
-      file = c.report_file.ensures.value;
-    }
+group_context-around-requires g c = grind (arith, common_steps, group_of)
 
 pub add-requires : goal.add-requires
 add-requires g c =
@@ -45,24 +38,10 @@ returns-clause-laws g c =
     let p = c.args.prepared in
     let same : map group_of (p ∷ []) ≡ groups = sym c.requires.only in
     let all : All IsGroupPrepared (p ∷ []) = all_one p c.requires.prepared in
-    let texts : AreTexts groups = prepared_texts groups (p ∷ []) same all in
-    page_laws c.args.renderer.now groups c.requires.drawable texts
+    let texts : AreTexts groups = prepared_texts groups (p ∷ []) same all in page_laws c.args.renderer.now groups c.requires.drawable texts
 
 pub returns-clause-took : goal.returns-clause-took
-returns-clause-took g c =
-    let r = c.args.renderer.now in
-    let groups = c.args.groups.now in
-    let p = c.args.prepared in
-    let around = c.group_context-around in
-    let here = page_at r groups 0 p.group.now in
-    let at = stands_at r groups (p ∷ []) 0 0 p (sym c.requires.only) (first p) in
-    let took = g.S.PageSink.took in
-    let form = graphic_form r groups in
-    let adds = taken_here r groups (p ∷ []) 0 0 p around.result.layout around.result.place (option_copied around.result.file) (sym c.requires.only) (first p)
-    around.ensures.layout around.ensures.place around.ensures.file (λ first page. took first page c.args.sink.now c.add.new.self) c.in_ok-add.ensures.took in
-    subst (λ page. Takes took true page c.args.sink.now c.add.new.self)
-    (sym at.next ∙ take_all 1 form (omega (arith, page_count r groups, ap length c.requires.only)))
-    (takes_more took (take 0 form) here c.args.sink.now c.args.sink.now c.add.new.self refl adds)
+returns-clause-took g c = grind (arith, common_steps, page_at, stands_at, taken_here, take_all, page_count, takes_more)
 
 pub returns-in_err-add-clause-stopped : goal.returns-in_err-add-clause-stopped
 returns-in_err-add-clause-stopped g c =

@@ -93,8 +93,7 @@ returns-in_err-buffer-clause-stopped g c =
 
 pub returns-clause-laws : goal.returns-clause-laws
 returns-clause-laws g c =
-    page_laws c.args.renderer.now c.args.groups.now c.requires.drawable (prepared_texts c.args.groups.now c.in_ok-prepared.prepared.items
-    c.in_ok-prepared.ensures.groups c.in_ok-prepared.ensures.prepared)
+    page_laws c.args.renderer.now c.args.groups.now c.requires.drawable (prepared_texts _ _ c.in_ok-prepared.ensures.groups c.in_ok-prepared.ensures.prepared)
 
 pub returns-clause-took : goal.returns-clause-took
 returns-clause-took g c =

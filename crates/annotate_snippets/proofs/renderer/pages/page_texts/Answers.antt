@@ -10,6 +10,4 @@ returns c =
     let drawn = c.in_ok-draw_page.ensures in
     let under = pages_after c.args.renderer.now c.args.groups.now c.args.sheets.now _ c.draw_page.new.sink c.in_ok-empty_pages.ensures.empty
     drawn.laws drawn.took in
-    record {
-      texts = grind (arith, common_steps, map, Under, under, c.texts_of.result, c.draw_page.new.sink.pages.items, c.texts_of.ensures.value);
-    }
+    record { texts = grind (arith, common_steps, map, Under, under, c.texts_of.result, c.draw_page.new.sink.pages.items, c.texts_of.ensures.value) }

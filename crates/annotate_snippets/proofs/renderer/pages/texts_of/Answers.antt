@@ -9,6 +9,4 @@ pub returns : goal.returns
 returns c =
     let end = YieldsList-end (YieldsList-from_vec c.args.pages.items (cc) (cc)) c.loop-page.yielded c.loop-page.page-iterator
     c.loop-page.yielded_by c.next.result c.next.new.self c.in-None.is c.next.ensures.steps in
-    record {
-      value = c.loop-page.invariant ∙ ap (map (λ (page : SheetPage). page.text)) (sym (map-id c.loop-page.yielded) ∙ end.0);
-    }
+    record { value = c.loop-page.invariant ∙ ap (map (λ (page : SheetPage). page.text)) (sym (map-id c.loop-page.yielded) ∙ end.0) }

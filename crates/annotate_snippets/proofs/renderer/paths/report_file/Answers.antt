@@ -15,5 +15,4 @@ loop-group-preserved c =
     (sym c.primary_path.ensures.value ∙ ap option_copied c.in_default.is)
 
 pub returns : goal.returns
-returns c =
-    record { value = sym (filter_map-none primary_path c.args.groups.now c.loop-group.group-index c.loop-group.invariant c.loop-group-test.false) }
+returns c = record { value = sym (filter_map-none primary_path c.args.groups.now c.loop-group.group-index c.loop-group.invariant c.loop-group-test.false) }

@@ -11,9 +11,8 @@ add_prepared-requires c = grind (arith, c.element-item.is, c.requires.drawable, 
 
 pub loop-element-preserved : goal.loop-element-preserved
 loop-element-preserved c =
-    AreDrawnPrepared-more c.args.elements.now c.loop-element.element-index c.element-item.result c.loop-element.prepared.items
-    c.add_prepared.new.prepared.items c.loop-element-test.true c.element-item.is c.in_ok-add_prepared.ensures.added
-    c.in_ok-add_prepared.ensures.prepared c.loop-element.invariant
+    AreDrawnPrepared-more _ _ _ _ _ c.loop-element-test.true c.element-item.is c.in_ok-add_prepared.ensures.added c.in_ok-add_prepared.ensures.prepared
+    c.loop-element.invariant
 
 pub returns : goal.returns
 returns c = record {

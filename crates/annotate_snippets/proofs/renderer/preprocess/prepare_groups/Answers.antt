@@ -11,8 +11,7 @@ prepare_group-requires c = grind (arith, c.group-item.is, c.requires.drawable, c
 
 pub loop-group-preserved : goal.loop-group-preserved
 loop-group-preserved c =
-    ArePrepared-push c.args.groups.now c.loop-group.group-index c.group-item.result c.loop-group.prepared.items c.push.new.self.items _
-    c.in_ok-push.ensures.items c.loop-group-test.true c.group-item.is c.in_ok-prepare_group.ensures.group c.loop-group.invariant
+    ArePrepared-push _ _ _ _ _ _ c.in_ok-push.ensures.items c.loop-group-test.true c.group-item.is c.in_ok-prepare_group.ensures.group c.loop-group.invariant
     c.in_ok-prepare_group.ensures.prepared
 
 pub returns : goal.returns

@@ -9,8 +9,7 @@ returns-in_default c =
 
 pub span_to_locations-requires : goal.span_to_locations-requires
 span_to_locations-requires c = record {
-  span = first-span c.args.suggestion.now c.in-Some.patch.now c.requires.prepared
-      (ap (λ xs. slice_get xs 0) (sym c.deref.ensures.value) ∙ sym c.first.ensures.value ∙ ap option_copied c.in-Some.is);
+  span = first-span _ _ c.requires.prepared (ap (λ xs. slice_get xs 0) (sym c.deref.ensures.value) ∙ sym c.first.ensures.value ∙ ap option_copied c.in-Some.is);
 }
 
 pub returns : goal.returns

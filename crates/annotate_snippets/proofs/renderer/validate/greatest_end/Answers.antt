@@ -1,15 +1,10 @@
-use Rattle.annotate_snippets.proofs.Common.{◌≡◌, ap, arith, length, refl, take, take_all, length-source_lines, newline_count-le, added_lines}
+use Rattle.std.proofs.lemmas.Grind.{common_steps}
+use Rattle.annotate_snippets.proofs.Common.{ap, arith, length, take_all, length-source_lines, newline_count-le}
 use Rattle.annotate_snippets.proofs.FaultLemmas.{added_more}
 use Rattle.annotate_snippets.proofs.renderer.validate.greatest_end.Goals as goal
 
 pub loop-patch-init : goal.loop-patch-init
-loop-patch-init c =
-    let source = c.args.source.now in
-    let none : added_lines (take 0 c.args.patches.now) ≡ 0 = refl in (
-      omega (arith, none, length-source_lines source, newline_count-le source, c.in_ok-checked_add.ensures.1, c.in_ok-most.ensures.1),
-      omega
-          (arith, c.in_ok-most.ensures.0, c.in_ok-most.ensures.1),
-    )
+loop-patch-init c = grind (arith, common_steps, length-source_lines, newline_count-le)
 
 pub loop-patch-preserved : goal.loop-patch-preserved
 loop-patch-preserved c =

@@ -7,9 +7,7 @@ use Rattle.annotate_snippets.proofs.renderer.element_context.ContextWalk.pass.Go
 
 pub returns-clause-around : goal.returns-clause-around
 returns-clause-around c = λ es i at here then.
-    walk_around c.args.group.now.place (option_copied c.args.group.now.file) es i c.args.self.now (element_of c.args.element.now)
-    (option_map element_of (option_copied c.args.after)) c.start_of.result c.shares_row-shared.result c.following.result at here then
-    c.start_of.ensures.value c.shares_row-shared.ensures.value c.following.ensures.value
+    walk_around _ _ es i _ _ _ _ _ _ at here then c.start_of.ensures.value c.shares_row-shared.ensures.value c.following.ensures.value
 
 pub returns-clause-walked : goal.returns-clause-walked
 returns-clause-walked c = λ es i at here then.

@@ -1,3 +1,4 @@
+use Rattle.std.proofs.lemmas.Grind.{common_steps}
 use Rattle.annotate_snippets.proofs.Common.{◌∙◌, All, List, ap, arith, fold, map, subst, sym, take_all, All-same, depth_of_element, IsElementPrepared}
 use Rattle.annotate_snippets.proofs.Common.{element_of, PreparedElement}
 use Rattle.annotate_snippets.proofs.WidestLemmas.{depth-undrawn, greater, widest-more, widest-prepared}
@@ -6,18 +7,11 @@ use Rattle.annotate_snippets.proofs.renderer.preprocess.PreparedGroup.depth.Goal
 pub depth-requires : goal.depth-requires
 depth-requires c =
     let ps = c.deref-element-items.result.now in
-    let all : All IsElementPrepared ps = All-same IsElementPrepared ps c.args.self.now.elements.items c.deref-element-items.ensures.value
-    c.requires.prepared.prepared in
+    let all : All IsElementPrepared ps = All-same IsElementPrepared ps _ c.deref-element-items.ensures.value c.requires.prepared.prepared in
     record { prepared = subst IsElementPrepared (sym c.element-item.is) (all c.loop-element.element-index c.element-item.result c.loop-element-test.true) }
 
 pub loop-element-preserved : goal.loop-element-preserved
-loop-element-preserved c =
-    let more = widest-more depth_of_element 0 c.deref-element-items.result.now c.loop-element.element-index c.element-item.result c.loop-element-test.true
-    c.element-item.is in
-    record {
-      value = omega (arith, more, c.max-depth.ensures, c.depth.ensures.value, c.loop-element.invariant.value);
-      small = omega (arith, c.max-depth.ensures, c.depth.ensures.small, c.loop-element.invariant.small);
-    }
+loop-element-preserved c = grind (arith, common_steps, widest-more)
 
 pub returns-clause-value : goal.returns-clause-value
 returns-clause-value c =
