@@ -237,7 +237,7 @@ pub use Rattle.snippet_strokes.proofs.SeenLabels.{IsLabelledAtEnd, IsLedTo, Labe
 pub use Rattle.snippet_strokes.proofs.StemCells.{stroke_rows-count, row_text-window_cells}
 pub use Rattle.snippet_strokes.proofs.WholeLemmas.{left_none, window_cells-whole}
 pub use Rattle.snippet_strokes.specs.Bars.{Bar, ends_of_bars, open_past, bars_apart, bar_at}
-pub use Rattle.snippet_strokes.specs.Cuts.{overlapped}
+pub use Rattle.snippet_strokes.specs.Cuts.{overlapped, with_blocks}
 pub use Rattle.snippet_strokes.specs.Drawable.{AreDrawable, HasBarCell, HasBarCellAt, IsDrawableLine}
 pub use Rattle.snippet_strokes.specs.Drawing.{row_count}
 pub use Rattle.snippet_strokes.specs.DrawnBars.{HasOwnDepth, is_whole_line, HasBarRoom, open_below, has_depth}

@@ -9,6 +9,7 @@ use Rattle.annotate_snippets.proofs.Common.{IsLine-at, IsUtf8-text_at, is_primar
 use Rattle.annotate_snippets.proofs.Common.{list_any, strokes_of, placeholder_of, underline_role, closing_row, separator_row, DecorStyle, Ascii, Unicode}
 use Rattle.annotate_snippets.proofs.Common.{LineNumber, IsOneLine, lines_at, lines_at-chars, made_parts, LineAnnotation, made-all, Bar, bars_apart}
 use Rattle.annotate_snippets.proofs.Common.{ends_of_bars, overlapped, Stretch, cuts_of, cut_row, shifted, label_text, AreLineRows, AreOwnRows, StrokesPainted}
+use Rattle.annotate_snippets.proofs.Common.{with_blocks}
 use Rattle.annotate_snippets.proofs.Common.{painting_order, row_count, bare_row, begun_rows, is_whole_line, drawn_strokes, label_write, Write, painted}
 use Rattle.annotate_snippets.proofs.Common.{painted-cell, PlacedEntry, Renderer, HasNoFeed, numbered_source, Elision, NamedRow, OfferedLine, Other, RemovedLine}
 use Rattle.annotate_snippets.proofs.Common.{RowName, SourceRow, cells_of, rows_below, AreRowsOf, IsRowOf, normalized_chars, Layout, entries_all}
@@ -190,7 +191,8 @@ module _ (layout : Layout) (room : ℕ) (closes : Bool) where
         | inl whole ↦ subst (All HasNoFeed) (sym (tail_same row _ below [] (are.whole whole))) (All-nil HasNoFeed)
         | inr other ↦
             let strokes = are.strokes other (omega arith) in
-            let cuts : List Stretch = cuts_of layout room (painting_order strokes.placed) (overlapped strokes.placed) in
+            let cuts : List Stretch = cuts_of layout room (painting_order strokes.placed)
+            (with_blocks (painting_order strokes.placed) (overlapped strokes.placed)) in
             let drawn : All HasNoFeed (strokes.marks ∷ strokes.lower) = drawn_plain (map (shifted dropped) (e ∷ es)) source (row ∷ below) strokes
             (λ uncut. All-map (λ x. All IsNoFeed (label_text x)) (shifted dropped) (e ∷ es) (plain uncut)) in
             let marks : List Cell = cut_row layout.decor cuts strokes.marks in

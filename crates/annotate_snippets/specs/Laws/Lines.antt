@@ -28,7 +28,8 @@ abbrev pub wide_spans : ℕ → ℕ → Snippet Annotation → ℕ → ℕ
 wide_spans room placeholder_width s k =
     count_by (λ a. is_marked_on (cow_str_bytes s.source.text) k a && is_wide room placeholder_width (cow_str_bytes s.source.text) a) s.markers.items
 
--- whether no entry of line k is cut, where so many columns are dropped left of it: each that is wide is overlapped by another
+-- whether no entry of line k is cut, where so many columns are dropped left of it: each that is wide is overlapped by another, or a label of
+-- several pieces is beside it
 abbrev pub is_uncut_line : Renderer → Layout → Snippet Annotation → ℕ → ℕ → Bool
 is_uncut_line r layout s k dropped =
     is_uncut (r.term_width - layout.code) layout (map (shifted dropped) (parts_on (numbered_source s) s.markers.items k))
