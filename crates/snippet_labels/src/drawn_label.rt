@@ -27,8 +27,6 @@ pub struct DrawnLabel<'a> {
     text: LabelText<'a>,
     /// How many bytes its longest piece has, whichever way it stands.
     width: usize,
-    /// Whether its mark goes past where labels are to end.
-    past: bool,
 }
 
 /// The text of a label, normalised.
@@ -40,6 +38,8 @@ enum LabelText<'a> {
     Made(String),
     /// It is cut at its line feeds.
     Cut(Box<CutLabel<'a>>),
+    /// There is none, and the mark goes past where labels are to end.
+    Past,
 }
 
 /// A label that is cut, as it stands after its mark and as it hangs below it: the two have not the same room.
@@ -49,6 +49,8 @@ struct CutLabel<'a> {
     below: CutText<'a>,
     /// Whether nothing may stand right of it in a row.
     last: bool,
+    /// Whether its mark goes past where labels are to end.
+    past: bool,
 }
 
 /// A text of which each line is a piece.
@@ -73,7 +75,7 @@ impl<'a> Model for DrawnLabel<'a> {
 
     ghost Value = { LabelPieces };
 
-    ghost view = { λ label. pieces_in label.text label.past };
+    ghost view = { λ label. pieces_in label.text };
 
     ghost invariant = { λ label. IsSized label.text label.width };
 }
@@ -91,23 +93,24 @@ impl<'a> DrawnLabel<'a> {
             CowStr::Borrowed(text) => LabelText::Given(text),
             CowStr::Owned(text) => LabelText::Made(text),
         };
-        DrawnLabel {
-            text,
-            width,
-            past: false,
-        }
+        DrawnLabel { text, width }
     }
 
-    /// The label, whose mark goes past where labels are to end, or doesn't.
-    pub(crate) fn with_mark_past(mut self, past: bool) -> DrawnLabel<'a>
-        ensures value { result ≡ record self.entry { past = past } }
+    /// The label of an entry that has none, of which the mark may go past where labels are to end.
+    pub(crate) fn none(past: bool) -> DrawnLabel<'a>
+        ensures value { result ≡ record { beside = [] ∷ []; below = [] ∷ []; last = false; past = past } }
     {
-        self.past = past;
-        self
+        let text = if past {
+            LabelText::Past
+        } else {
+            LabelText::Given("")
+        };
+        DrawnLabel { text, width: 0 }
     }
 
     /// A label of this text that is cut at its line feeds, and broken where it has no room at this cell, at which it
-    /// begins after its mark, or at that one, at which it hangs below it.
+    /// begins after its mark, or at that one, at which it hangs below it. Its mark may go past where labels are to
+    /// end.
     ///
     /// # Errors
     ///
@@ -117,6 +120,7 @@ impl<'a> DrawnLabel<'a> {
         layout: Layout,
         beside: usize,
         below: usize,
+        past: bool,
         text: &'a str,
     ) -> Result<DrawnLabel<'a>, AllocError>
         ensures beside { IfOk result (λ label. label.beside
@@ -124,7 +128,7 @@ impl<'a> DrawnLabel<'a> {
         ensures below { IfOk result (λ label. label.below
             ≡ cut_pieces (layout.label_end - below) (norm (chars text.now))) }
         ensures last { IfOk result (λ label. label.last ≡ spec.stands_last layout (norm (chars text.now))) }
-        ensures past { IfOk result (λ label. label.past ≡ false) }
+        ensures past { IfOk result (λ label. label.past ≡ past) }
     {
         let beside = cut_text(alloc, layout.label_end.saturating_sub(beside), text)?;
         let below = cut_text(alloc, layout.label_end.saturating_sub(below), text)?;
@@ -136,12 +140,12 @@ impl<'a> DrawnLabel<'a> {
                 beside,
                 below,
                 last,
+                past,
             },
         )?;
         Ok(DrawnLabel {
             text: LabelText::Cut(label),
             width,
-            past: false,
         })
     }
 
@@ -153,6 +157,7 @@ impl<'a> DrawnLabel<'a> {
             LabelText::Given(text) => (text, false),
             LabelText::Made(text) => (text.as_str(), false),
             LabelText::Cut(label) => (cut_at(position, label).text.as_str(), true),
+            LabelText::Past => ("", false),
         }
     }
 
@@ -188,7 +193,22 @@ impl<'a> DrawnLabel<'a> {
     pub fn has_mark_past(&self) -> bool
         ensures value { result ≡ self.now.past }
     {
-        self.past
+        match &self.text {
+            LabelText::Cut(label) => label.past,
+            LabelText::Past => true,
+            _ => false,
+        }
+    }
+
+    /// Whether others may stand in its row on both sides: right of it, and left of its mark.
+    pub fn shares_row(&self) -> bool
+        ensures value { result ≡ not (self.now.last || self.now.past) }
+    {
+        match &self.text {
+            LabelText::Cut(label) => !(label.last || label.past),
+            LabelText::Past => false,
+            _ => true,
+        }
     }
 
     /// Whether it shows nothing.

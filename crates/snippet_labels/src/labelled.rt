@@ -99,11 +99,11 @@ fn cut_label<'a>(
 {
     let past = goes_past(layout, entry);
     let Some(text) = entry.label.text() else {
-        return Ok(DrawnLabel::whole(CowStr::Borrowed("")).with_mark_past(past));
+        return Ok(DrawnLabel::none(past));
     };
     let beside = layout.code_cell(beside_column(entry));
     let below = layout.code_cell(entry.start.display);
-    Ok(DrawnLabel::cut(alloc, layout, beside, below, text)?.with_mark_past(past))
+    DrawnLabel::cut(alloc, layout, beside, below, past, text)
 }
 
 /// Whether the mark of an entry, which takes a column at least, goes past where labels are to end, where they are

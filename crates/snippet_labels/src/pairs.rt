@@ -1,5 +1,6 @@
 //! How two entries of a line meet.
-ghost use Rattle.std.specs.Prelude.{◌≡◌, ◌+◌, ◌||◌};
+ghost use Rattle.std.specs.Prelude.{◌≡◌, ◌+◌, ◌==◌, ◌&&◌, ◌||◌};
+ghost use Rattle.snippet_labels.specs.Pieces.{label_width};
 ghost use Rattle.snippet_labels.specs.Positions as spec;
 ghost use Rattle.snippet_style.specs.Bounds.{IsColumn, IsUsize};
 
@@ -15,12 +16,21 @@ pub(crate) fn crosses(entry: &PlacedEntry, other: &PlacedEntry) -> bool
 
 /// Whether an entry farther left needs a row of its own: one of the two is a start or an end and the other is too, or
 /// has a label; or its label would reach into this entry, which has a label too, or stands in the first row and ends no
-/// earlier; or it would stand in the row of this entry's mark, which goes past where labels are to end.
+/// earlier. The mark of this entry doesn't go past where labels are to end, or not in the first row.
 pub(crate) fn crowds(position: usize, entry: &PlacedEntry, other: &PlacedEntry) -> bool
     requires columns { IsColumn other.now.entry.end.display }
-    ensures value { result ≡ (spec.blocks entry.now other.now || spec.reaches position entry.now other.now) }
+    ensures value { result ≡ (spec.blocks entry.now other.now || (spec.has_label other.now
+        && ((other.now.label.last || spec.do_overlap other.now (label_width other.now.label + 2) entry.now)
+        && (spec.has_label entry.now || (position == 0 && spec.ends_no_later other.now entry.now))))) }
 {
     blocks(entry, other) || reaches(position, entry, other)
+}
+
+/// The same where it does, in the first row: each label is crowded that would stand there.
+pub(crate) fn stands_in_row(entry: &PlacedEntry, other: &PlacedEntry) -> bool
+    ensures value { result ≡ (spec.blocks entry.now other.now || spec.has_label other.now) }
+{
+    other.has_label() || blocks(entry, other)
 }
 
 /// Whether one of two entries is a start or an end, and the other is too, or has a label.
@@ -32,16 +42,16 @@ fn blocks(entry: &PlacedEntry, other: &PlacedEntry) -> bool
 }
 
 /// Whether the label of an entry farther left would reach into this entry, which has a label too, or stands in the
-/// first row and ends no earlier. A label right of which nothing may stand reaches all that does, and a mark in the
-/// first row that goes past where labels are to end is reached by all that stand there.
+/// first row and ends no earlier. A label right of which nothing may stand reaches all that does.
 fn reaches(position: usize, entry: &PlacedEntry, other: &PlacedEntry) -> bool
     requires columns { IsColumn other.now.entry.end.display }
-    ensures value { result ≡ spec.reaches position entry.now other.now }
+    ensures value { result ≡ (spec.has_label other.now
+        && ((other.now.label.last || spec.do_overlap other.now (label_width other.now.label + 2) entry.now)
+        && (spec.has_label entry.now || (position == 0 && spec.ends_no_later other.now entry.now)))) }
 {
     other.has_label()
-        && (((other.label.stands_last() || overlap(other, other.label.width() + GAP, entry))
-            && (entry.has_label() || (position == 0 && ends_no_later(other, entry))))
-            || (position == 0 && entry.label.has_mark_past()))
+        && (other.label.stands_last() || overlap(other, other.label.width() + GAP, entry))
+        && (entry.has_label() || (position == 0 && ends_no_later(other, entry)))
 }
 
 /// Whether one of two entries starts in the columns of the other, those of the first being this many more.

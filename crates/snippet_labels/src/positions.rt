@@ -1,9 +1,10 @@
 //! Where the labels of a line stand: how far below the row of its marks each hangs.
-ghost use Rattle.std.specs.Prelude.{◌≡◌, ◌+◌, ◌-◌, ◌^◌, ◌<◌, ◌≤◌, ◌&&◌, ◌||◌, true, All, IfOk, IfSome, drop};
+ghost use Rattle.std.specs.Prelude.{◌≡◌, ◌+◌, ◌-◌, ◌^◌, ◌<◌, ◌≤◌, ◌==◌, ◌&&◌, ◌||◌, true, All, IfOk, IfSome, drop};
 ghost use Rattle.std.specs.Prelude.{length, slice_index_or};
 ghost use Rattle.std.specs.Prelude.{map, max, not, reverse, IsPermutation, OnOk};
 ghost use Rattle.snippet_lines.specs.OrderedBy.{ordered_by};
 ghost use Rattle.std.specs.List.{list_any, position};
+ghost use Rattle.snippet_labels.specs.Pieces.{label_width};
 ghost use Rattle.snippet_labels.specs.Positions as spec;
 ghost use Rattle.snippet_labels.specs.declared.positions.PlacedEntry.{PlacedEntry};
 ghost use Rattle.snippet_labels.specs.Placing as placing;
@@ -15,7 +16,7 @@ ghost use Rattle.snippet_style.specs.Bounds.{IsColumn, IsRowNumber};
 
 use crate::drawn_label::DrawnLabel;
 use crate::labelled::labelled_entries;
-use crate::pairs::{crosses, crowds};
+use crate::pairs::{crosses, crowds, stands_in_row};
 use snippet_grid::Layout;
 use snippet_parts::{LineAnnotation, LineAnnotationType};
 use std::alloc::{AllocError, Global};
@@ -174,8 +175,7 @@ fn fits_left_of(column: usize, placed: &PlacedEntry) -> bool
     ensures yes { result ≡ true → FitsLeftOf column placed.now }
 {
     !placed.takes_space()
-        && !placed.label.stands_last()
-        && !placed.label.has_mark_past()
+        && placed.label.shares_row()
         && placed.entry.start.display < column
         && label_reach(placed) <= column
 }
@@ -436,6 +436,27 @@ fn is_crowded(position: usize, entry: &PlacedEntry, others: &[PlacedEntry]) -> b
     requires columns { All (λ e. IsColumn e.entry.end.display) others.now }
     ensures value { result ≡ list_any (λ other. spec.blocks entry.now other || spec.reaches position entry.now other)
         others.now }
+{
+    if position == 0 && entry.label.has_mark_past() {
+        is_crowded_past(entry, others)
+    } else {
+        is_crowded_near(position, entry, others)
+    }
+}
+
+/// The same of an entry in the first row whose mark goes past where labels are to end.
+fn is_crowded_past(entry: &PlacedEntry, others: &[PlacedEntry]) -> bool
+    ensures value { result ≡ list_any (λ other. spec.blocks entry.now other || spec.has_label other) others.now }
+{
+    others.iter().any(|other| stands_in_row(entry, other))
+}
+
+/// The same of one whose mark does not, or that stands in a lower row.
+fn is_crowded_near(position: usize, entry: &PlacedEntry, others: &[PlacedEntry]) -> bool
+    requires columns { All (λ e. IsColumn e.entry.end.display) others.now }
+    ensures value { result ≡ list_any (λ other. spec.blocks entry.now other || (spec.has_label other
+        && ((other.label.last || spec.do_overlap other (label_width other.label + 2) entry.now)
+        && (spec.has_label entry.now || (position == 0 && spec.ends_no_later other entry.now))))) others.now }
 {
     others.iter().any(|other| crowds(position, entry, other))
 }

@@ -1,4 +1,4 @@
-use Rattle.snippet_labels.proofs.Common.{◌≡◌, ◌∙◌, ◌∷◌, [], ◌&&◌, ℕ, List, Bool, true, false, ap, chars-nil, nat_lt, option_copied, refl, sym, label_of_entry}
+use Rattle.snippet_labels.proofs.Common.{◌≡◌, ◌∙◌, ◌∷◌, [], ◌&&◌, ℕ, Bool, true, false, ap, nat_lt, option_copied, refl, sym, label_of_entry}
 use Rattle.snippet_labels.proofs.Common.{beside_column, code_cell, label_pieces, normalized_chars, stands_last}
 use Rattle.snippet_labels.proofs.PieceLemmas.{LabelPieces-is, label_pieces-nil}
 use Rattle.snippet_labels.proofs.labelled.cut_label.Goals as goal
@@ -14,10 +14,8 @@ returns-in_default c =
     let last : false ≡ stands_last layout (normalized_chars e.label) =
     sym (ap (stands_last layout) none ∙ no_wide layout.label_lines (nat_lt 0 layout.label_end)) in
     record {
-      value = c.with_mark_past.ensures.value ∙ LabelPieces-is (record c.whole.result { past = c.goes_past-past.result }) (label_of_entry layout e)
-          (c.whole.ensures.beside ∙ ap (λ (cs : List ℕ). cs ∷ []) chars-nil ∙ empty (code_cell layout (beside_column e)))
-          (c.whole.ensures.below ∙ ap (λ (cs : List ℕ). cs ∷ []) chars-nil ∙ empty (code_cell layout e.start.display))
-          (c.whole.ensures.last ∙ last) c.goes_past-past.ensures.value;
+      value = c.none.ensures.value ∙ LabelPieces-is (record { beside = [] ∷ []; below = [] ∷ []; last = false; past = c.goes_past-past.result })
+          (label_of_entry layout e) (empty (code_cell layout (beside_column e))) (empty (code_cell layout e.start.display)) last c.goes_past-past.ensures.value;
     }
   where
     no_wide : (a b : Bool) → (a && (b && false)) ≡ false

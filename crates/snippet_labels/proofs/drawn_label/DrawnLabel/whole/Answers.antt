@@ -15,12 +15,12 @@ invariant_of-result c =
     elim c.match-text.branch [
       | in-Borrowed w ↦ record {
         texts = subst AreSized (sym w.text-is) (cc);
-        is = long ∙ ap whole (c.as_str-width.ensures.value ∙ ap cow_str_bytes w.in-Borrowed.is) ∙ sym (ap (λ t. label_width (pieces_in t false)) w.text-is);
+        is = long ∙ ap whole (c.as_str-width.ensures.value ∙ ap cow_str_bytes w.in-Borrowed.is) ∙ sym (ap (λ t. label_width (pieces_in t)) w.text-is);
         few = omega arith;
       }
       | in-Owned w ↦ record {
         texts = subst AreSized (sym w.text-is) (cc);
-        is = long ∙ ap whole (c.as_str-width.ensures.value ∙ ap cow_str_bytes w.in-Owned.is) ∙ sym (ap (λ t. label_width (pieces_in t false)) w.text-is);
+        is = long ∙ ap whole (c.as_str-width.ensures.value ∙ ap cow_str_bytes w.in-Owned.is) ∙ sym (ap (λ t. label_width (pieces_in t)) w.text-is);
         few = omega arith;
       }
     ]
