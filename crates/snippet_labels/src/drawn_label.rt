@@ -180,7 +180,7 @@ impl<'a> DrawnLabel<'a> {
     }
 
     /// Whether nothing may stand right of it in a row: what did would be in a later column than its cell.
-    pub fn stands_last(&self) -> bool
+    pub(crate) fn stands_last(&self) -> bool
         ensures value { result ≡ self.now.last }
     {
         match &self.text {
@@ -190,7 +190,7 @@ impl<'a> DrawnLabel<'a> {
     }
 
     /// Whether its mark goes too far for a label left of it to stand in the row of the marks.
-    pub fn has_mark_past(&self) -> bool
+    pub(crate) fn has_mark_past(&self) -> bool
         ensures value { result ≡ self.now.past }
     {
         match &self.text {
@@ -201,7 +201,7 @@ impl<'a> DrawnLabel<'a> {
     }
 
     /// Whether others may stand in its row on both sides: right of it, and left of its mark.
-    pub fn shares_row(&self) -> bool
+    pub(crate) fn shares_row(&self) -> bool
         ensures value { result ≡ not (self.now.last || self.now.past) }
     {
         match &self.text {

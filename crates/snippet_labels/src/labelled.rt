@@ -55,7 +55,7 @@ pub(crate) fn labelled_entries<'a>(
 }
 
 /// An entry, where this many columns of its line are dropped on the left.
-fn shifted<'a>(entry: &LineAnnotation<'a>, dropped: usize) -> LineAnnotation<'a>
+pub fn shifted<'a>(entry: &LineAnnotation<'a>, dropped: usize) -> LineAnnotation<'a>
     ensures value { result ≡ shifted dropped entry.now }
 {
     let mut shifted = entry.copied();

@@ -25,7 +25,7 @@ AreReplaced-none : (placeholder : List ℕ) (n : ℕ) (text : List ℕ) → AreR
 AreReplaced-none placeholder zero text = refl
 AreReplaced-none placeholder (suc n) text = inl refl
 
-AreReplaced-weaker : (placeholder : List ℕ) (m n : ℕ) (before after : List ℕ) → m ≤ n → AreReplaced placeholder m before after
+pub AreReplaced-weaker : (placeholder : List ℕ) (m n : ℕ) (before after : List ℕ) → m ≤ n → AreReplaced placeholder m before after
     → AreReplaced placeholder n before after
 AreReplaced-weaker placeholder zero n before after few same =
     subst (AreReplaced placeholder n before) (sym same) (AreReplaced-none placeholder n before)
@@ -35,7 +35,7 @@ AreReplaced-weaker placeholder (suc m) (suc n) before after few (inr more) =
     inr (more.0, more.1, more.2, more.3, AreReplaced-weaker placeholder m n (more.0 ++ placeholder ++ more.2) after (omega arith) more.4)
 
 -- some stretches, and then some more
-AreReplaced-more : (placeholder : List ℕ) (m n : ℕ) (before now after : List ℕ) → AreReplaced placeholder m before now → AreReplaced placeholder n now after
+pub AreReplaced-more : (placeholder : List ℕ) (m n : ℕ) (before now after : List ℕ) → AreReplaced placeholder m before now → AreReplaced placeholder n now after
     → AreReplaced placeholder (m + n) before after
 AreReplaced-more placeholder zero n before now after same are =
     AreReplaced-weaker placeholder n (0 + n) before after (omega arith) (subst (λ text. AreReplaced placeholder n text after) same are)
@@ -47,11 +47,11 @@ AreReplaced-more placeholder (suc m) n before now after (inr first) are =
     subst (λ k. AreReplaced placeholder k before after) (sym count) (inr (first.0, first.1, first.2, first.3, rest))
 
 -- a row that stays is cut nowhere
-IsCut-none : (layout : Layout) (n : ℕ) (row : List Cell) → IsCut layout n row row
+pub IsCut-none : (layout : Layout) (n : ℕ) (row : List Cell) → IsCut layout n row row
 IsCut-none layout n row = search rules
 
 -- a row that was cut, and then once more
-IsCut-more : (layout : Layout) (m n : ℕ) (whole now row : List Cell) → IsCut layout m whole now → IsCut layout n now row → IsCut layout (m + n) whole row
+pub IsCut-more : (layout : Layout) (m n : ℕ) (whole now row : List Cell) → IsCut layout m whole now → IsCut layout n now row → IsCut layout (m + n) whole row
 IsCut-more layout m n whole now row first then = grind (arith, AreReplaced-more)
 
 -- the parts of a list from an element on
@@ -109,7 +109,7 @@ IsCut-replaced layout start end row from =
     ]
 
 -- a change in one row of a grid
-cells_replaced_here : (above below : List (List Cell)) (source cells : List Cell) (row start end : ℕ) → length above ≡ row
+pub cells_replaced_here : (above below : List (List Cell)) (source cells : List Cell) (row start end : ℕ) → length above ≡ row
     → cells_replaced (above ++ source ∷ below) row start end cells ≡ above ++ replaced_within start end cells source ∷ below
 cells_replaced_here above below source cells row start end here =
     let change = replaced_within start end cells in
@@ -251,7 +251,7 @@ rows_of_strokes layout room closes es source =
     let placed = placed_of layout es in
     let order = painting_order placed in
     let whole = painted (drawn_strokes layout 0 (row_count placed + 1) placed order) (begun_rows layout closes (row_count placed) source) in
-    map (cut_row layout.decor (cuts_of layout room order (with_blocks order (overlapped placed)))) (take 2 whole) ++ drop 2 whole
+    map (cut_row layout.decor (cuts_of layout room order (with_blocks layout order (overlapped placed)))) (take 2 whole) ++ drop 2 whole
 
 pub stroke_rows-cut : (layout : Layout) (room : ℕ) (closes : Bool) (es : List LineAnnotation) (source : List Cell)
     → stroke_rows layout room closes es source ≡ rows_of_strokes layout room closes es source

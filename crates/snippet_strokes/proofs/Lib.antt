@@ -52,6 +52,8 @@ pub mod SourceBars
 pub mod SourceCellLaws
 pub mod SourceRowLemmas
 pub mod SplitRows
+pub mod SqueezedLemmas
+pub mod SqueezedSeen
 pub mod StemCells
 pub mod StemLaws
 pub mod StrokeCells

@@ -7,7 +7,8 @@ use Rattle.snippet_strokes.proofs.Common.{shown_number_unlisted, IsFree, each_fa
 use Rattle.snippet_strokes.proofs.Common.{norm, char_width, width_of, list_any-norm, char_width-bound, StandsClear, dropped_part, reaching, Margin}
 use Rattle.snippet_strokes.proofs.Common.{reaching-cons, reaching-none, width-cons, Layout, inner_cell, separator_cell, is_end_part, shifted, placed_of}
 use Rattle.snippet_strokes.proofs.Common.{PlacedEntry, Top, OpenBar, LineView, ends_of_bars, overlapped, row_count, line_rows, own_rows, painting_order}
-use Rattle.snippet_strokes.proofs.Common.{with_blocks}
+use Rattle.snippet_strokes.proofs.Common.{with_blocks, and_parts, is_squeezed, squeezed}
+use Rattle.snippet_strokes.proofs.SqueezedLemmas.{Line}
 use Rattle.snippet_strokes.proofs.Common.{info_rows, is_whole_line, source_row, window_cells, highlighted_row, stroke_rows, painted, true, replicate}
 use Rattle.snippet_strokes.proofs.Common.{if◌then◌else◌, list_all, list_any, list_any-IsPermutation, cases_Bool, append_assoc, length-append, length_push}
 use Rattle.snippet_strokes.proofs.Common.{closing_row, separator_row, ArePlaced, is_wide_at, bare_row, is_cut, cut_pairs, is_uncut, Write, rules}
@@ -34,7 +35,7 @@ module _ (layout : Layout) (room : ℕ) (closes : Bool) (source : List Cell) whe
   rows_at placed =
       let strokes = drawn_strokes layout 0 (row_count placed + 1) placed (painting_order placed) in
       let whole = painted strokes (begun_rows layout closes (row_count placed) source) in
-      map (cut_row layout.decor (cuts_of layout room (painting_order placed) (with_blocks (painting_order placed) (overlapped placed)))) (take 2 whole)
+      map (cut_row layout.decor (cuts_of layout room (painting_order placed) (with_blocks layout (painting_order placed) (overlapped placed)))) (take 2 whole)
       ++ drop 2 whole
 
   -- rows with strokes of these entries are the rows of their strokes
@@ -42,7 +43,7 @@ module _ (layout : Layout) (room : ℕ) (closes : Bool) (source : List Cell) whe
       → rows ≡ stroke_rows layout room closes es source
   stroke_rows_are es rows is =
       let order = painting_order is.placed in
-      let cut = cut_row layout.decor (cuts_of layout room order (with_blocks order (overlapped is.placed))) in
+      let cut = cut_row layout.decor (cuts_of layout room order (with_blocks layout order (overlapped is.placed))) in
       is.rows_are ∙ ap (λ whole. map cut (take 2 whole) ++ drop 2 whole) is.painted_are ∙ ap rows_at (placed_are layout es is.placed is.are)
       ∙ sym (stroke_rows-cut layout room closes es source)
 
@@ -88,7 +89,7 @@ stroke_rows_are_painted layout room closes es source =
     let some = labels_some layout es placed (placed_of_are layout es) in
     let long : length whole ≡ count + 1 = painted_rows-count layout closes placed order source some in
     let parts = two_more whole (omega (arith, long, row_count_some placed)) in
-    let cut : List Cell → List Cell = cut_row layout.decor (cuts_of layout room order (with_blocks order (overlapped placed))) in
+    let cut : List Cell → List Cell = cut_row layout.decor (cuts_of layout room order (with_blocks layout order (overlapped placed))) in
     record {
       placed = placed;
       are = placed_of_are layout es;
@@ -108,13 +109,13 @@ module _ (layout : Layout) (room : ℕ) (closes : Bool) (text : List ℕ) (dropp
   own_rows_are_rows (e ∷ es) source =
       let all : List LineAnnotation = e ∷ es in
       let tops : List (List Cell) = with_parts layout Top (ends_of_bars all) source ∷ [] in
-      let strokes : List (List Cell) = stroke_rows layout room closes (map (shifted dropped) all) source in
+      let line : Line = squeezed layout room (map (shifted dropped) all, source) in
+      let strokes : List (List Cell) = stroke_rows layout room closes line.0 line.1 in
       record {
         whole = λ is. cond-true (is_whole_line text all) tops strokes is;
         none = λ empty. absurd (omega (arith, ap length empty));
-        strokes = λ other _. subst (StrokesPainted layout room closes (map (shifted dropped) all) source)
-            (sym (cond-false (is_whole_line text all) tops strokes other))
-            (stroke_rows_are_painted layout room closes (map (shifted dropped) all) source);
+        strokes = λ other _. subst (StrokesPainted layout room closes line.0 line.1)
+            (sym (cond-false (is_whole_line text all) tops strokes other)) (stroke_rows_are_painted layout room closes line.0 line.1);
       }
 
   -- all rows of a line
@@ -191,7 +192,7 @@ pub rows_cut : (layout : Layout) (room : ℕ) (closes : Bool) (es : List LineAnn
     → CutsRows layout (wide_entries room layout.decor es) (is_uncut room layout es) is.top is.marks is.lower rows
 rows_cut layout room closes es source rows is =
     let order = painting_order is.placed in
-    let flags = with_blocks order (overlapped is.placed) in
+    let flags = with_blocks layout order (overlapped is.placed) in
     let change : List Cell → List Cell = cut_row layout.decor (cuts_of layout room order flags) in
     let cut : (row : List Cell) → IsCut layout (wide_entries room layout.decor es) row (change row) = λ row.
     subst (λ n. IsCut layout n row (change row)) (wide_entries-order layout room layout.decor es is.placed is.are)
@@ -202,9 +203,9 @@ rows_cut layout room closes es source rows is =
       new_is = is.rows_are;
       source_cut = cut is.top;
       marks_cut = cut is.marks;
-      kept = λ uncut. uncut_row layout room (cut_pairs is.placed) is.marks
-          (subst (λ placed. list_all (λ pair. not (is_cut room layout.decor pair)) (cut_pairs placed) ≡ true)
-          (sym (placed_are layout es is.placed is.are)) uncut);
+      kept = λ uncut. uncut_row layout room (cut_pairs layout is.placed) is.marks
+          (subst (λ placed. list_all (λ pair. not (is_cut room layout.decor pair)) (cut_pairs layout placed) ≡ true)
+          (sym (placed_are layout es is.placed is.are)) (and_parts (not (is_squeezed layout room es)) _ uncut).1);
     }
 
 -- the strokes of a line, painted and then cut, are its rows
@@ -216,7 +217,7 @@ module _ (layout : Layout) (room : ℕ) (closes : Bool) (es : List LineAnnotatio
     (long : length new ≡ length old + row_count placed)
     (new_is : new ≡ painted (drawn_strokes layout row (length old + row_count placed) placed (painting_order placed))
     (old ++ replicate (row_count placed - 1) (separator_row layout.decor layout.gutter) ++ bare_row layout.decor layout.gutter closes ∷ []))
-    (flags_are : list_any (is_wide_at room layout.decor) placed ≡ true → flags ≡ with_blocks (painting_order placed) (overlapped placed))
+    (flags_are : list_any (is_wide_at room layout.decor) placed ≡ true → flags ≡ with_blocks layout (painting_order placed) (overlapped placed))
     (final_is : final ≡ cut_rows layout.decor row (cuts_of layout room (painting_order placed) flags) new) where
   abbrev order : List PlacedEntry
   order = painting_order placed
@@ -241,7 +242,7 @@ module _ (layout : Layout) (room : ℕ) (closes : Bool) (es : List LineAnnotatio
   new_below = grind (arith, begun_below, all_rows, strokes-lowered, painted-below)
 
   -- what is cut: where an entry is wide, it is known which are overlapped
-  cuts_are : cuts_of layout room order flags ≡ cuts_of layout room order (with_blocks order (overlapped placed))
+  cuts_are : cuts_of layout room order flags ≡ cuts_of layout room order (with_blocks layout order (overlapped placed))
   cuts_are = grind (arith, cases_Bool, list_any-IsPermutation, IsPermutation-painting_order, cuts_of-narrow)
 
   -- the rows of a line are its strokes, painted, and cut where entries are wide
@@ -253,7 +254,7 @@ module _ (layout : Layout) (room : ℕ) (closes : Bool) (es : List LineAnnotatio
       let lower : List (List Cell) = drop 2 own in
       let parts : own ≡ top ∷ marks ∷ lower = two_more own (omega (arith, many, row_count_some placed)) in
       let few : length (top ∷ marks ∷ lower) ≡ count + 1 = sym (ap length parts) ∙ many in
-      let stretches : List Stretch = cuts_of layout room order (with_blocks order (overlapped placed)) in
+      let stretches : List Stretch = cuts_of layout room order (with_blocks layout order (overlapped placed)) in
       let change : List Cell → List Cell = cut_row layout.decor stretches in
       let of_stretches = final_is ∙ ap (λ cs. cut_rows layout.decor row cs new) cuts_are in
       let of_parts = ap (cut_rows layout.decor row stretches) (new_below ∙ ap (λ rs. above ++ rs) parts) in
@@ -266,7 +267,8 @@ module _ (layout : Layout) (room : ℕ) (closes : Bool) (es : List LineAnnotatio
 -- below a line that isn't marked as a whole stand no rows without entries, or a closing row, and else those of its strokes
 pub own_strokes : (layout : Layout) (room : ℕ) (closes : Bool) (text : List ℕ) (dropped : ℕ) (es : List LineAnnotation) (source : List Cell)
     → is_whole_line text es ≡ false → 0 < length es
-    → own_rows layout room closes text dropped es source ≡ stroke_rows layout room closes (map (shifted dropped) es) source
+    → own_rows layout room closes text dropped es source
+    ≡ (let line = squeezed layout room (map (shifted dropped) es, source) in stroke_rows layout room closes line.0 line.1)
 own_strokes layout room closes text dropped [] source other some = absurd (omega (arith, some))
 own_strokes layout room closes text dropped (e ∷ es) source other some = cond-false (is_whole_line text (e ∷ es)) _ _ other
 

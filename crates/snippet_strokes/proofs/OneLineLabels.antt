@@ -5,8 +5,13 @@ use Rattle.snippet_strokes.proofs.PaintOrder.{IsPermutation-ordered_by}
 use Rattle.snippet_strokes.proofs.Common.{◌+◌, ◌++◌, All-map, bare_row, bars_apart, cut_middle, drop, ends_of_bars, fold, if◌then◌else◌, is_beside, list_all}
 use Rattle.snippet_strokes.proofs.Common.{painted, painting_order, replicate, row_count, separator_row, take, with_bars}
 use Rattle.std.proofs.Math.Bool.{and-false}
-use Rattle.snippet_strokes.specs.Strokes.{cut_pairs, line_strokes, stroke_rows}
+use Rattle.snippet_strokes.specs.Strokes.{line_strokes, stroke_rows}
 use Rattle.snippet_strokes.specs.LineRows.{line_rows, own_rows}
+use Rattle.snippet_labels.specs.Positions.{pieces_of}
+use Rattle.snippet_strokes.specs.Cuts.{breaks_labels, overlapped}
+use Rattle.snippet_strokes.specs.Squeezed.{squeezed, without_middle}
+use Rattle.snippet_strokes.proofs.SqueezedLemmas.{Line}
+use Rattle.snippet_strokes.proofs.Common.{◌&&◌, ◌||◌, length, list_any, nat_le, nat_lt, range_with_len, sym}
 use Rattle.snippet_strokes.specs.declared.bars.OpenBar.{OpenBar}
 use Rattle.snippet_labels.proofs.PieceLemmas.{LabelPieces-is}
 use Rattle.snippet_labels.specs.Pieces.{LabelPieces, broken_in, label_of_entry, label_pieces, text_pieces}
@@ -57,26 +62,49 @@ module _ (layout : Layout) (none : layout.label_end ≡ 0) (cut : Bool) where
       (zip ps (zip (line_positions ps) (look_counts 0 ps))))
       (bare_same ordered (All-permutation IsPlainEntry es ordered (IsPermutation-ordered_by is_placed_before es) plain))
 
+  -- and none is broken
+  unbroken : (b : Bool) → breaks_labels (with_cut b layout) ≡ false
+  unbroken b = ap (λ n. b && nat_lt 0 n) none ∙ and-false b
+
   -- and its rows are the same
   rows_same : (room : ℕ) (closes : Bool) (es : List LineAnnotation) (source : List Cell) → All IsPlainEntry es
       → stroke_rows (with_cut cut layout) room closes es source ≡ stroke_rows (with_cut false layout) room closes es source
-  rows_same room closes es source plain = ap rows_with (placed_same es plain)
+  rows_same room closes es source plain =
+      ap (λ b. rows_with b (placed_of (with_cut cut layout) es)) (unbroken cut) ∙ ap (rows_with false) (placed_same es plain)
+      ∙ sym (ap (λ b. rows_with b (placed_of (with_cut false layout) es)) (unbroken false))
     where
+      -- what is cut where labels are broken or not
+      pairs_by : Bool → List PlacedEntry → List (PlacedEntry × Bool)
+      pairs_by breaks placed =
+          let order = painting_order placed in
+          zip order (map (λ pair. pair.1 || (breaks
+          || list_any (λ f. f.position == 0 && (nat_le pair.0.entry.start.display f.entry.start.display && nat_lt 1 (length (pieces_of f)))) order))
+          (zip order (overlapped placed)))
+
       -- the rows of a line whose entries are placed so
-      rows_with : List PlacedEntry → List (List Cell)
-      rows_with placed =
+      rows_with : Bool → List PlacedEntry → List (List Cell)
+      rows_with breaks placed =
           let count = row_count placed in
           let below = replicate (count - 1) (separator_row layout.decor layout.gutter) ++ bare_row layout.decor layout.gutter closes ∷ [] in
           let whole = painted (line_strokes (with_cut cut layout) 0 (count + 1) placed (painting_order placed)) (source ∷ below) in
-          map (λ row. fold (cut_middle (with_cut cut layout) room) row (cut_pairs placed)) (take 2 whole) ++ drop 2 whole
+          map (λ row. fold (cut_middle (with_cut cut layout) room) row (pairs_by breaks placed)) (take 2 whole) ++ drop 2 whole
+
+  -- nothing is cut out of them first
+  unsqueezed : (b : Bool) (room : ℕ) (line : Line) → squeezed (with_cut b layout) room line ≡ line
+  unsqueezed b room line =
+      ap (λ breaks. if breaks then fold (without_middle (with_cut b layout) room) line (range_with_len 0 (length line.0)) else line)
+      (unbroken b)
 
   own_same : (room : ℕ) (closes : Bool) (text : List ℕ) (dropped : ℕ) (es : List LineAnnotation) (source : List Cell) → All IsPlainEntry es
       → own_rows (with_cut cut layout) room closes text dropped es source ≡ own_rows (with_cut false layout) room closes text dropped es source
   own_same room closes text dropped [] source plain = refl
   own_same room closes text dropped (e ∷ es) source plain =
       let all : List LineAnnotation = e ∷ es in
+      let line : Line = (map (shifted dropped) all, source) in
       ap (λ rows. if list_all (is_beside text) all then with_bars layout (λ strokes. strokes.whole_line) (ends_of_bars all) source ∷ [] else rows)
-      (rows_same room closes (map (shifted dropped) all) source (All-map IsPlainEntry (shifted dropped) all plain))
+      (ap (λ (l : Line). stroke_rows (with_cut cut layout) room closes l.0 l.1) (unsqueezed cut room line)
+      ∙ rows_same room closes (map (shifted dropped) all) source (All-map IsPlainEntry (shifted dropped) all plain)
+      ∙ sym (ap (λ (l : Line). stroke_rows (with_cut false layout) room closes l.0 l.1) (unsqueezed false room line)))
 
   -- those of a line of which columns are dropped too, over which bars run
   pub line_same : (room : ℕ) (closes : Bool) (text : List ℕ) (dropped : ℕ) (open_bars : List OpenBar) (es : List LineAnnotation) (source : List Cell)

@@ -1,8 +1,8 @@
 -- Where rows end: strokes that end by a cell leave no row that goes past it, and where nothing may stand right of a label its rows end with it.
-use Rattle.snippet_strokes.proofs.Common.{◌≡◌, ℕ, ◌+◌, ◌-◌, ◌<◌, ◌≤◌, ◌&&◌, Bool, false, true, max, List, [], ◌∷◌, All, length, get_or, ap, sym, refl, ◌∙◌}
+use Rattle.snippet_strokes.proofs.Common.{◌≡◌, ℕ, ◌+◌, ◌-◌, ◌<◌, ◌≤◌, ◌&&◌, Bool, false, true, max, List, [], ◌∷◌, All, length, get_or, ap, sym, ◌∙◌}
 use Rattle.snippet_strokes.proofs.Common.{subst, arith, inl, inr, cases_eq, cases_lt, All-head, All-permutation, All-tail, IsPermutation, LineAnnotation}
 use Rattle.snippet_strokes.proofs.Common.{PlacedEntry, nat_lt}
-use Rattle.snippet_strokes.proofs.Common.{ArePlaced, HasPlace, has_label, takes_space, has_stem, label_place, label_width, label_at, positions}
+use Rattle.snippet_strokes.proofs.Common.{ArePlaced, HasPlace, has_label, has_stem, label_place, label_width, label_at, positions}
 use Rattle.snippet_strokes.proofs.Common.{length-replicate, length-text_cells, text_cells, Cell, row_at, WritesCells-cells_written, is_primary, strokes_of}
 use Rattle.snippet_strokes.proofs.Common.{Layout, HasBarCell, Write, painted, common_steps, crowds, nat_tests, LabelPieces}
 use Rattle.snippet_strokes.proofs.CellLemmas.{drawn_strokes, written_by}

@@ -15,13 +15,16 @@ use Rattle.snippet_strokes.proofs.BarRows.{barred-below}
 use Rattle.snippet_strokes.proofs.BarLemmas.{BarsDrawn-with_parts, bar_space, AreSeen-drawn, whole_seen}
 use Rattle.snippet_strokes.proofs.RowLemmas.{free_led, length-led}
 use Rattle.snippet_strokes.proofs.CellLemmas.{with_parts, begun_rows, drawn_strokes}
+use Rattle.snippet_strokes.specs.Squeezed.{squeezed}
+use Rattle.snippet_strokes.proofs.SqueezedLemmas.{Line, drawable_squeezed, each_squeezed}
+use Rattle.snippet_strokes.proofs.SqueezedSeen.{bare_squeezed, seen_squeezed, squeezed_left}
 use Rattle.snippet_strokes.proofs.WriteLaws.{AreLineRows, AreOwnRows, CanBeShown, IsHighlighted, IsSourceRow, ShowsLine, StrokesPainted, painted-untouched}
 use Rattle.snippet_strokes.proofs.LineFromValue.{info_rows_show}
 use Rattle.snippet_strokes.proofs.LabelPlaces.{none_seen}
 use Rattle.snippet_strokes.proofs.OpenLemmas.{room_apart, room_below, room_ends}
 use Rattle.snippet_strokes.proofs.SplitRows.{painted_seen}
 use Rattle.snippet_strokes.proofs.SeenRows.{AreSeen, HasNoBars}
-use Rattle.snippet_strokes.proofs.ShiftLemmas.{shifted_bars, shifted_places}
+use Rattle.snippet_strokes.proofs.ShiftLemmas.{drawable_shifted}
 use Rattle.snippet_strokes.proofs.BarFacts.{BarBegins}
 use Rattle.snippet_strokes.proofs.Reach.{Reaches}
 use Rattle.snippet_strokes.proofs.AmongLaws.{all_from_among}
@@ -119,14 +122,17 @@ module _ (layout : Layout) (depth : ℕ) (room : layout.gutter + 2 + depth < lay
 
   -- beside a line that isn't marked as a whole the cell stays, if no entry is such an end
   painted_source : (width : ℕ) (closes : Bool) (dropped : ℕ) (es : List LineAnnotation) (source : List Cell) (rows : List (List Cell)) → All IsNoEnd es
-      → StrokesPainted layout width closes (map (shifted dropped) es) source rows → cell_at rows 0 cell ≡ get_or source cell SPACE
+      → (let line = squeezed layout width (map (shifted dropped) es, source) in StrokesPainted layout width closes line.0 line.1 rows)
+      → cell_at rows 0 cell ≡ get_or source cell SPACE
   painted_source width closes dropped es source rows none drawn =
+      let line : Line = squeezed layout width (map (shifted dropped) es, source) in
       let placed : List PlacedEntry = drawn.placed in
-      let begun : List (List Cell) = begun_rows layout closes (row_count placed) source in
-      let none_placed : All (λ (e : PlacedEntry). IsNoEnd e.entry) placed = entries_all IsNoEnd (map (shifted dropped) es) placed drawn.are.same
-      (All-map IsNoEnd (shifted dropped) es none) in
-      strokes_left layout width closes (map (shifted dropped) es) source rows drawn 0 cell room
+      let begun : List (List Cell) = begun_rows layout closes (row_count placed) line.1 in
+      let none_placed : All (λ (e : PlacedEntry). IsNoEnd e.entry) placed = entries_all IsNoEnd line.0 placed drawn.are.same
+      (each_squeezed layout width IsNoEnd (λ e f other. other) (map (shifted dropped) es, source) (All-map IsNoEnd (shifted dropped) es none)) in
+      strokes_left layout width closes line.0 line.1 rows drawn 0 cell room
       ∙ untouched (row_count placed + 1) placed (painting_order placed) begun none_placed
+      ∙ squeezed_left layout width (omega (arith, room)) (map (shifted dropped) es, source) cell room
 
   module _ (width : ℕ) (closes : Bool) (text : List ℕ) (dropped : ℕ) (es : List LineAnnotation) (source : List Cell)
       (others : All (λ b. b.depth ≢ depth) (ends_of_bars es)) where
@@ -224,8 +230,11 @@ module _ (layout : Layout) (room : ℕ) (closes : Bool) (text : List ℕ) (dropp
             (λ cells. BarsDrawn-with_parts layout Top (ends_of_bars all) cells (room_ends layout all drawable.bar_cells))
             (whole_seen layout text room dropped closes all source whole bare))
         | inr other ↦
-            painted_seen layout room closes (map (shifted dropped) all) source rows place (shifted_places dropped all drawable.columns)
-            (shifted_bars layout dropped all drawable.bar_cells) bare (are.strokes other (omega arith))
+            let whole_line : Line = (map (shifted dropped) all, source) in
+            let line : Line = squeezed layout room whole_line in
+            let can = drawable_squeezed layout room whole_line (drawable_shifted layout dropped all drawable) in
+            seen_squeezed layout room place closes (map (shifted dropped) all) source rows (painted_seen layout room closes line.0 line.1 rows place
+            can.columns can.bar_cells (bare_squeezed layout room place whole_line bare) (are.strokes other (omega arith)))
       ]
 
   -- and of all its rows, beside which bars run past

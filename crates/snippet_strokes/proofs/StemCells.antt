@@ -155,7 +155,7 @@ stroke_rows-count layout room closes es source =
     let placed : List PlacedEntry = placed_of layout es in
     let order : List PlacedEntry = painting_order placed in
     let whole : List (List Cell) = painted (drawn_strokes layout 0 (row_count placed + 1) placed order) (begun_rows layout closes (row_count placed) source) in
-    let cut : List Cell → List Cell = cut_row layout.decor (cuts_of layout room order (with_blocks order (overlapped placed))) in
+    let cut : List Cell → List Cell = cut_row layout.decor (cuts_of layout room order (with_blocks layout order (overlapped placed))) in
     ap length (stroke_rows-cut layout room closes es source)
     ∙ length-append (map cut (take 2 whole)) (drop 2 whole) ∙ ap (λ n. n + length (drop 2 whole)) (length-map (take 2 whole) cut)
     ∙ sym (length-append (take 2 whole) (drop 2 whole)) ∙ ap length (take-append-drop 2 whole) ∙ painted_rows-count layout closes placed order source

@@ -6,7 +6,7 @@ use Rattle.snippet_strokes.proofs.Common.{unlinked_cell, strokes_of, ElementStyl
 use Rattle.snippet_strokes.proofs.Common.{WritesCells, Write, painted, stretch_of, ◌==◌, Bool, true, false, ◌++◌, drop, All, flat_map, LineAnnotation}
 use Rattle.snippet_strokes.proofs.Common.{label_role, has_label, label_place, label_of, labels_of, HasPlace, ArePlaced, append_assoc, code_cell, label_width}
 use Rattle.snippet_strokes.proofs.Common.{pieces_at, drop_more, take-append-drop, length-drop, get_or-drop, flat_map-append, cell_at, crowds, list_any}
-use Rattle.snippet_strokes.proofs.Common.{All-append, underline_role, DecorStyle, IsStrokeCell, stroke_glyphs, HasBarCell, common_steps, nat_tests, rules}
+use Rattle.snippet_strokes.proofs.Common.{All-append, underline_role, DecorStyle, IsStrokeCell, stroke_glyphs, HasBarCell, common_steps, nat_tests}
 use Rattle.snippet_strokes.proofs.Common.{label_at, list_any-append, stem_glyphs}
 use Rattle.snippet_strokes.proofs.CellLemmas.{drawn_mark, marks_of, drawn_strokes}
 use Rattle.snippet_strokes.proofs.PieceWrites.{All-label_of, All-pieces_at, has_piece, label_parts_of, label_write, label_chars_le, piece_within}

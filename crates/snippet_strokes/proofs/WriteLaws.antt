@@ -13,6 +13,7 @@ use Rattle.snippet_strokes.proofs.Common.{slice_index_or-text_cells, IsFreeCell,
 use Rattle.snippet_strokes.proofs.Common.{fold-append, ElementStyle, strokes_of, is_primary, stroke_role, first_glyph, mark_end, stretch_of, common_steps}
 use Rattle.snippet_strokes.proofs.Common.{rules, code_cell, label_place, pieces_at, row_at-cells_written_same, written}
 use Rattle.std.proofs.Common.{chars}
+use Rattle.snippet_strokes.specs.Squeezed.{squeezed}
 use Rattle.snippet_strokes.proofs.CellLemmas.{with_parts, cut_row, role_in_source, begun_rows, drawn_strokes, written_by, drawn_mark}
 use Rattle.snippet_strokes.proofs.CutWords.{cuts_of}
 use Rattle.snippet_strokes.proofs.DrawnCells.{DrawsFrom, MarksStarts, StandsFrom}
@@ -256,17 +257,18 @@ pub record StrokesPainted (layout : Layout) (room : ℕ) (closes : Bool) (es : L
   pub painted_are : top ∷ marks ∷ lower ≡ painted (drawn_strokes layout 0 (row_count placed + 1) placed (painting_order placed))
       (begun_rows layout closes (row_count placed) source)
   pub rows_are : rows ≡ (let cuts = cuts_of layout room (painting_order placed)
-      (with_blocks (painting_order placed) (overlapped placed)) in cut_row layout.decor cuts top ∷ cut_row layout.decor cuts marks ∷ lower)
+      (with_blocks layout (painting_order placed) (overlapped placed)) in cut_row layout.decor cuts top ∷ cut_row layout.decor cuts marks ∷ lower)
   pub count : length rows ≡ row_count placed + 1
 
 -- the rows that a line has by its own entries, of which so many columns are dropped: beside a line that is marked as a whole the tops
 -- of its bars, and no row below; without entries none below either, but a closing row where the window closes with the line; and
--- else the rows of its strokes
+-- else the rows of its strokes, where the middles of wide spans are cut out first if labels are broken
 pub record AreOwnRows (layout : Layout) (room : ℕ) (closes : Bool) (text : List ℕ) (dropped : ℕ) (es : List LineAnnotation) (source : List Cell)
     (rows : List (List Cell)) : Type 0 where
   pub whole : is_whole_line text es ≡ true → rows ≡ with_parts layout Top (ends_of_bars es) source ∷ []
   pub none : es ≡ [] → rows ≡ source ∷ (if closes then closing_row layout.decor layout.gutter ∷ [] else [])
-  pub strokes : is_whole_line text es ≡ false → 0 < length es → StrokesPainted layout room closes (map (shifted dropped) es) source rows
+  pub strokes : is_whole_line text es ≡ false → 0 < length es
+      → (let line = squeezed layout room (map (shifted dropped) es, source) in StrokesPainted layout room closes line.0 line.1 rows)
 
 -- the rows of a line, where these bars are open above it: its own, and over each of them the bars that run past
 pub record AreLineRows (layout : Layout) (room : ℕ) (closes : Bool) (text : List ℕ) (dropped : ℕ) (open_bars : List OpenBar) (es : List LineAnnotation)

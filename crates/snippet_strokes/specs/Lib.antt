@@ -15,6 +15,7 @@ pub mod StrokeRows
 pub mod Snippet
 pub mod SourceRows
 pub mod BegunRow
+pub mod Squeezed
 pub mod Strokes
 pub mod Writes
 pub mod DrawnBars

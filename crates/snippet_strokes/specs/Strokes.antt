@@ -17,6 +17,7 @@ use Rattle.snippet_strokes.specs.Painting.{mark_of, painting_order, stroke_role}
 use Rattle.snippet_labels.specs.Positions.{has_label, has_stem, label_place, pieces_of, placed_of, is_start_part, takes_space}
 use Rattle.snippet_strokes.specs.Cuts.{cut_middle, is_cut, overlapped, with_blocks}
 use Rattle.snippet_strokes.specs.SourceRows.{bare_row}
+use Rattle.snippet_strokes.specs.Squeezed.{is_squeezed}
 use Rattle.std.specs.Option.{option_map_or}
 use Rattle.snippet_strokes.specs.Bars.{bar_at}
 
@@ -87,12 +88,13 @@ line_strokes layout row count placed order =
 
 -- placed entries, each with whether it is overlapped. As the original does, what is known of the entry at a place in the order in which they
 -- are placed stands there for the one at the same place in the order in which marks are painted
-abbrev pub cut_pairs : List PlacedEntry → List (PlacedEntry × Bool)
-cut_pairs placed = zip (painting_order placed) (with_blocks (painting_order placed) (overlapped placed))
+abbrev pub cut_pairs : Layout → List PlacedEntry → List (PlacedEntry × Bool)
+cut_pairs layout placed = zip (painting_order placed) (with_blocks layout (painting_order placed) (overlapped placed))
 
--- whether no entry of a line is cut
+-- whether no entry of a line is cut, before labels have their places or after
 abbrev pub is_uncut : ℕ → Layout → List LineAnnotation → Bool
-is_uncut room layout es = list_all (λ pair. not (is_cut room layout.decor pair)) (cut_pairs (placed_of layout es))
+is_uncut room layout es =
+    not (is_squeezed layout room es) && list_all (λ pair. not (is_cut room layout.decor pair)) (cut_pairs layout (placed_of layout es))
 
 -- the rows of a line with the strokes of these entries, of which this is the source row. All strokes are painted over this row and those below
 -- it, of which there are as many as the entries ask for: separators, with the last row as the window closes or goes on. Of the first two, the
@@ -104,4 +106,4 @@ stroke_rows layout room closes es source =
     let count = row_count placed in
     let bare = replicate (count - 1) (separator_row layout.decor layout.gutter) ++ bare_row layout.decor layout.gutter closes ∷ [] in
     let whole = painted (line_strokes layout 0 (count + 1) placed order) (source ∷ bare) in
-    map (λ row. fold (cut_middle layout room) row (cut_pairs placed)) (take 2 whole) ++ drop 2 whole
+    map (λ row. fold (cut_middle layout room) row (cut_pairs layout placed)) (take 2 whole) ++ drop 2 whole

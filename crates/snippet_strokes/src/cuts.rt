@@ -1,5 +1,6 @@
 //! Wide spans, of which the middle gives its place to the placeholder, in the source row and in the row of the marks.
-ghost use Rattle.std.specs.Prelude.{◌≡◌, ◌+◌, ◌/◌, ◌<◌, ◌≤◌, ◌==◌, ◌&&◌, max, [], false, true, All, IfOk, OnOk, fold};
+ghost use Rattle.std.specs.Prelude.{◌≡◌, ◌+◌, ◌/◌, ◌<◌, ◌≤◌, ◌==◌, ◌&&◌, ◌||◌, max, [], false, true, All};
+ghost use Rattle.std.specs.Prelude.{IfOk, OnOk, fold};
 ghost use Rattle.std.specs.Prelude.{length, nat_le, nat_lt};
 ghost use Rattle.std.specs.List.{list_any, zip};
 ghost use Rattle.snippet_parts.specs.Entries.{is_wide_entry};
@@ -15,6 +16,7 @@ ghost use Rattle.snippet_grid.specs.Calls.{cells_replaced};
 ghost use Rattle.snippet_labels.specs.Positions.{do_overlap, pieces_of};
 ghost use Rattle.snippet_style.specs.Bounds.{AreRows, HasNext, IsCount};
 
+use crate::squeezed::breaks_labels;
 use snippet_grid::{Layout, StyledBuffer};
 use snippet_labels::{PlacedEntry, overlap};
 use snippet_parts::{LineAnnotation, LineAnnotationType};
@@ -148,24 +150,37 @@ fn is_met(k: usize, entry: &PlacedEntry, placed: &[PlacedEntry], ends: &[usize])
 }
 
 /// What is known of these entries, which stand in the order of painting, where one counts as overlapped too if a block
-/// stands beside it.
+/// stands beside it. Where labels are broken each does: the middle of one that is to be cut is so before.
 ///
 /// ```text
 ///     1 | let aaaaaaaaaaaaa = 1;
 ///       |     ^^^^^^^^^^^^^ a       were the mark cut, `a` would move, and `b` would not
 ///       |                   b
 /// ```
-pub(crate) fn with_blocks(mut overlapped: Vec<bool>, placed: &[PlacedEntry]) -> Vec<bool>
+pub(crate) fn with_blocks(
+    mut overlapped: Vec<bool>,
+    layout: Layout,
+    placed: &[PlacedEntry],
+) -> Vec<bool>
     requires count { length overlapped.items ≤ length placed.now }
-    ensures value { result.items ≡ rule.with_blocks placed.now overlapped.items }
+    ensures value { result.items ≡ rule.with_blocks layout placed.now overlapped.items }
     ensures count { length result.items ≤ length placed.now }
 {
     for k in 0..overlapped.len() {
-        if has_block_beside(&placed[k], placed) {
+        if stays_whole(layout, &placed[k], placed) {
             overlapped[k] = true;
         }
     }
     overlapped
+}
+
+/// Whether an entry isn't cut any more: labels are broken, or a block stands beside it.
+fn stays_whole(layout: Layout, entry: &PlacedEntry, placed: &[PlacedEntry]) -> bool
+    ensures value { result ≡ (rule.breaks_labels layout || list_any (λ f. f.position == 0
+        && (nat_le entry.now.entry.start.display f.entry.start.display && nat_lt 1 (length (pieces_of f))))
+        placed.now) }
+{
+    breaks_labels(layout) || has_block_beside(entry, placed)
 }
 
 /// Whether a label of several pieces stands after the mark of an entry, or after one that starts right of where it
@@ -243,19 +258,21 @@ fn cut_entry(
 }
 
 /// Whether an entry is wide, in a room of this many columns.
-fn is_wide(room: usize, decor: DecorStyle, entry: &LineAnnotation) -> bool
+pub(crate) fn is_wide(room: usize, decor: DecorStyle, entry: &LineAnnotation) -> bool
     requires columns { HasPlace entry.now }
     ensures value { result ≡ is_wide_entry room (length (placeholder_of decor)) entry.now }
 {
     let width = entry.end.display - entry.start.display;
-    matches!(entry.annotation_type, LineAnnotationType::Singleline)
-        && width.saturating_sub(room) > room
+    // Most are narrow, so the one test comes first that costs least.
+    width > room
+        && matches!(entry.annotation_type, LineAnnotationType::Singleline)
+        && width - room > room
         && width > 10 + char_count(decor.placeholder())
 }
 
 /// How many columns stay at each end of an entry that is cut, in a room of this many columns.
-fn end_columns(room: usize) -> usize
-    ensures value { result ≡ max 5 (room / 3) }
+pub(crate) fn end_columns(room: usize) -> usize
+    ensures value { result ≡ rule.end_columns room }
 {
     let third = room / 3;
     if third > LEAST_END { third } else { LEAST_END }

@@ -17,6 +17,7 @@ mod roles;
 mod row;
 mod snippet;
 mod source_row;
+mod squeezed;
 mod stems;
 mod strokes;
 mod whole_line;

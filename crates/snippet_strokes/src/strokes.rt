@@ -1,6 +1,13 @@
 //! All that stands below the source row of a line, and the bars beside it of spans that begin or end there.
 ghost use Rattle.std.specs.Prelude.{◌≡◌, ◌+◌, ◌<◌, ◌++◌, ◌∷◌, [], ℕ, if◌then◌else◌, All, List, OnOk};
-ghost use Rattle.std.specs.Prelude.{◌-◌, false, length, replicate};
+ghost use Rattle.std.specs.Prelude.{◌-◌, false, length, map, replicate, true};
+ghost use Rattle.std.specs.List.{list_any};
+ghost use Rattle.snippet_labels.specs.PlacedEntries.{shifted};
+ghost use Rattle.snippet_labels.specs.Placing.{HasPlace};
+ghost use Rattle.snippet_parts.specs.Entries.{is_wide_entry};
+ghost use Rattle.snippet_style.specs.Glyphs.{placeholder_of};
+ghost use Rattle.snippet_strokes.specs.Cuts.{breaks_labels};
+ghost use Rattle.snippet_strokes.specs.Squeezed.{squeezed};
 ghost use Rattle.snippet_strokes.specs.Drawable.{AreDrawable, IsReady};
 ghost use Rattle.snippet_strokes.specs.LineRows.{own_rows};
 ghost use Rattle.snippet_style.specs.Cell.{Cell};
@@ -8,7 +15,7 @@ ghost use Rattle.snippet_labels.specs.Positions.{pieces_of};
 ghost use Rattle.snippet_strokes.specs.Drawing as spec;
 ghost use Rattle.snippet_strokes.specs.Places.{AreEnough, HasRows};
 ghost use Rattle.snippet_strokes.specs.SourceRows.{bare_row};
-ghost use Rattle.snippet_strokes.specs.Strokes.{line_strokes};
+ghost use Rattle.snippet_strokes.specs.Strokes.{line_strokes, stroke_rows};
 ghost use Rattle.snippet_strokes.specs.PaintedStrokes.{strokes_under_marks};
 ghost use Rattle.snippet_strokes.specs.DrawnBars.{is_whole_line};
 ghost use Rattle.snippet_strokes.specs.Painting.{painting_order};
@@ -20,14 +27,16 @@ use crate::canvas::Canvas;
 use crate::cell_rows::CellRows;
 use crate::connectors::draw_connectors;
 use crate::corners::{draw_corners, draw_tops};
-use crate::cuts::{cut_wide, overlapping, with_blocks};
+use crate::cuts::{cut_wide, is_wide, overlapping, with_blocks};
 use crate::labels::draw_labels;
 use crate::marks::draw_marks;
 use crate::row::{begin_closing_row, begin_rows};
+use crate::squeezed::{breaks_labels, squeezed_line};
 use crate::stems::draw_stems;
 use snippet_grid::{Layout, StyledBuffer};
 use snippet_labels::{PlacedEntry, are_starts, greatest_position, placed_entries};
 use snippet_parts::LineAnnotation;
+use snippet_style::DecorStyle;
 use std::alloc::AllocError;
 
 /// Where the strokes of a line stand.
@@ -74,15 +83,83 @@ pub(crate) fn draw_strokes(
         → is_whole_line text entries.now ≡ false → buffer.old ≡ above ++ source ∷ []
         → buffer.new ≡ above ++ own_rows layout place.room place.closes text place.dropped entries.now source) }
 {
-    let alloc = buffer.allocator();
     if entries.is_empty() {
         return close_below(buffer, layout, place.closes);
     }
+    if breaks_labels(layout) && has_wide_entry(place.room, layout.decor, entries) {
+        return draw_squeezed(buffer, layout, place, entries);
+    }
+    draw_placed(buffer, layout, place, entries)
+}
+
+/// Whether one of these entries is wide, in a room of this many columns.
+fn has_wide_entry(room: usize, decor: DecorStyle, entries: &[LineAnnotation]) -> bool
+    requires columns { All HasPlace entries.now }
+    ensures value { result ≡ list_any (is_wide_entry room (length (placeholder_of decor))) entries.now }
+{
+    entries.iter().any(|entry| is_wide(room, decor, entry))
+}
+
+/// Does the same of a line with entries, from which the middles of wide spans are cut out first.
+///
+/// # Errors
+///
+/// There is no memory for the rows, the labels or the lists of entries.
+#[inline(never)]
+fn draw_squeezed(
+    buffer: &mut StyledBuffer,
+    layout: Layout,
+    place: StrokePlace,
+    entries: &[LineAnnotation],
+) -> Result<(), AllocError>
+    requires broken { breaks_labels layout ≡ true }
+    requires some { 0 < length entries.now }
+    requires last { length buffer.old ≡ place.row + 1 }
+    requires entries { AreDrawable layout entries.now }
+    ensures value { OnOk result ((above : List (List Cell)) (source : List Cell) → buffer.old ≡ above ++ source ∷ []
+        → let line = squeezed layout place.room (map (shifted place.dropped) entries.now, source) in
+        buffer.new ≡ above ++ stroke_rows layout place.room place.closes line.0 line.1) }
+{
+    let line = squeezed_line(
+        buffer,
+        layout,
+        place.row,
+        place.room,
+        place.dropped,
+        entries,
+    )?;
+    let place = StrokePlace {
+        dropped: 0,
+        ..place
+    };
+    draw_placed(buffer, layout, place, &line)
+}
+
+/// Does the same of a line with entries, as they stand.
+///
+/// # Errors
+///
+/// There is no memory for the rows, the labels or the list of entries.
+#[inline]
+fn draw_placed(
+    buffer: &mut StyledBuffer,
+    layout: Layout,
+    place: StrokePlace,
+    entries: &[LineAnnotation],
+) -> Result<(), AllocError>
+    requires some { 0 < length entries.now }
+    requires last { length buffer.old ≡ place.row + 1 }
+    requires entries { AreDrawable layout entries.now }
+    ensures value { OnOk result ((above : List (List Cell)) (source : List Cell) → buffer.old ≡ above ++ source ∷ []
+        → buffer.new ≡ above ++ stroke_rows layout place.room place.closes (map (shifted place.dropped) entries.now)
+        source) }
+{
+    let alloc = buffer.allocator();
     let mut placed = placed_entries(alloc, place.dropped, layout, entries)?;
     let overlapped = overlapping(alloc, layout.decor, place.room, &placed)?;
     let count = row_count(layout, &placed);
     draw_rows(buffer, layout, place, count, &mut placed)?;
-    let kept = with_blocks(overlapped, &placed);
+    let kept = with_blocks(overlapped, layout, &placed);
     cut_wide(buffer, layout, place.row, place.room, &placed, &kept)
 }
 

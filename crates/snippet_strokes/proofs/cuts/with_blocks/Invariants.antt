@@ -4,7 +4,7 @@ use Rattle.snippet_strokes.proofs.cuts.with_blocks.Given as goal
 
 abbrev pub invariant-loop-k : goal.invariant-loop-k
 invariant-loop-k l = record {
-  done : take l.k l.overlapped.items ≡ take l.k (with_blocks l.placed l.initial.overlapped.items);
+  done : take l.k l.overlapped.items ≡ take l.k (with_blocks l.layout l.placed l.initial.overlapped.items);
   left : drop l.k l.overlapped.items ≡ drop l.k l.initial.overlapped.items;
   count : length l.overlapped.items ≡ length l.initial.overlapped.items;
 }
