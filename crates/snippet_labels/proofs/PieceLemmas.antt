@@ -89,9 +89,9 @@ label_of_entry-whole layout is e label beside below last past =
     let second : label.below ≡ label_pieces layout (code_cell layout e.start.display) text =
     below ∙ sym (label_pieces-whole layout is (code_cell layout e.start.display) text) in
     let third : label.last ≡ stands_last layout text =
-    last ∙ sym (ap (λ b. b && (nat_lt 0 layout.label_end && list_any (λ c. nat_lt 1 (char_width c)) text)) is) in
+    last ∙ sym (ap (λ b. b && nat_lt 0 layout.label_end && list_any (λ c. nat_lt 1 (char_width c)) text) is) in
     let fourth : label.past ≡ goes_past layout e =
-    past ∙ sym (ap (λ b. b && (nat_lt 0 layout.label_end && nat_lt layout.label_end (code_cell layout (max (e.start.display + 1) e.end.display)))) is) in
+    past ∙ sym (ap (λ b. b && nat_lt 0 layout.label_end && nat_lt layout.label_end (code_cell layout (max (e.start.display + 1) e.end.display))) is) in
     LabelPieces-is label (label_of_entry layout e) first second third fourth
 
 pub label_pieces-cut : (layout : Layout) → layout.label_lines ≡ true → (cell : ℕ) (text : List ℕ)

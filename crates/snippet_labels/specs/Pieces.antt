@@ -25,15 +25,18 @@ text_pieces cut text = if cut then slice_split (λ c. c == 10) text else text �
 abbrev pub label_pieces : Layout → ℕ → List ℕ → List (List ℕ)
 label_pieces layout cell text = text_pieces layout.label_lines (broken layout cell text)
 
+-- whether labels are broken
+abbrev pub breaks_labels : Layout → Bool
+breaks_labels layout = layout.label_lines && nat_lt 0 layout.label_end
+
 -- whether nothing may stand right of a label of this text in a row: where labels are broken and it has a character of more than one column,
 -- since what stood there would be in a later column than its cell
 abbrev pub stands_last : Layout → List ℕ → Bool
-stands_last layout text = layout.label_lines && (nat_lt 0 layout.label_end && list_any (λ c. nat_lt 1 (char_width c)) text)
+stands_last layout text = breaks_labels layout && list_any (λ c. nat_lt 1 (char_width c)) text
 
 -- whether the mark of an entry goes past where labels are to end, where they are broken. A mark takes a column at least
 abbrev pub goes_past : Layout → LineAnnotation → Bool
-goes_past layout e =
-    layout.label_lines && (nat_lt 0 layout.label_end && nat_lt layout.label_end (code_cell layout (max (e.start.display + 1) e.end.display)))
+goes_past layout e = breaks_labels layout && nat_lt layout.label_end (code_cell layout (max (e.start.display + 1) e.end.display))
 
 -- the pieces of a label as it stands after its mark, and as it hangs below it; whether nothing may stand right of it in a row; and whether its
 -- mark goes too far for a label left of it to stand in the row of the marks

@@ -52,14 +52,15 @@ crosses e other = do_overlap other 0 e && (has_label other || not (is_same_place
 abbrev pub blocks : PlacedEntry → PlacedEntry → Bool
 blocks e other = (takes_space e && (has_label other || takes_space other)) || (has_label e && takes_space other)
 
--- whether another entry's label, and the two columns after it, would reach into this entry, or nothing may stand right of it, and this entry
--- has a label too, or stands at position 0 and ends no earlier; or it would stand in the row of this entry's mark, which goes past where labels
--- are to end
+-- whether another entry's label, and the two columns after it, would reach into this entry, or nothing may stand right of it; and this entry
+-- has a label too, or stands at position 0 and ends no earlier
+abbrev pub is_near : ℕ → PlacedEntry → PlacedEntry → Bool
+is_near p e other =
+    (other.label.last || do_overlap other (label_width other.label + 2) e) && (has_label e || (p == 0 && ends_no_later other e))
+
+-- whether that is so of an entry with a label; or the label would stand in the row of this entry's mark, which goes past where labels are to end
 abbrev pub reaches : ℕ → PlacedEntry → PlacedEntry → Bool
-reaches p e other =
-    has_label other
-    && (((other.label.last || do_overlap other (label_width other.label + 2) e) && (has_label e || (p == 0 && ends_no_later other e)))
-    || (p == 0 && e.label.past))
+reaches p e other = has_label other && (is_near p e other || (p == 0 && e.label.past))
 
 -- the position of an entry in front of others, where p is the one reached: position 0 isn't taken where a mark stands in
 -- the way

@@ -10,6 +10,7 @@ ghost use Rattle.snippet_style.specs.Bounds.{HasNext, IsCount};
 ghost use Rattle.snippet_text.specs.Normalized.{norm};
 ghost use Rattle.snippet_text.specs.Width.{char_width};
 
+use crate::labelled::breaks_labels;
 use snippet_grid::Layout;
 use snippet_shown::wrapped;
 use snippet_text::{char_width, normalized};
@@ -239,7 +240,7 @@ fn cut_at<'a, 'b>(position: usize, label: &'b CutLabel<'a>) -> &'b CutText<'a>
 fn stands_last(alloc: Global, layout: Layout, text: &str) -> Result<bool, AllocError>
     ensures value { IfOk result (λ last. last ≡ spec.stands_last layout (norm (chars text.now))) }
 {
-    if !layout.label_lines || layout.label_end == 0 {
+    if !breaks_labels(layout) {
         return Ok(false);
     }
     let text = normalized(alloc, text)?;

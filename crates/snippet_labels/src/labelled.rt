@@ -114,7 +114,14 @@ fn goes_past(layout: Layout, entry: &LineAnnotation) -> bool
     ensures value { result ≡ spec.goes_past layout entry.now }
 {
     let end = entry.end.display.max(entry.start.display + 1);
-    layout.label_lines && layout.label_end > 0 && layout.code_cell(end) > layout.label_end
+    breaks_labels(layout) && layout.code_cell(end) > layout.label_end
+}
+
+/// Whether labels are broken.
+pub fn breaks_labels(layout: Layout) -> bool
+    ensures value { result ≡ spec.breaks_labels layout }
+{
+    layout.label_lines && layout.label_end > 0
 }
 
 /// The column at which an entry's label begins that stands after its mark: one after it. A mark that ends at column 0

@@ -8,6 +8,6 @@ mod pairs;
 pub mod positions;
 
 pub use drawn_label::DrawnLabel;
-pub use labelled::{beside_column, shifted};
+pub use labelled::{beside_column, breaks_labels, shifted};
 pub use pairs::overlap;
 pub use positions::{PlacedEntry, are_starts, greatest_position, placed_entries};

@@ -1,6 +1,5 @@
 //! How two entries of a line meet.
-ghost use Rattle.std.specs.Prelude.{◌≡◌, ◌+◌, ◌==◌, ◌&&◌, ◌||◌};
-ghost use Rattle.snippet_labels.specs.Pieces.{label_width};
+ghost use Rattle.std.specs.Prelude.{◌≡◌, ◌+◌, ◌&&◌, ◌||◌};
 ghost use Rattle.snippet_labels.specs.Positions as spec;
 ghost use Rattle.snippet_style.specs.Bounds.{IsColumn, IsUsize};
 
@@ -19,9 +18,8 @@ pub(crate) fn crosses(entry: &PlacedEntry, other: &PlacedEntry) -> bool
 /// earlier. The mark of this entry doesn't go past where labels are to end, or not in the first row.
 pub(crate) fn crowds(position: usize, entry: &PlacedEntry, other: &PlacedEntry) -> bool
     requires columns { IsColumn other.now.entry.end.display }
-    ensures value { result ≡ (spec.blocks entry.now other.now || (spec.has_label other.now
-        && ((other.now.label.last || spec.do_overlap other.now (label_width other.now.label + 2) entry.now)
-        && (spec.has_label entry.now || (position == 0 && spec.ends_no_later other.now entry.now))))) }
+    ensures value { result ≡ (spec.blocks entry.now other.now
+        || (spec.has_label other.now && spec.is_near position entry.now other.now)) }
 {
     blocks(entry, other) || reaches(position, entry, other)
 }
@@ -45,9 +43,7 @@ fn blocks(entry: &PlacedEntry, other: &PlacedEntry) -> bool
 /// first row and ends no earlier. A label right of which nothing may stand reaches all that does.
 fn reaches(position: usize, entry: &PlacedEntry, other: &PlacedEntry) -> bool
     requires columns { IsColumn other.now.entry.end.display }
-    ensures value { result ≡ (spec.has_label other.now
-        && ((other.now.label.last || spec.do_overlap other.now (label_width other.now.label + 2) entry.now)
-        && (spec.has_label entry.now || (position == 0 && spec.ends_no_later other.now entry.now)))) }
+    ensures value { result ≡ (spec.has_label other.now && spec.is_near position entry.now other.now) }
 {
     other.has_label()
         && (other.label.stands_last() || overlap(other, other.label.width() + GAP, entry))

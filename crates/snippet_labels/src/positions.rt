@@ -454,9 +454,8 @@ fn is_crowded_past(entry: &PlacedEntry, others: &[PlacedEntry]) -> bool
 /// The same of one whose mark does not, or that stands in a lower row.
 fn is_crowded_near(position: usize, entry: &PlacedEntry, others: &[PlacedEntry]) -> bool
     requires columns { All (λ e. IsColumn e.entry.end.display) others.now }
-    ensures value { result ≡ list_any (λ other. spec.blocks entry.now other || (spec.has_label other
-        && ((other.label.last || spec.do_overlap other (label_width other.label + 2) entry.now)
-        && (spec.has_label entry.now || (position == 0 && spec.ends_no_later other entry.now))))) others.now }
+    ensures value { result ≡ list_any (λ other. spec.blocks entry.now other
+        || (spec.has_label other && spec.is_near position entry.now other)) others.now }
 {
     others.iter().any(|other| crowds(position, entry, other))
 }

@@ -8,7 +8,8 @@ use Rattle.std.proofs.Math.Bool.{and-false}
 use Rattle.snippet_strokes.specs.Strokes.{line_strokes, stroke_rows}
 use Rattle.snippet_strokes.specs.LineRows.{line_rows, own_rows}
 use Rattle.snippet_labels.specs.Positions.{pieces_of}
-use Rattle.snippet_strokes.specs.Cuts.{breaks_labels, overlapped}
+use Rattle.snippet_labels.specs.Pieces.{breaks_labels}
+use Rattle.snippet_strokes.specs.Cuts.{overlapped}
 use Rattle.snippet_strokes.specs.Squeezed.{squeezed, without_middle}
 use Rattle.snippet_strokes.proofs.SqueezedLemmas.{Line}
 use Rattle.snippet_strokes.proofs.Common.{◌&&◌, ◌||◌, length, list_any, nat_le, nat_lt, range_with_len, sym}

@@ -175,7 +175,7 @@ module _ (layout : Layout) (row : ℕ) (given : List LineAnnotation) (placed ord
         | inr at ↦ absurd (omega (arith, there, at.row))
       ]
     where
-      not_past : (lines : Bool) (end to : ℕ) → lines ≡ true → 0 < end → (lines && (nat_lt 0 end && nat_lt end to)) ≡ false → to ≤ end
+      not_past : (lines : Bool) (end to : ℕ) → lines ≡ true → 0 < end → (lines && nat_lt 0 end && nat_lt end to) ≡ false → to ≤ end
       not_past true end to cut some none = grind (arith, nat_tests, some, none)
       not_past false end to cut some none = cc cut
 

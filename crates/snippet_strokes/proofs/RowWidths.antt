@@ -197,7 +197,7 @@ module _ (layout : Layout) (es : List LineAnnotation) (rows : List (List Cell)) 
       let none = no_wide layout.label_lines layout.label_end (list_any (λ c. nat_lt 1 (char_width c)) text) cut (omega (arith, right)) not_last in
       subst (All (All IsNarrow)) (sym (stand.pieces k d within)) (label_pieces-all IsNarrow layout l.cell text narrow_feed (none_wide text none))
     where
-      no_wide : (lines : Bool) (n : ℕ) (wide : Bool) → lines ≡ true → 0 < n → (lines && (nat_lt 0 n && wide)) ≡ false → wide ≡ false
+      no_wide : (lines : Bool) (n : ℕ) (wide : Bool) → lines ≡ true → 0 < n → (lines && nat_lt 0 n && wide) ≡ false → wide ≡ false
       no_wide true n true is some none = grind (arith, nat_tests, some, none)
       no_wide true n false is some none = refl
       no_wide false n wide is some none = cc is

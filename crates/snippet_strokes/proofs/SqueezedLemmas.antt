@@ -8,7 +8,8 @@ use Rattle.std.specs.Prelude.{◌&&◌, ◌||◌, ◌*◌, nat_le, nat_lt, IfSom
 use Rattle.std.specs.List.{slice_get}
 use native.Mathlib.Nat.{div-add-mod'}
 use Rattle.snippet_text.specs.TextBounds.{TextFits}
-use Rattle.snippet_strokes.specs.Cuts.{breaks_labels, end_columns, middle_replaced}
+use Rattle.snippet_labels.specs.Pieces.{breaks_labels}
+use Rattle.snippet_strokes.specs.Cuts.{end_columns, middle_replaced}
 use Rattle.snippet_strokes.specs.Drawable.{HasBarCell}
 use Rattle.snippet_strokes.specs.Squeezed.{gives_way, is_clear_of, is_even, is_squeezed, past_middle, squeezed, without_middle}
 use Rattle.snippet_strokes.proofs.CutLemmas.{IsCut-more, IsCut-none, IsCut-replaced, cells_replaced_here}

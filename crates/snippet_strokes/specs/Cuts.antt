@@ -11,11 +11,8 @@ use Rattle.snippet_parts.specs.declared.entries.LineAnnotation.{LineAnnotation}
 use Rattle.snippet_parts.specs.Entries.{is_wide_entry}
 use Rattle.snippet_grid.specs.Layout.{Layout, code_cell}
 use Rattle.snippet_labels.specs.declared.positions.PlacedEntry.{PlacedEntry}
+use Rattle.snippet_labels.specs.Pieces.{breaks_labels}
 use Rattle.snippet_labels.specs.Positions.{do_overlap, pieces_of}
-
--- whether labels are broken
-abbrev pub breaks_labels : Layout → Bool
-breaks_labels layout = layout.label_lines && nat_lt 0 layout.label_end
 
 -- ---- which entries are overlapped: the original's rule
 

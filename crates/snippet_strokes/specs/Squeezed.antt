@@ -9,7 +9,8 @@ use Rattle.snippet_style.specs.Glyphs.{placeholder_of}
 use Rattle.snippet_grid.specs.Layout.{Layout}
 use Rattle.snippet_parts.specs.declared.entries.LineAnnotation.{LineAnnotation}
 use Rattle.snippet_parts.specs.Entries.{is_wide_entry}
-use Rattle.snippet_strokes.specs.Cuts.{breaks_labels, end_columns, middle_replaced}
+use Rattle.snippet_labels.specs.Pieces.{breaks_labels}
+use Rattle.snippet_strokes.specs.Cuts.{end_columns, middle_replaced}
 
 -- whether neither the first nor the last column of an entry lies in the middle of another
 abbrev pub is_clear_of : ℕ → LineAnnotation → LineAnnotation → Bool

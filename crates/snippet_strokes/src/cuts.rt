@@ -11,14 +11,14 @@ ghost use Rattle.snippet_style.specs.declared.role.ElementStyle.TheVariants.{Lin
 ghost use Rattle.snippet_strokes.specs.Cuts as rule;
 ghost use Rattle.snippet_strokes.specs.LookedCuts as spec;
 ghost use Rattle.snippet_strokes.specs.LookedCuts.{is_wide_at};
+ghost use Rattle.snippet_labels.specs.Pieces.{breaks_labels};
 ghost use Rattle.snippet_labels.specs.Placing.{HasPlace};
 ghost use Rattle.snippet_grid.specs.Calls.{cells_replaced};
 ghost use Rattle.snippet_labels.specs.Positions.{do_overlap, pieces_of};
 ghost use Rattle.snippet_style.specs.Bounds.{AreRows, HasNext, IsCount};
 
-use crate::squeezed::breaks_labels;
 use snippet_grid::{Layout, StyledBuffer};
-use snippet_labels::{PlacedEntry, overlap};
+use snippet_labels::{PlacedEntry, breaks_labels, overlap};
 use snippet_parts::{LineAnnotation, LineAnnotationType};
 use snippet_style::{DecorStyle, char_count};
 use std::alloc::{AllocError, Global};
@@ -176,7 +176,7 @@ pub(crate) fn with_blocks(
 
 /// Whether an entry isn't cut any more: labels are broken, or a block stands beside it.
 fn stays_whole(layout: Layout, entry: &PlacedEntry, placed: &[PlacedEntry]) -> bool
-    ensures value { result ≡ (rule.breaks_labels layout || list_any (λ f. f.position == 0
+    ensures value { result ≡ (breaks_labels layout || list_any (λ f. f.position == 0
         && (nat_le entry.now.entry.start.display f.entry.start.display && nat_lt 1 (length (pieces_of f))))
         placed.now) }
 {

@@ -6,9 +6,9 @@ ghost use Rattle.snippet_style.specs.Cell.{Cell};
 ghost use Rattle.snippet_style.specs.Glyphs.{placeholder_of};
 ghost use Rattle.snippet_parts.specs.Entries.{is_wide_entry};
 ghost use Rattle.snippet_style.specs.Bounds.{IsColumn};
+ghost use Rattle.snippet_labels.specs.Pieces.{breaks_labels};
 ghost use Rattle.snippet_labels.specs.Placing.{HasPlace};
 ghost use Rattle.snippet_labels.specs.PlacedEntries.{shifted};
-ghost use Rattle.snippet_strokes.specs.Cuts as rule;
 ghost use Rattle.snippet_strokes.specs.Drawable.{AreDrawable};
 ghost use Rattle.snippet_strokes.specs.Squeezed as spec;
 
@@ -18,13 +18,6 @@ use snippet_labels::shifted;
 use snippet_parts::LineAnnotation;
 use snippet_style::{DecorStyle, char_count};
 use std::alloc::{AllocError, Global};
-
-/// Whether labels are broken.
-pub(crate) fn breaks_labels(layout: Layout) -> bool
-    ensures value { result ≡ rule.breaks_labels layout }
-{
-    layout.label_lines && layout.label_end > 0
-}
 
 /// The entries of a line, as far left as these many of its columns are dropped, where the middles of those that give
 /// way are cut out of the line. The placeholder is put in their place in its source row, which is the last row.
@@ -45,7 +38,7 @@ pub(crate) fn squeezed_line<'a>(
     dropped: usize,
     entries: &[LineAnnotation<'a>],
 ) -> Result<Vec<LineAnnotation<'a>>, AllocError>
-    requires broken { rule.breaks_labels layout ≡ true }
+    requires broken { breaks_labels layout ≡ true }
     requires last { length buffer.old ≡ row + 1 }
     requires entries { AreDrawable layout entries.now }
     ensures drawable { IfOk result (λ line. AreDrawable layout line.items) }

@@ -1,6 +1,6 @@
-use Rattle.snippet_labels.proofs.Common.{◌≡◌, ◌∙◌, ◌+◌, ◌==◌, ◌&&◌, ◌||◌, ℕ, Bool, true, false, List, [], ◌∷◌, PlacedEntry, ap, refl, sym, list_any}
-use Rattle.snippet_labels.proofs.Common.{arith, blocks, has_label, reaches, label_width, nat_tests}
-use Rattle.snippet_labels.specs.Positions.{do_overlap, ends_no_later}
+use Rattle.snippet_labels.proofs.Common.{◌≡◌, ◌∙◌, ◌==◌, ◌&&◌, ◌||◌, ℕ, Bool, true, false, List, [], ◌∷◌, PlacedEntry, ap, refl, sym, list_any}
+use Rattle.snippet_labels.proofs.Common.{arith, blocks, has_label, reaches, nat_tests}
+use Rattle.snippet_labels.specs.Positions.{is_near}
 use Rattle.snippet_labels.proofs.positions.is_crowded.Goals as goal
 use Rattle.snippet_labels.proofs.positions.is_crowded.Goals.{else-position-eq0-via-else-position-eq0}
 use Rattle.snippet_labels.proofs.positions.is_crowded.Goals.{else-position-eq0-via-then-position-eq0+else-has_mark_past}
@@ -9,11 +9,6 @@ use Rattle.snippet_labels.proofs.positions.is_crowded.Goals.{else-position-eq0-v
 any_alike : {X : Type 0} (f g : X → Bool) (xs : List X) → ((x : X) → f x ≡ g x) → list_any f xs ≡ list_any g xs
 any_alike f g [] same = refl
 any_alike f g (x ∷ xs) same = ap (λ b. b || list_any f xs) (same x) ∙ ap (λ b. g x || b) (any_alike f g xs same)
-
--- whether the label of another reaches into an entry whose mark doesn't go too far
-abbrev is_near : ℕ → PlacedEntry → PlacedEntry → Bool
-is_near p e other =
-    (other.label.last || do_overlap other (label_width other.label + 2) e) && (has_label e || (p == 0 && ends_no_later other e))
 
 -- where it does, in the first row, each label is crowded
 past_crowds : (p : ℕ) (e other : PlacedEntry) → (p == 0 && e.label.past) ≡ true → (blocks e other || has_label other) ≡ (blocks e other || reaches p e other)

@@ -3,7 +3,7 @@ use Rattle.snippet_strokes.proofs.Common.{ap, sym, refl, arith, drop, take, set,
 use Rattle.snippet_strokes.proofs.Common.{get_or-drop, take_all}
 use Rattle.snippet_labels.specs.Positions.{pieces_of}
 use Rattle.snippet_strokes.proofs.Common.{Layout}
-use Rattle.snippet_strokes.specs.Cuts.{breaks_labels}
+use Rattle.snippet_labels.specs.Pieces.{breaks_labels}
 use Rattle.std.proofs.lemmas.List.{drop-set-lt, length-set, take_more, take_more_set}
 use Rattle.std.proofs.lemmas.Grind.{drop_more_same}
 use Rattle.std.proofs.lemmas.Slice.Zip.{get_or-zip, length-zip}
