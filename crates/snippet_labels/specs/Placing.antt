@@ -31,6 +31,10 @@ abbrev pub label_reach : PlacedEntry → ℕ
 label_reach e =
     if has_label e then e.entry.end.display + (label_width e.label + 2) else e.entry.end.display
 
+-- others may stand in the row of an entry: right of its label, and left of its mark
+abbrev pub SharesRow : PlacedEntry → Type 0
+SharesRow e = (e.label.last ≡ false) × (e.label.past ≡ false)
+
 -- an entry begins before a column, and ends before it with its label, right of which others may stand, as left of its mark; no line leads from
 -- it to a bar
 pub record FitsLeftOf (column : ℕ) (e : PlacedEntry) : Type 0 where

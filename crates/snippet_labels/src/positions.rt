@@ -1,15 +1,15 @@
 //! Where the labels of a line stand: how far below the row of its marks each hangs.
-ghost use Rattle.std.specs.Prelude.{◌≡◌, ◌+◌, ◌-◌, ◌^◌, ◌<◌, ◌≤◌, ◌==◌, ◌&&◌, ◌||◌, true, All, IfOk, IfSome, drop};
+ghost use Rattle.std.specs.Prelude.{◌≡◌, ◌+◌, ◌-◌, ◌^◌, ◌<◌, ◌≤◌, ◌&&◌, ◌||◌, false, true, All, IfOk, IfSome, drop};
 ghost use Rattle.std.specs.Prelude.{length, slice_index_or};
 ghost use Rattle.std.specs.Prelude.{map, max, not, reverse, IsPermutation, OnOk};
 ghost use Rattle.snippet_lines.specs.OrderedBy.{ordered_by};
-ghost use Rattle.std.specs.List.{list_any, position};
+ghost use Rattle.std.specs.List.{list_all, list_any, position};
 ghost use Rattle.snippet_labels.specs.Pieces.{label_width};
 ghost use Rattle.snippet_labels.specs.Positions as spec;
 ghost use Rattle.snippet_labels.specs.declared.positions.PlacedEntry.{PlacedEntry};
 ghost use Rattle.snippet_labels.specs.Placing as placing;
 ghost use Rattle.snippet_labels.specs.Placing.{ArePlaced, AsksBefore, BeginLeftOf, FitsLeftOf, HasPlace};
-ghost use Rattle.snippet_labels.specs.Placing.{IsFromRight, StandInRow};
+ghost use Rattle.snippet_labels.specs.Placing.{IsFromRight, SharesRow, StandInRow};
 ghost use Rattle.snippet_labels.specs.PlacedEntries.{shifted};
 ghost use Rattle.snippet_parts.specs.Least.{greatest};
 ghost use Rattle.snippet_style.specs.Bounds.{IsColumn, IsRowNumber};
@@ -106,7 +106,7 @@ pub fn placed_entries<'a>(
     ensures low { IfOk result (λ placed. All (λ e. IsRowNumber e.position) placed.items) }
 {
     let mut placed = labelled_entries(alloc, dropped, layout, entries)?;
-    if stand_in_row(&placed) {
+    if stand_in_row(layout.label_lines, &placed) {
         return Ok(placed);
     }
     sort_from_right(&mut placed)?;
@@ -149,14 +149,32 @@ fn begin_apart(entries: &[PlacedEntry]) -> bool
 }
 
 /// Whether entries, which are given from right to left, need one row for their marks and labels: each ends, with its
-/// label after its mark, before the one right of it begins.
+/// label after its mark, before the one right of it begins, and others may stand in its row. Where labels aren't cut
+/// they may.
 ///
 /// ```text
 ///       | ^^^^ a  -- b   ^ c
 /// ```
-fn stand_in_row(entries: &[PlacedEntry]) -> bool
+fn stand_in_row(cuts: bool, entries: &[PlacedEntry]) -> bool
     requires columns { All (λ e. IsColumn e.entry.end.display) entries.now }
+    requires whole { cuts ≡ false → All SharesRow entries.now }
     ensures yes { result ≡ true → StandInRow (2 ^ 64 - 1) entries.now }
+{
+    (!cuts || share_rows(entries)) && fit_in_row(entries)
+}
+
+/// Whether others may stand in the rows of all of these entries.
+fn share_rows(entries: &[PlacedEntry]) -> bool
+    ensures value { result ≡ list_all (λ e. not (e.label.last || e.label.past)) entries.now }
+{
+    entries.iter().all(|entry| entry.label.shares_row())
+}
+
+/// Whether each of some entries, from right to left, ends before the one right of it begins. If others may stand in
+/// their rows, they need one.
+fn fit_in_row(entries: &[PlacedEntry]) -> bool
+    requires columns { All (λ e. IsColumn e.entry.end.display) entries.now }
+    ensures yes { result ≡ true → All SharesRow entries.now → StandInRow (2 ^ 64 - 1) entries.now }
 {
     let mut free = usize::MAX;
     for entry in entries {
@@ -168,16 +186,13 @@ fn stand_in_row(entries: &[PlacedEntry]) -> bool
     true
 }
 
-/// Whether an entry begins before this column, and ends before it with its label after its mark, right of which others
-/// may stand, as left of the mark. Starts and ends of spans of several lines do not.
+/// Whether an entry begins before this column, and ends before it with its label after its mark. Starts and ends of
+/// spans of several lines do not.
 fn fits_left_of(column: usize, placed: &PlacedEntry) -> bool
     requires columns { IsColumn placed.now.entry.end.display }
-    ensures yes { result ≡ true → FitsLeftOf column placed.now }
+    ensures yes { result ≡ true → SharesRow placed.now → FitsLeftOf column placed.now }
 {
-    !placed.takes_space()
-        && placed.label.shares_row()
-        && placed.entry.start.display < column
-        && label_reach(placed) <= column
+    !placed.takes_space() && placed.entry.start.display < column && label_reach(placed) <= column
 }
 
 /// The column before which an entry ends: its mark, or its label after this and the columns that stand free after it.

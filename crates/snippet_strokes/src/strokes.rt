@@ -140,7 +140,7 @@ fn draw_squeezed(
 /// # Errors
 ///
 /// There is no memory for the rows, the labels or the list of entries.
-#[inline]
+#[inline(always)]
 fn draw_placed(
     buffer: &mut StyledBuffer,
     layout: Layout,

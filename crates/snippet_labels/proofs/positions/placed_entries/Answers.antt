@@ -3,7 +3,24 @@ use Rattle.snippet_labels.proofs.Common.{IsPermutation, All-permutation, IsPermu
 use Rattle.snippet_labels.proofs.Common.{line_positions, look_counts, ArePlaced, HasItsLabel, StandInRow, unplaced, length-map, reverse-reverse}
 use Rattle.snippet_labels.proofs.PlacedLemmas.{entries_all, written_back, ArePlaced-from, shifted_narrow}
 use Rattle.snippet_labels.proofs.RowLemmas.{ArePlaced-row, map-reverse}
+use Rattle.snippet_labels.proofs.Common.{Layout, false}
+use Rattle.snippet_labels.specs.Placing.{SharesRow}
+use Rattle.snippet_labels.specs.Pieces.{LabelPieces}
+use Rattle.snippet_text.specs.Normalized.{normalized_chars}
+use Rattle.std.specs.Prelude.{◌&&◌, nat_lt, max, ◌+◌}
+use Rattle.std.specs.List.{list_any}
+use Rattle.snippet_text.specs.Width.{char_width}
+use Rattle.snippet_grid.specs.Layout.{code_cell}
 use Rattle.snippet_labels.proofs.positions.placed_entries.Goals as goal
+
+-- where labels aren't cut others may stand in the row of each entry
+shares_whole : (layout : Layout) → layout.label_lines ≡ false → (e : PlacedEntry) → HasItsLabel layout e → SharesRow e
+shares_whole layout uncut e its =
+    let text : List ℕ = normalized_chars e.entry.label in
+    let end : ℕ = code_cell layout (max (e.entry.start.display + 1) e.entry.end.display) in (
+      ap (λ (l : LabelPieces). l.last) its ∙ ap (λ b. b && nat_lt 0 layout.label_end && list_any (λ c. nat_lt 1 (char_width c)) text) uncut,
+      ap (λ (l : LabelPieces). l.past) its ∙ ap (λ b. b && nat_lt 0 layout.label_end && nat_lt layout.label_end end) uncut,
+    )
 
 -- entries that are listed from the last to the first, and turned round, are those that are given
 turned : (es : List LineAnnotation) (listed : List PlacedEntry) → map (λ (e : PlacedEntry). e.entry) listed ≡ reverse es
@@ -18,6 +35,9 @@ stand_in_row-requires c =
       columns = subst (λ (ps : List PlacedEntry). All (λ (e : PlacedEntry). Q e.entry) ps) (sym c.deref.ensures.value)
           (entries_all Q es c.in_ok-placed.placed.items (subst (IsPermutation es) (sym c.in_ok-placed.ensures.entries) (IsPermutation-reverse es))
           (shifted_narrow c.args.dropped c.args.entries.now (λ k d within. (c.requires.places k d within).near)));
+      whole = λ uncut. subst (All SharesRow) (sym c.deref.ensures.value) (λ k d within.
+          let cut : c.args.layout.label_lines ≡ false = ap (λ (l : Layout). l.label_lines) (sym c.layout.view_is) ∙ uncut in
+          shares_whole c.args.layout cut (get_or c.in_ok-placed.placed.items k d) (c.in_ok-placed.ensures.labels k d within));
     }
 
 pub returns-then-stand_in_row : goal.returns-then-stand_in_row
