@@ -14,7 +14,7 @@ use Rattle.snippet_strokes.specs.Drawable.{HasBarCell}
 use Rattle.snippet_strokes.specs.Squeezed.{gives_way, is_clear_of, is_even, is_squeezed, past_middle, squeezed, without_middle}
 use Rattle.snippet_strokes.proofs.CutLemmas.{IsCut-more, IsCut-none, IsCut-replaced, cells_replaced_here}
 use Rattle.snippet_strokes.proofs.Common.{◌++◌, LineNumber, cells_replaced, code_cell, length_push, map-id, map-range_with_len_more, text_cells}
-use Rattle.snippet_strokes.proofs.Common.{and-false, false≢true, shifted}
+use Rattle.snippet_strokes.proofs.Common.{and-false, false≢true, shifted, take, take_all, take_more}
 use Rattle.snippet_strokes.proofs.SeenRows.{IsCut, wide_entries}
 
 -- ---- columns
@@ -377,3 +377,44 @@ shifted_none (e ∷ es) = ap (λ x. x ∷ map (shifted 0) es) (one e) ∙ ap (λ
         let end : f.end.display - 0 ≡ f.end.display = omega arith in
         ap (λ n. record f { start = record f.start { display = n }; end = record f.end { display = f.end.display - 0 } }) start
         ∙ ap (λ n. record f { end = record f.end { display = n } }) end
+
+-- ---- entries alone
+
+module _ (layout : Layout) (room : ℕ) where
+  -- what becomes of entries doesn't depend on the row
+  abbrev entries_without : List LineAnnotation → ℕ → List LineAnnotation
+  entries_without es k =
+      option_map_or (λ e. if gives_way layout.decor room es e then map (past_middle layout.decor room e) es else es) (slice_get es k) es
+
+  step_entries : (line : Line) (k : ℕ) → (without_middle layout room line k).0 ≡ entries_without line.0 k
+  step_entries line k = by_entry (slice_get line.0 k)
+    where
+      by_entry : (found : Option LineAnnotation)
+          → (option_map_or (λ e. if gives layout room line e then cut_out layout room line e else line) found line).0
+          ≡ option_map_or (λ e. if gives_way layout.decor room line.0 e then map (past_middle layout.decor room e) line.0 else line.0) found line.0
+      by_entry None = refl
+      by_entry (Some e) = by_test (gives layout room line e)
+        where
+          by_test : (b : Bool) → (cond b (cut_out layout room line e) line).0 ≡ cond b (map (past_middle layout.decor room e) line.0) line.0
+          by_test true = refl
+          by_test false = refl
+
+  fold_entries : (ks : List ℕ) (line : Line) → (fold (without_middle layout room) line ks).0 ≡ fold entries_without line.0 ks
+  fold_entries [] line = refl
+  fold_entries (k ∷ ks) line =
+      fold_entries ks (without_middle layout room line k) ∙ ap (λ es. fold entries_without es ks) (step_entries line k)
+
+  pub squeezed_entries : (es : List LineAnnotation) (a b : List Cell) → (squeezed layout room (es, a)).0 ≡ (squeezed layout room (es, b)).0
+  squeezed_entries es a b = by_labels (breaks_labels layout)
+    where
+      ks : List ℕ
+      ks = range_with_len 0 (length es)
+
+      by_labels : (b_is : Bool) → (cond b_is (fold (without_middle layout room) (es, a) ks) (es, a)).0
+          ≡ (cond b_is (fold (without_middle layout room) (es, b) ks) (es, b)).0
+      by_labels true = fold_entries ks (es, a) ∙ sym (fold_entries ks (es, b))
+      by_labels false = refl
+
+-- rows of which one is the last
+pub last_of : (rows : List (List Cell)) (n : ℕ) → length rows ≡ n + 1 → rows ≡ take n rows ++ get_or rows n [] ∷ []
+last_of rows n last = sym (take_all (n + 1) rows (omega (arith, last))) ∙ take_more rows n [] (omega (arith, last))

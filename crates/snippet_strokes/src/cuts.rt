@@ -157,7 +157,6 @@ fn is_met(k: usize, entry: &PlacedEntry, placed: &[PlacedEntry], ends: &[usize])
 ///       |     ^^^^^^^^^^^^^ a       were the mark cut, `a` would move, and `b` would not
 ///       |                   b
 /// ```
-#[inline(always)]
 pub(crate) fn with_blocks(
     mut overlapped: Vec<bool>,
     layout: Layout,
@@ -208,7 +207,6 @@ fn has_block_beside(entry: &PlacedEntry, placed: &[PlacedEntry]) -> bool
 /// # Errors
 ///
 /// There is no memory for a row.
-#[inline(always)]
 pub(crate) fn cut_wide(
     buffer: &mut StyledBuffer,
     layout: Layout,

@@ -1,9 +1,9 @@
 //! All that stands below the source row of a line, and the bars beside it of spans that begin or end there.
-ghost use Rattle.std.specs.Prelude.{◌≡◌, ◌+◌, ◌<◌, ◌++◌, ◌∷◌, [], ℕ, if◌then◌else◌, All, List, OnOk};
+ghost use Rattle.std.specs.Prelude.{◌≡◌, ◌+◌, ◌<◌, ◌++◌, ◌∷◌, [], ℕ, if◌then◌else◌, All, IfOk, List, OnOk};
 ghost use Rattle.std.specs.Prelude.{◌-◌, false, length, map, replicate, true};
 ghost use Rattle.std.specs.List.{list_any};
 ghost use Rattle.snippet_labels.specs.PlacedEntries.{shifted};
-ghost use Rattle.snippet_labels.specs.Placing.{HasPlace};
+ghost use Rattle.snippet_labels.specs.Placing.{ArePlaced, HasPlace};
 ghost use Rattle.snippet_parts.specs.Entries.{is_wide_entry};
 ghost use Rattle.snippet_style.specs.Glyphs.{placeholder_of};
 ghost use Rattle.snippet_labels.specs.Pieces.{breaks_labels};
@@ -15,7 +15,7 @@ ghost use Rattle.snippet_labels.specs.Positions.{pieces_of};
 ghost use Rattle.snippet_strokes.specs.Drawing as spec;
 ghost use Rattle.snippet_strokes.specs.Places.{AreEnough, HasRows};
 ghost use Rattle.snippet_strokes.specs.SourceRows.{bare_row};
-ghost use Rattle.snippet_strokes.specs.Strokes.{line_strokes, stroke_rows};
+ghost use Rattle.snippet_strokes.specs.Strokes.{line_strokes};
 ghost use Rattle.snippet_strokes.specs.PaintedStrokes.{strokes_under_marks};
 ghost use Rattle.snippet_strokes.specs.DrawnBars.{is_whole_line};
 ghost use Rattle.snippet_strokes.specs.Painting.{painting_order};
@@ -86,10 +86,42 @@ pub(crate) fn draw_strokes(
     if entries.is_empty() {
         return close_below(buffer, layout, place.closes);
     }
+    let alloc = buffer.allocator();
+    let mut placed = placed_line(buffer, layout, place, entries)?;
+    let overlapped = overlapping(alloc, layout.decor, place.room, &placed)?;
+    let count = row_count(layout, &placed);
+    draw_rows(buffer, layout, place, count, &mut placed)?;
+    let kept = with_blocks(overlapped, layout, &placed);
+    cut_wide(buffer, layout, place.row, place.room, &placed, &kept)
+}
+
+/// The entries of a line in their places. Where labels are broken the middles of wide spans are cut out of its source
+/// row first, which is the last one.
+///
+/// # Errors
+///
+/// There is no memory for the row, the labels or the lists of entries.
+#[inline(always)]
+fn placed_line<'a>(
+    buffer: &mut StyledBuffer,
+    layout: Layout,
+    place: StrokePlace,
+    entries: &[LineAnnotation<'a>],
+) -> Result<Vec<PlacedEntry<'a>>, AllocError>
+    requires last { length buffer.old ≡ place.row + 1 }
+    requires entries { AreDrawable layout entries.now }
+    ensures placed { IfOk result (λ placed. ArePlaced layout
+        (squeezed layout place.room (map (shifted place.dropped) entries.now, [])).0 placed.items) }
+    ensures low { IfOk result (λ placed. All (λ e. IsRowNumber e.position) placed.items) }
+    ensures last { OnOk result (length buffer.new ≡ place.row + 1) }
+    ensures row { OnOk result ((above : List (List Cell)) (source : List Cell) → buffer.old ≡ above ++ source ∷ []
+        → buffer.new ≡ above
+        ++ (squeezed layout place.room (map (shifted place.dropped) entries.now, source)).1 ∷ []) }
+{
     if breaks_labels(layout) && has_wide_entry(place.room, layout.decor, entries) {
-        return draw_squeezed(buffer, layout, place, entries);
+        return placed_squeezed(buffer, layout, place, entries);
     }
-    draw_placed(buffer, layout, place, entries)
+    placed_entries(buffer.allocator(), place.dropped, layout, entries)
 }
 
 /// Whether one of these entries is wide, in a room of this many columns.
@@ -100,25 +132,28 @@ fn has_wide_entry(room: usize, decor: DecorStyle, entries: &[LineAnnotation]) ->
     entries.iter().any(|entry| is_wide(room, decor, entry))
 }
 
-/// Does the same of a line with entries, from which the middles of wide spans are cut out first.
+/// The same where labels are broken.
 ///
 /// # Errors
 ///
-/// There is no memory for the rows, the labels or the lists of entries.
+/// There is no memory for the row, the labels or the lists of entries.
 #[inline(never)]
-fn draw_squeezed(
+fn placed_squeezed<'a>(
     buffer: &mut StyledBuffer,
     layout: Layout,
     place: StrokePlace,
-    entries: &[LineAnnotation],
-) -> Result<(), AllocError>
+    entries: &[LineAnnotation<'a>],
+) -> Result<Vec<PlacedEntry<'a>>, AllocError>
     requires broken { breaks_labels layout ≡ true }
-    requires some { 0 < length entries.now }
     requires last { length buffer.old ≡ place.row + 1 }
     requires entries { AreDrawable layout entries.now }
-    ensures value { OnOk result ((above : List (List Cell)) (source : List Cell) → buffer.old ≡ above ++ source ∷ []
-        → let line = squeezed layout place.room (map (shifted place.dropped) entries.now, source) in
-        buffer.new ≡ above ++ stroke_rows layout place.room place.closes line.0 line.1) }
+    ensures placed { IfOk result (λ placed. ArePlaced layout
+        (squeezed layout place.room (map (shifted place.dropped) entries.now, [])).0 placed.items) }
+    ensures low { IfOk result (λ placed. All (λ e. IsRowNumber e.position) placed.items) }
+    ensures last { OnOk result (length buffer.new ≡ place.row + 1) }
+    ensures row { OnOk result ((above : List (List Cell)) (source : List Cell) → buffer.old ≡ above ++ source ∷ []
+        → buffer.new ≡ above
+        ++ (squeezed layout place.room (map (shifted place.dropped) entries.now, source)).1 ∷ []) }
 {
     let line = squeezed_line(
         buffer,
@@ -128,39 +163,7 @@ fn draw_squeezed(
         place.dropped,
         entries,
     )?;
-    let place = StrokePlace {
-        dropped: 0,
-        ..place
-    };
-    draw_placed(buffer, layout, place, &line)
-}
-
-/// Does the same of a line with entries, as they stand.
-///
-/// # Errors
-///
-/// There is no memory for the rows, the labels or the list of entries.
-#[inline(always)]
-fn draw_placed(
-    buffer: &mut StyledBuffer,
-    layout: Layout,
-    place: StrokePlace,
-    entries: &[LineAnnotation],
-) -> Result<(), AllocError>
-    requires some { 0 < length entries.now }
-    requires last { length buffer.old ≡ place.row + 1 }
-    requires entries { AreDrawable layout entries.now }
-    ensures value { OnOk result ((above : List (List Cell)) (source : List Cell) → buffer.old ≡ above ++ source ∷ []
-        → buffer.new ≡ above ++ stroke_rows layout place.room place.closes (map (shifted place.dropped) entries.now)
-        source) }
-{
-    let alloc = buffer.allocator();
-    let mut placed = placed_entries(alloc, place.dropped, layout, entries)?;
-    let overlapped = overlapping(alloc, layout.decor, place.room, &placed)?;
-    let count = row_count(layout, &placed);
-    draw_rows(buffer, layout, place, count, &mut placed)?;
-    let kept = with_blocks(overlapped, layout, &placed);
-    cut_wide(buffer, layout, place.row, place.room, &placed, &kept)
+    placed_entries(buffer.allocator(), 0, layout, &line)
 }
 
 /// Begins so many rows for the strokes of a line below its source row, which is the last one, and draws the strokes.
