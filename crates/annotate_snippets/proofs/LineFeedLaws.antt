@@ -32,7 +32,7 @@ use Rattle.snippet_model.proofs.RowLemmas.{each_fails}
 use Rattle.annotate_snippets.proofs.LabelLemmas.{tail_same}
 use Rattle.annotate_snippets.proofs.PathFeedLaws.{alone, cells_plain, norm-plain}
 use Rattle.annotate_snippets.proofs.SourceFeedLaws.{placeholder_plain, source_one_line}
-use Rattle.snippet_strokes.specs.Squeezed.{squeezed}
+use Rattle.snippet_strokes.specs.Squeezed.{middles_replaced, squeezed}
 use Rattle.snippet_strokes.proofs.SqueezedLemmas.{Line, each_squeezed}
 
 -- ---- lines of a source
@@ -195,9 +195,9 @@ module _ (layout : Layout) (room : ℕ) (closes : Bool) where
             let strokes = are.strokes other (omega arith) in
             let cuts : List Stretch = cuts_of layout room (painting_order strokes.placed)
             (with_blocks layout (painting_order strokes.placed) (overlapped strokes.placed)) in
-            let whole : Line = (map (shifted dropped) (e ∷ es), source) in
+            let whole : List LineAnnotation = map (shifted dropped) (e ∷ es) in
             let line : Line = squeezed layout room whole in
-            let drawn : All HasNoFeed (strokes.marks ∷ strokes.lower) = drawn_plain line.0 line.1 (row ∷ below) strokes
+            let drawn : All HasNoFeed (strokes.marks ∷ strokes.lower) = drawn_plain line.0 (middles_replaced layout room line.1 source) (row ∷ below) strokes
             (λ uncut. each_squeezed layout room (λ x. All IsNoFeed (label_text x)) (λ x y own. own) whole
             (All-map (λ x. All IsNoFeed (label_text x)) (shifted dropped) (e ∷ es) (plain uncut))) in
             let marks : List Cell = cut_row layout.decor cuts strokes.marks in

@@ -5,8 +5,8 @@ use Rattle.annotate_snippets.proofs.Common.{Cell, SPACE, slice_index_or-written_
 use Rattle.annotate_snippets.proofs.Common.{positions, PlacedEntry, Bar, ends_of_bars, is_whole_line, bar_beside, Other, row_count, line_rows, own_rows}
 use Rattle.annotate_snippets.proofs.Common.{stroke_rows, line_positions_low, positions_sole, placed_at, are_starts, max, placed_of-at, stroke_rows-count}
 use Rattle.std.specs.Prelude.{◌&&◌, nat_lt}
-use Rattle.snippet_strokes.specs.Squeezed.{squeezed}
-use Rattle.snippet_strokes.proofs.SqueezedLemmas.{Line, squeezed_same, unbroken_whole}
+use Rattle.snippet_strokes.specs.Squeezed.{middles_replaced, squeezed}
+use Rattle.snippet_strokes.proofs.SqueezedLemmas.{Line, unbroken_same}
 
 -- one entry whose label is not cut asks for one
 lone_count : (layout : Layout) (e : LineAnnotation) → row_count (placed_of (record layout { label_lines = false }) (e ∷ [])) ≡ 1
@@ -55,8 +55,9 @@ module _ (layout : Layout) (room : ℕ) (closes : Bool) (text : List ℕ) (dropp
   own_some : (es : List LineAnnotation) → 0 < length (own_rows layout room closes text dropped es source)
   own_some [] = omega arith
   own_some (e ∷ es) =
-      let line : Line = squeezed layout room (map (shifted dropped) (e ∷ es), source) in
-      some_either (is_whole_line text (e ∷ es)) _ (stroke_rows layout room closes line.0 line.1) _ (stroke_rows-count layout room closes line.0 line.1)
+      let line : Line = squeezed layout room (map (shifted dropped) (e ∷ es)) in
+      let now : List Cell = middles_replaced layout room line.1 source in
+      some_either (is_whole_line text (e ∷ es)) _ (stroke_rows layout room closes line.0 now) _ (stroke_rows-count layout room closes line.0 now)
 
   -- a line has a row at least
   pub line_rows-some : (open_bars : List Bar) (es : List LineAnnotation) → 0 < length (line_rows layout room closes text dropped open_bars es source)
@@ -68,16 +69,14 @@ module _ (layout : Layout) (room : ℕ) (closes : Bool) (text : List ℕ) (dropp
   lone_line_rows uncut open_bars [] one = absurd (omega (arith, one))
   lone_line_rows uncut open_bars (e ∷ f ∷ es) one = absurd (omega (arith, one))
   lone_line_rows uncut open_bars (e ∷ []) one =
-      let whole : Line = (shifted dropped e ∷ [], source) in
-      let line : Line = squeezed layout room whole in
-      let strokes : List (List Cell) = stroke_rows layout room closes line.0 line.1 in
-      let same_line : line ≡ whole = squeezed_same layout room whole
-      (unbroken_whole layout room (shifted dropped e ∷ []) (ap (λ b. b && nat_lt 0 layout.label_end) uncut)) in
+      let rows_of : Line → List (List Cell) = λ line. stroke_rows layout room closes line.0 (middles_replaced layout room line.1 source) in
+      let strokes : List (List Cell) = rows_of (squeezed layout room (shifted dropped e ∷ [])) in
+      let same_line = unbroken_same layout room (shifted dropped e ∷ []) (ap (λ b. b && nat_lt 0 layout.label_end) uncut) in
       let count : row_count (placed_of layout (shifted dropped e ∷ [])) ≡ 1 =
       ap (λ cut. row_count (placed_of (record layout { label_lines = cut }) (shifted dropped e ∷ []))) uncut ∙ lone_count layout (shifted dropped e) in
       let two : length strokes ≡ 2 = omega (
         arith,
-        ap (λ (l : Line). length (stroke_rows layout room closes l.0 l.1)) same_line,
+        ap (λ (l : Line). length (rows_of l)) same_line,
         stroke_rows-count layout room closes (shifted dropped e ∷ []) source,
         count,
       ) in

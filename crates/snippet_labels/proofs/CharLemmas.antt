@@ -20,8 +20,3 @@ is_empty-chars bytes utf8 =
   where
     above : (n : ℕ) → 0 < n → (n == 0) ≡ false
     above n some = grind (arith, nat_tests)
-
--- the bytes of a text are those of its characters
-pub bytes_of_chars : (bytes text cs : List ℕ) → IsUtf8 text → text ≡ bytes → chars bytes ≡ cs → bytes ≡ encode_utf8_all cs
-bytes_of_chars bytes text cs utf8 is shows =
-    sym is ∙ sym (encodes-chars text utf8) ∙ ap (λ t. encode_utf8_all (chars t)) is ∙ ap encode_utf8_all shows

@@ -95,6 +95,7 @@ impl<'a> PlacedEntry<'a> {
 /// # Errors
 ///
 /// There is no memory for the list or a label, nor could there be for so many rows.
+#[inline(always)]
 pub fn placed_entries<'a>(
     alloc: Global,
     dropped: usize,

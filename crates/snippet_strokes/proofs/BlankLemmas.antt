@@ -92,10 +92,6 @@ abbrev pub PassedTo : List ℕ → List LineAnnotation → ℕ → ℕ → Type 
 PassedTo text es i last =
     list_all (is_beside text) es ≡ (list_all is_whitespace (take last text) && list_all (is_beside text) (drop i es))
 
-passed_more : (text : List ℕ) (es : List LineAnnotation) (i last next : ℕ) (d : LineAnnotation) → i < length es
-    → begins_blank text next ≡ (begins_blank text last && is_beside text (get_or es i d)) → PassedTo text es i last → PassedTo text es (i + 1) next
-passed_more text es i last next d within asks before = grind (arith, common_steps, nat_tests, at_drop_more, both_later)
-
 -- a bar more
 pub bar_passed : (text : List ℕ) (es : List LineAnnotation) (i last next depth : ℕ) (d : LineAnnotation) → i < length es
     → (get_or es i d).annotation_type ≡ MultilineLine depth → next ≡ last → PassedTo text es i last → PassedTo text es (i + 1) next

@@ -3,7 +3,7 @@ use Rattle.std.proofs.lemmas.Grind.{common_steps}
 use Rattle.snippet_strokes.proofs.Common.{◌≡◌, ℕ, zero, suc, ◌+◌, ◌-◌, ◌<◌, ◌≤◌, List, [], ◌∷◌, ◌++◌, length, ◌⊎◌}
 use Rattle.snippet_strokes.proofs.Common.{map, take, drop, get_or, replicate, All, inl, inr, refl, sym, ap, ◌∙◌, arith, append_assoc, append-nil}
 use Rattle.snippet_strokes.proofs.Common.{length-append, length-map, length-replicate, map-append, map-set, places, same_lists, drop-map, take-map, get_or-map}
-use Rattle.snippet_strokes.proofs.Common.{get_or-replicate, length-drop, replicate-append-replicate, set_split, take_all, All-head, All-tail, Vec}
+use Rattle.snippet_strokes.proofs.Common.{get_or-replicate, replicate-append-replicate, set_split, All-head, All-tail, Vec}
 use Rattle.snippet_strokes.proofs.Common.{cells_written, cell_of, cells_of, StyledChar, Cell, SPACE, written}
 use Rattle.std.proofs.Math.ListN.{set}
 
@@ -147,8 +147,3 @@ row_written rows items old new row at cells made is writes =
     let here : cells_of old ≡ get_or (map cells_of items) row [] = ap cells_of is ∙ sym (get_or-map cells_of items row old [] many) in
     map-set cells_of items row new ∙ ap (set (map cells_of items) row) (writes ∙ ap (λ r. written SPACE r at cells) here)
     ∙ row_set rows (map cells_of items) row at cells made
-
--- rows from a number on, cell by cell
-pub rows_from : (items : List (Vec StyledChar)) (n : ℕ) → map cells_of (take (length items - n) (drop n items)) ≡ drop n (map cells_of items)
-rows_from items n =
-    ap (map cells_of) (take_all (length items - n) (drop n items) (omega (arith, length-drop n items))) ∙ sym (drop-map cells_of n items)

@@ -69,7 +69,7 @@ pub use Rattle.snippet_strokes.specs.PaintedStrokes.{top_of}
 pub use Rattle.snippet_strokes.specs.Painting.{painting_order, stroke_role, mark_of, is_painted_before}
 pub use Rattle.snippet_strokes.specs.Places.{HasRows, AreEnough, HasPlaceAmong}
 pub use Rattle.snippet_strokes.specs.Snippet.{gap_row}
-pub use Rattle.snippet_strokes.specs.Squeezed.{is_squeezed, past_middle, squeezed}
+pub use Rattle.snippet_strokes.specs.Squeezed.{middles_replaced, past_middle, squeezed}
 pub use Rattle.snippet_strokes.specs.SourceRows.{bare_row, window_cells, source_row, with_cells}
 pub use Rattle.snippet_strokes.specs.StrokeRows.{highlighted_row, highlights, bare_elision_row, IsElisionRow}
 pub use Rattle.snippet_strokes.specs.Strokes.{label_of, column_of, corner_of, connector_of, stem_of, is_uncut, stroke_rows, line_strokes, cut_pairs, piece_at}

@@ -7,7 +7,7 @@ use Rattle.snippet_strokes.proofs.Common.{Top, Bar, bars_apart, ends_of_bars, ro
 use Rattle.snippet_strokes.proofs.Common.{ext_get_or, list_any_none, ElementStyle, row_text, highlights, rules}
 use Rattle.std.specs.Prelude.{not}
 use Rattle.snippet_strokes.proofs.CellLemmas.{with_parts, drawn_strokes, begun_rows, role_in_source}
-use Rattle.snippet_strokes.specs.Squeezed.{squeezed}
+use Rattle.snippet_strokes.specs.Squeezed.{middles_replaced, squeezed}
 use Rattle.snippet_strokes.proofs.SqueezedLemmas.{Line, each_squeezed}
 use Rattle.snippet_strokes.proofs.SqueezedSeen.{squeezed_left}
 use Rattle.snippet_strokes.proofs.WriteLaws.{AreLineRows, AreOwnRows, StrokesPainted, painted-cell, IsHighlighted}
@@ -64,24 +64,24 @@ module _ (layout : Layout) (depth : ℕ) (some : 0 < depth) (room : layout.gutte
 
   module _ (width : ℕ) (closes : Bool) (text : List ℕ) (dropped : ℕ) (es : List LineAnnotation) (source : List Cell)
       (others : All (λ b. b.depth ≢ depth) (ends_of_bars es)) (blank : get_or source (layout.gutter + 2 + depth) SPACE ≡ SPACE) where
-    abbrev whole : Line
-    whole = (map (shifted dropped) es, source)
-
     abbrev line : Line
-    line = squeezed layout width whole
+    line = squeezed layout width (map (shifted dropped) es)
 
-    painted_clear : (rows : List (List Cell)) → StrokesPainted layout width closes line.0 line.1 rows → (r : ℕ) → NoBar (cell_at rows r cell)
+    abbrev now : List Cell
+    now = middles_replaced layout width line.1 source
+
+    painted_clear : (rows : List (List Cell)) → StrokesPainted layout width closes line.0 now rows → (r : ℕ) → NoBar (cell_at rows r cell)
     painted_clear rows drawn r =
         let placed : List PlacedEntry = drawn.placed in
-        let begun : List (List Cell) = begun_rows layout closes (row_count placed) line.1 in
+        let begun : List (List Cell) = begun_rows layout closes (row_count placed) now in
         let at : List (List Cell) → Cell = λ all. cell_at all r cell in
         let Other : LineAnnotation → Type 0 = λ e. is_at depth e.annotation_type ≡ false in
         let none : All (λ (e : PlacedEntry). Other e.entry) placed = entries_all Other line.0 placed drawn.are.same
-        (each_squeezed layout width Other (λ e f other. other) whole (All-map Other (shifted dropped) es (none_has depth es others))) in
-        let blank_now : HasSpace line.1 = squeezed_left layout width (omega (arith, room)) whole cell room ∙ blank in
+        (each_squeezed layout width Other (λ e f other. other) (map (shifted dropped) es) (All-map Other (shifted dropped) es (none_has depth es others))) in
+        let blank_now : HasSpace now = squeezed_left layout width (omega (arith, room)) line.1 source cell room ∙ blank in
         let clear = strokes_clear (row_count placed + 1) placed (painting_order placed) begun r none
-        (spaces_in begun (begun_spaces closes (row_count placed) line.1 blank_now) r) in
-        subst NoBar (sym (strokes_left layout width closes line.0 line.1 rows drawn r cell room)) clear
+        (spaces_in begun (begun_spaces closes (row_count placed) now blank_now) r) in
+        subst NoBar (sym (strokes_left layout width closes line.0 now rows drawn r cell room)) clear
 
     own_clear : (rows : List (List Cell)) → AreOwnRows layout width closes text dropped es source rows → (r : ℕ) → NoBar (cell_at rows r cell)
     own_clear rows are r =

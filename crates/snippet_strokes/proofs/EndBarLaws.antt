@@ -10,7 +10,7 @@ use Rattle.snippet_strokes.proofs.Common.{bars_apart, ends_of_bars, HasOwnDepth,
 use Rattle.snippet_strokes.proofs.Common.{HasRows, BarEnds}
 use Rattle.snippet_strokes.proofs.CellLemmas.{with_bar, with_parts, begun_rows, corner_by, drawn_strokes}
 use Rattle.snippet_strokes.proofs.BarFacts.{BarBegins, BeginsBelow}
-use Rattle.snippet_strokes.specs.Squeezed.{squeezed}
+use Rattle.snippet_strokes.specs.Squeezed.{middles_replaced, squeezed}
 use Rattle.snippet_strokes.proofs.SqueezedLemmas.{Line, any_squeezed, each_squeezed}
 use Rattle.snippet_strokes.proofs.WriteLaws.{AreLineRows, StrokesPainted}
 use Rattle.snippet_strokes.proofs.LineFromValue.{rows_cut}
@@ -69,15 +69,17 @@ module _ (layout : Layout) (bar : Bar) (room : layout.gutter + 2 + bar.depth < l
         → cell_at rows r (layout.gutter + 2 + bar.depth) ≡ cell_at (painted (corner_by layout 0 count entry part) old) r (layout.gutter + 2 + bar.depth)
 
   own_of : (width : ℕ) (closes : Bool) (dropped : ℕ) (es : List LineAnnotation) (source : List Cell) (rows : List (List Cell)) (part : LineAnnotationType)
-      → (let line = squeezed layout width (map (shifted dropped) es, source) in StrokesPainted layout width closes line.0 line.1 rows)
+      → (let line = squeezed layout width (map (shifted dropped) es) in
+      StrokesPainted layout width closes line.0 (middles_replaced layout width line.1 source) rows)
       → All (IsItsPart part) es → list_any is_its es ≡ true → HasOwn part rows
   own_of width closes dropped es source rows part drawn known some =
       let placed : List PlacedEntry = drawn.placed in
       let count : ℕ = row_count placed + 1 in
       let order : List PlacedEntry = painting_order placed in
-      let whole : Line = (map (shifted dropped) es, source) in
+      let whole : List LineAnnotation = map (shifted dropped) es in
       let line : Line = squeezed layout width whole in
-      let begun : List (List Cell) = begun_rows layout closes (row_count placed) line.1 in
+      let now : List Cell = middles_replaced layout width line.1 source in
+      let begun : List (List Cell) = begun_rows layout closes (row_count placed) now in
       let entry_of : PlacedEntry → LineAnnotation = λ f. f.entry in
       let moved : List LineAnnotation = line.0 in
       let there : list_any (λ (f : PlacedEntry). is_its f.entry) placed ≡ true =
@@ -97,7 +99,7 @@ module _ (layout : Layout) (bar : Bar) (room : layout.gutter + 2 + bar.depth < l
         long = drawn.count;
         within = omega (arith, lower.mark);
         old = left.0;
-        stands = λ r. strokes_left layout width closes moved line.1 rows drawn r (layout.gutter + 2 + bar.depth) room ∙ left.1 r
+        stands = λ r. strokes_left layout width closes moved now rows drawn r (layout.gutter + 2 + bar.depth) room ∙ left.1 r
             ∙ ap (λ t. cell_at (painted (corner_by layout 0 count last.one t) left.0) r (layout.gutter + 2 + bar.depth)) its.0;
       }
 

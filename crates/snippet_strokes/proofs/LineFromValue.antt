@@ -7,7 +7,7 @@ use Rattle.snippet_strokes.proofs.Common.{shown_number_unlisted, IsFree, each_fa
 use Rattle.snippet_strokes.proofs.Common.{norm, char_width, width_of, list_any-norm, char_width-bound, StandsClear, dropped_part, reaching, Margin}
 use Rattle.snippet_strokes.proofs.Common.{reaching-cons, reaching-none, width-cons, Layout, inner_cell, separator_cell, is_end_part, shifted, placed_of}
 use Rattle.snippet_strokes.proofs.Common.{PlacedEntry, Top, OpenBar, LineView, ends_of_bars, overlapped, row_count, line_rows, own_rows, painting_order}
-use Rattle.snippet_strokes.proofs.Common.{with_blocks, and_parts, is_squeezed, squeezed}
+use Rattle.snippet_strokes.proofs.Common.{with_blocks, and_parts, middles_replaced, squeezed, ◌==◌}
 use Rattle.snippet_strokes.proofs.SqueezedLemmas.{Line}
 use Rattle.snippet_strokes.proofs.Common.{info_rows, is_whole_line, source_row, window_cells, highlighted_row, stroke_rows, painted, true, replicate}
 use Rattle.snippet_strokes.proofs.Common.{if◌then◌else◌, list_all, list_any, list_any-IsPermutation, cases_Bool, append_assoc, length-append, length_push}
@@ -109,13 +109,14 @@ module _ (layout : Layout) (room : ℕ) (closes : Bool) (text : List ℕ) (dropp
   own_rows_are_rows (e ∷ es) source =
       let all : List LineAnnotation = e ∷ es in
       let tops : List (List Cell) = with_parts layout Top (ends_of_bars all) source ∷ [] in
-      let line : Line = squeezed layout room (map (shifted dropped) all, source) in
-      let strokes : List (List Cell) = stroke_rows layout room closes line.0 line.1 in
+      let line : Line = squeezed layout room (map (shifted dropped) all) in
+      let now : List Cell = middles_replaced layout room line.1 source in
+      let strokes : List (List Cell) = stroke_rows layout room closes line.0 now in
       record {
         whole = λ is. cond-true (is_whole_line text all) tops strokes is;
         none = λ empty. absurd (omega (arith, ap length empty));
-        strokes = λ other _. subst (StrokesPainted layout room closes line.0 line.1)
-            (sym (cond-false (is_whole_line text all) tops strokes other)) (stroke_rows_are_painted layout room closes line.0 line.1);
+        strokes = λ other _. subst (StrokesPainted layout room closes line.0 now)
+            (sym (cond-false (is_whole_line text all) tops strokes other)) (stroke_rows_are_painted layout room closes line.0 now);
       }
 
   -- all rows of a line
@@ -205,7 +206,7 @@ rows_cut layout room closes es source rows is =
       marks_cut = cut is.marks;
       kept = λ uncut. uncut_row layout room (cut_pairs layout is.placed) is.marks
           (subst (λ placed. list_all (λ pair. not (is_cut room layout.decor pair)) (cut_pairs layout placed) ≡ true)
-          (sym (placed_are layout es is.placed is.are)) (and_parts (not (is_squeezed layout room es)) _ uncut).1);
+          (sym (placed_are layout es is.placed is.are)) (and_parts (length (squeezed layout room es).1 == 0) _ uncut).1);
     }
 
 -- the strokes of a line, painted and then cut, are its rows
@@ -268,7 +269,7 @@ module _ (layout : Layout) (room : ℕ) (closes : Bool) (es : List LineAnnotatio
 pub own_strokes : (layout : Layout) (room : ℕ) (closes : Bool) (text : List ℕ) (dropped : ℕ) (es : List LineAnnotation) (source : List Cell)
     → is_whole_line text es ≡ false → 0 < length es
     → own_rows layout room closes text dropped es source
-    ≡ (let line = squeezed layout room (map (shifted dropped) es, source) in stroke_rows layout room closes line.0 line.1)
+    ≡ (let line = squeezed layout room (map (shifted dropped) es) in stroke_rows layout room closes line.0 (middles_replaced layout room line.1 source))
 own_strokes layout room closes text dropped [] source other some = absurd (omega (arith, some))
 own_strokes layout room closes text dropped (e ∷ es) source other some = cond-false (is_whole_line text (e ∷ es)) _ _ other
 

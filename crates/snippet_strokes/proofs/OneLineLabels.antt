@@ -10,9 +10,9 @@ use Rattle.snippet_strokes.specs.LineRows.{line_rows, own_rows}
 use Rattle.snippet_labels.specs.Positions.{pieces_of}
 use Rattle.snippet_labels.specs.Pieces.{breaks_labels}
 use Rattle.snippet_strokes.specs.Cuts.{overlapped}
-use Rattle.snippet_strokes.specs.Squeezed.{squeezed, without_middle}
-use Rattle.snippet_strokes.proofs.SqueezedLemmas.{Line}
-use Rattle.snippet_strokes.proofs.Common.{◌&&◌, ◌||◌, length, list_any, nat_le, nat_lt, range_with_len, sym}
+use Rattle.snippet_strokes.specs.Squeezed.{middles_replaced}
+use Rattle.snippet_strokes.proofs.SqueezedLemmas.{Line, unbroken_same}
+use Rattle.snippet_strokes.proofs.Common.{◌&&◌, ◌||◌, length, list_any, nat_le, nat_lt, sym}
 use Rattle.snippet_strokes.specs.declared.bars.OpenBar.{OpenBar}
 use Rattle.snippet_labels.proofs.PieceLemmas.{LabelPieces-is}
 use Rattle.snippet_labels.specs.Pieces.{LabelPieces, broken_in, label_of_entry, label_pieces, text_pieces}
@@ -90,22 +90,19 @@ module _ (layout : Layout) (none : layout.label_end ≡ 0) (cut : Bool) where
           let whole = painted (line_strokes (with_cut cut layout) 0 (count + 1) placed (painting_order placed)) (source ∷ below) in
           map (λ row. fold (cut_middle (with_cut cut layout) room) row (pairs_by breaks placed)) (take 2 whole) ++ drop 2 whole
 
-  -- nothing is cut out of them first
-  unsqueezed : (b : Bool) (room : ℕ) (line : Line) → squeezed (with_cut b layout) room line ≡ line
-  unsqueezed b room line =
-      ap (λ breaks. if breaks then fold (without_middle (with_cut b layout) room) line (range_with_len 0 (length line.0)) else line)
-      (unbroken b)
-
   own_same : (room : ℕ) (closes : Bool) (text : List ℕ) (dropped : ℕ) (es : List LineAnnotation) (source : List Cell) → All IsPlainEntry es
       → own_rows (with_cut cut layout) room closes text dropped es source ≡ own_rows (with_cut false layout) room closes text dropped es source
   own_same room closes text dropped [] source plain = refl
   own_same room closes text dropped (e ∷ es) source plain =
       let all : List LineAnnotation = e ∷ es in
-      let line : Line = (map (shifted dropped) all, source) in
+      let entries : List LineAnnotation = map (shifted dropped) all in
+      -- nothing is cut out of them first
+      let rows_of : Bool → Line → List (List Cell) = λ b line.
+      stroke_rows (with_cut b layout) room closes line.0 (middles_replaced (with_cut b layout) room line.1 source) in
       ap (λ rows. if list_all (is_beside text) all then with_bars layout (λ strokes. strokes.whole_line) (ends_of_bars all) source ∷ [] else rows)
-      (ap (λ (l : Line). stroke_rows (with_cut cut layout) room closes l.0 l.1) (unsqueezed cut room line)
-      ∙ rows_same room closes (map (shifted dropped) all) source (All-map IsPlainEntry (shifted dropped) all plain)
-      ∙ sym (ap (λ (l : Line). stroke_rows (with_cut false layout) room closes l.0 l.1) (unsqueezed false room line)))
+      (ap (rows_of cut) (unbroken_same (with_cut cut layout) room entries (unbroken cut))
+      ∙ rows_same room closes entries source (All-map IsPlainEntry (shifted dropped) all plain)
+      ∙ sym (ap (rows_of false) (unbroken_same (with_cut false layout) room entries (unbroken false))))
 
   -- those of a line of which columns are dropped too, over which bars run
   pub line_same : (room : ℕ) (closes : Bool) (text : List ℕ) (dropped : ℕ) (open_bars : List OpenBar) (es : List LineAnnotation) (source : List Cell)

@@ -4,8 +4,8 @@ use Rattle.snippet_strokes.proofs.Common.{◌≡◌, ℕ, ◌+◌, ◌<◌, ◌�
 use Rattle.snippet_strokes.proofs.Common.{each_fails, length-text_cells, DecorStyle, Ascii, Unicode, LineNumber, elision_of, Cell, SPACE, text_cells}
 use Rattle.snippet_strokes.proofs.Common.{is_listed, Layout, OpenBar, Dotted, HasBarRoom, barred, gap_row, IsFree, IsElisionRow, bare_elision_row, free_drawn}
 use Rattle.snippet_strokes.proofs.Common.{◌==◌, ◌&&◌, cond, nat_lt, Bool, true, false, None, map, sym, subst, inl, inr, slice_index_or, cases_Bool, cases_lt}
-use Rattle.snippet_strokes.proofs.Common.{false≢true, All-append, All-cons, All-from_get_or, All-get_or, All-head, All-nil, All-same, All-tail, LineNumbers}
-use Rattle.snippet_strokes.proofs.Common.{shown_number, AnnotatedLineInfo, LineAnnotation, ElementStyle, gives_way, unlinked_cell, IsFreeCell, Margin}
+use Rattle.snippet_strokes.proofs.Common.{All-append, All-cons, All-from_get_or, All-get_or, All-head, All-nil, All-same, All-tail, LineNumbers}
+use Rattle.snippet_strokes.proofs.Common.{shown_number, AnnotatedLineInfo, LineAnnotation, IsFreeCell, Margin}
 use Rattle.snippet_strokes.proofs.Common.{shifted, Solid, Top, bars_apart, ends_of_bars, AreDrawable, LineView, gap_rows, info_rows, infos_rows}
 use Rattle.snippet_strokes.proofs.Common.{is_whole_line, open_below, ◌≢◌, not, Some, Contains, false_from_ne_true, eqb-true, All-filter, All-map, cell_at}
 use Rattle.snippet_strokes.proofs.Common.{is_primary, LineAnnotationType, Singleline, MultilineStart, MultilineEnd, MultilineLine, all_among}
@@ -15,7 +15,7 @@ use Rattle.snippet_strokes.proofs.BarRows.{barred-below}
 use Rattle.snippet_strokes.proofs.BarLemmas.{BarsDrawn-with_parts, bar_space, AreSeen-drawn, whole_seen}
 use Rattle.snippet_strokes.proofs.RowLemmas.{free_led, length-led}
 use Rattle.snippet_strokes.proofs.CellLemmas.{with_parts, begun_rows, drawn_strokes}
-use Rattle.snippet_strokes.specs.Squeezed.{squeezed}
+use Rattle.snippet_strokes.specs.Squeezed.{middles_replaced, squeezed}
 use Rattle.snippet_strokes.proofs.SqueezedLemmas.{Line, drawable_squeezed, each_squeezed}
 use Rattle.snippet_strokes.proofs.SqueezedSeen.{bare_squeezed, seen_squeezed, squeezed_left}
 use Rattle.snippet_strokes.proofs.WriteLaws.{AreLineRows, AreOwnRows, CanBeShown, IsHighlighted, IsSourceRow, ShowsLine, StrokesPainted, painted-untouched}
@@ -122,17 +122,19 @@ module _ (layout : Layout) (depth : ℕ) (room : layout.gutter + 2 + depth < lay
 
   -- beside a line that isn't marked as a whole the cell stays, if no entry is such an end
   painted_source : (width : ℕ) (closes : Bool) (dropped : ℕ) (es : List LineAnnotation) (source : List Cell) (rows : List (List Cell)) → All IsNoEnd es
-      → (let line = squeezed layout width (map (shifted dropped) es, source) in StrokesPainted layout width closes line.0 line.1 rows)
+      → (let line = squeezed layout width (map (shifted dropped) es) in
+      StrokesPainted layout width closes line.0 (middles_replaced layout width line.1 source) rows)
       → cell_at rows 0 cell ≡ get_or source cell SPACE
   painted_source width closes dropped es source rows none drawn =
-      let line : Line = squeezed layout width (map (shifted dropped) es, source) in
+      let line : Line = squeezed layout width (map (shifted dropped) es) in
+      let now : List Cell = middles_replaced layout width line.1 source in
       let placed : List PlacedEntry = drawn.placed in
-      let begun : List (List Cell) = begun_rows layout closes (row_count placed) line.1 in
+      let begun : List (List Cell) = begun_rows layout closes (row_count placed) now in
       let none_placed : All (λ (e : PlacedEntry). IsNoEnd e.entry) placed = entries_all IsNoEnd line.0 placed drawn.are.same
-      (each_squeezed layout width IsNoEnd (λ e f other. other) (map (shifted dropped) es, source) (All-map IsNoEnd (shifted dropped) es none)) in
-      strokes_left layout width closes line.0 line.1 rows drawn 0 cell room
+      (each_squeezed layout width IsNoEnd (λ e f other. other) (map (shifted dropped) es) (All-map IsNoEnd (shifted dropped) es none)) in
+      strokes_left layout width closes line.0 now rows drawn 0 cell room
       ∙ untouched (row_count placed + 1) placed (painting_order placed) begun none_placed
-      ∙ squeezed_left layout width (omega (arith, room)) (map (shifted dropped) es, source) cell room
+      ∙ squeezed_left layout width (omega (arith, room)) line.1 source cell room
 
   module _ (width : ℕ) (closes : Bool) (text : List ℕ) (dropped : ℕ) (es : List LineAnnotation) (source : List Cell)
       (others : All (λ b. b.depth ≢ depth) (ends_of_bars es)) where
@@ -189,11 +191,6 @@ highlighted_free code dropped es plain row is free =
     let inside : c < length plain = omega (arith, is.width, within) in
     subst P (sym (is.cells c inside)) (All-get_or P plain c SPACE inside free))
 
--- a cell in the role of line numbers is no space
-not_space : (role : ElementStyle) → gives_way role ≡ false → (ch : ℕ) → unlinked_cell role ch ≡ SPACE → ⊥
-not_space role keeps ch same =
-    false≢true (sym keeps ∙ ap (λ (cell : Cell). gives_way cell.role) same)
-
 -- the source row of a line reaches to the separator, and spaces stand in the place of bars
 source_row_long : (layout : Layout) (shown : List ℕ) (cells row : List Cell) → IsSourceRow layout shown cells row → layout.gutter + 2 ≤ length row
 source_row_long layout shown cells row is = grind (arith, cases_lt, get_or_past)
@@ -230,11 +227,12 @@ module _ (layout : Layout) (room : ℕ) (closes : Bool) (text : List ℕ) (dropp
             (λ cells. BarsDrawn-with_parts layout Top (ends_of_bars all) cells (room_ends layout all drawable.bar_cells))
             (whole_seen layout text room dropped closes all source whole bare))
         | inr other ↦
-            let whole_line : Line = (map (shifted dropped) all, source) in
-            let line : Line = squeezed layout room whole_line in
-            let can = drawable_squeezed layout room whole_line (drawable_shifted layout dropped all drawable) in
-            seen_squeezed layout room place closes (map (shifted dropped) all) source rows (painted_seen layout room closes line.0 line.1 rows place
-            can.columns can.bar_cells (bare_squeezed layout room place whole_line bare) (are.strokes other (omega arith)))
+            let entries : List LineAnnotation = map (shifted dropped) all in
+            let line : Line = squeezed layout room entries in
+            let can = drawable_squeezed layout room entries (drawable_shifted layout dropped all drawable) in
+            seen_squeezed layout room place closes entries source rows (painted_seen layout room closes line.0
+            (middles_replaced layout room line.1 source) rows place can.columns can.bar_cells
+            (bare_squeezed layout room place line.1 source bare) (are.strokes other (omega arith)))
       ]
 
   -- and of all its rows, beside which bars run past

@@ -2,19 +2,19 @@
 use Rattle.snippet_strokes.proofs.Common.{◌≡◌, ◌∙◌, ℕ, zero, suc, ◌+◌, ◌-◌, ◌≤◌, ◌/◌, Bool, true, false, cond, List, [], ◌∷◌, All, Option, Some}
 use Rattle.snippet_strokes.proofs.Common.{None, fold, length, map, max, refl, sym, ap, subst, inl, inr, arith, cases_Bool, cond-true, cond-false}
 use Rattle.snippet_strokes.proofs.Common.{and_parts, or_parts, nat_tests, AllPass-from_list_all, All-map, list_any, sum_by-cons}
-use Rattle.snippet_strokes.proofs.Common.{count_by, get_or, length-map, list_any-map, option_map_or, range_with_len, Layout, Cell, LineAnnotation, HasPlace}
+use Rattle.snippet_strokes.proofs.Common.{count_by, get_or, list_any-map, option_map_or, range_with_len, Layout, Cell, LineAnnotation, HasPlace}
 use Rattle.snippet_strokes.proofs.Common.{AreDrawable, DecorStyle, Ascii, Unicode, if◌then◌else◌, placeholder_of, is_wide_entry, is_single_part, list_all}
-use Rattle.std.specs.Prelude.{◌&&◌, ◌||◌, ◌*◌, nat_le, nat_lt, IfSome}
+use Rattle.std.specs.Prelude.{◌&&◌, ◌||◌, ◌==◌, ◌*◌, nat_le, nat_lt, Err, IfSome, Ok, OnOk, Result}
 use Rattle.std.specs.List.{slice_get}
 use native.Mathlib.Nat.{div-add-mod'}
 use Rattle.snippet_text.specs.TextBounds.{TextFits}
 use Rattle.snippet_labels.specs.Pieces.{breaks_labels}
 use Rattle.snippet_strokes.specs.Cuts.{end_columns, middle_replaced}
 use Rattle.snippet_strokes.specs.Drawable.{HasBarCell}
-use Rattle.snippet_strokes.specs.Squeezed.{gives_way, is_clear_of, is_even, is_squeezed, past_middle, squeezed, without_middle}
+use Rattle.snippet_strokes.specs.Squeezed.{gives_way, is_clear_of, middles_replaced, past_middle, squeezed, without_middle}
 use Rattle.snippet_strokes.proofs.CutLemmas.{IsCut-more, IsCut-none, IsCut-replaced, cells_replaced_here}
 use Rattle.snippet_strokes.proofs.Common.{◌++◌, LineNumber, cells_replaced, code_cell, length_push, map-id, map-range_with_len_more, text_cells}
-use Rattle.snippet_strokes.proofs.Common.{and-false, false≢true, shifted, take, take_all, take_more}
+use Rattle.snippet_strokes.proofs.Common.{shifted}
 use Rattle.snippet_strokes.proofs.SeenRows.{IsCut, wide_entries}
 
 -- ---- columns
@@ -147,169 +147,156 @@ module _ {X : Type 0} (p : X → Bool) (g : X → X) where
 -- ---- lines
 
 abbrev pub Line : Type 0
-Line = List LineAnnotation × List Cell
+Line = List LineAnnotation × List LineAnnotation
 
 module _ (layout : Layout) (room : ℕ) where
   abbrev wide : LineAnnotation → Bool
   wide = is_wide_entry room (length (placeholder_of layout.decor))
 
   -- whether an entry of a line gives way, and the line without its middle
-  abbrev pub gives : Line → LineAnnotation → Bool
-  gives line e = gives_way layout.decor room line.0 e
+  abbrev pub gives : List LineAnnotation → LineAnnotation → Bool
+  gives es e = gives_way layout.decor room es e
 
   abbrev pub cut_out : Line → LineAnnotation → Line
-  cut_out line e = (map (past_middle layout.decor room e) line.0, middle_replaced layout room e line.1)
+  cut_out line e = (map (past_middle layout.decor room e) line.0, line.1 ++ e ∷ [])
 
   -- what an entry that gives way is
-  pub gives_parts : (line : Line) (e : LineAnnotation) → gives line e ≡ true
-      → (wide e ≡ true) × All (λ f. is_clear_of room e f ≡ true) line.0
-  gives_parts line e so =
-      let parts = and_parts (wide e && is_even e) (list_all (is_clear_of room e) line.0) so in
-      ((and_parts (wide e) (is_even e) parts.0).0, AllPass-from_list_all (is_clear_of room e) line.0 parts.1)
+  gives_parts : (es : List LineAnnotation) (e : LineAnnotation) → gives es e ≡ true → (wide e ≡ true) × All (λ f. is_clear_of room e f ≡ true) es
+  gives_parts es e so =
+      let is_even = e.end.display - e.start.display == e.end.char - e.start.char in
+      let parts = and_parts (wide e && is_even) (list_all (is_clear_of room e) es) so in
+      ((and_parts (wide e) is_even parts.0).0, AllPass-from_list_all (is_clear_of room e) es parts.1)
 
   -- what holds of a line, and of one without a middle if of that with it, holds of each
-  module _ (Q : Line → Type 0) (next : (line : Line) (k : ℕ) (e : LineAnnotation) → Q line → slice_get line.0 k ≡ Some e → gives line e ≡ true
+  module _ (Q : Line → Type 0) (next : (line : Line) (k : ℕ) (e : LineAnnotation) → Q line → slice_get line.0 k ≡ Some e → gives line.0 e ≡ true
       → Q (cut_out line e)) where
-    pub step_keeps : (line : Line) (k : ℕ) → Q line → Q (without_middle layout room line k)
+    step_keeps : (line : Line) (k : ℕ) → Q line → Q (without_middle layout room line k)
     step_keeps line k now = by_entry (slice_get line.0 k) refl
       where
         by_entry : (found : Option LineAnnotation) → slice_get line.0 k ≡ found
-            → Q (option_map_or (λ e. if gives line e then cut_out line e else line) found line)
+            → Q (option_map_or (λ e. if gives line.0 e then cut_out line e else line) found line)
         by_entry None is = now
         by_entry (Some e) is =
-            elim (cases_Bool (gives line e)) [
-              | inl so ↦ subst Q (sym (cond-true (gives line e) (cut_out line e) line so)) (next line k e now is so)
-              | inr other ↦ subst Q (sym (cond-false (gives line e) (cut_out line e) line other)) now
+            elim (cases_Bool (gives line.0 e)) [
+              | inl so ↦ subst Q (sym (cond-true (gives line.0 e) (cut_out line e) line so)) (next line k e now is so)
+              | inr other ↦ subst Q (sym (cond-false (gives line.0 e) (cut_out line e) line other)) now
             ]
 
     fold_keeps : (ks : List ℕ) (line : Line) → Q line → Q (fold (without_middle layout room) line ks)
     fold_keeps [] line now = now
     fold_keeps (k ∷ ks) line now = fold_keeps ks (without_middle layout room line k) (step_keeps line k now)
 
-    pub squeezed_keeps : (line : Line) → Q line → Q (squeezed layout room line)
-    squeezed_keeps line now =
-        elim (breaks_labels layout) as (λ b. Q (cond b (fold (without_middle layout room) line (range_with_len 0 (length line.0))) line)) [
-          | true ↦ fold_keeps (range_with_len 0 (length line.0)) line now
+    squeezed_keeps : (es : List LineAnnotation) → Q (es, []) → Q (squeezed layout room es)
+    squeezed_keeps es now =
+        elim (breaks_labels layout) as (λ b. Q (cond b (fold (without_middle layout room) (es, []) (range_with_len 0 (length es))) (es, []))) [
+          | true ↦ fold_keeps (range_with_len 0 (length es)) (es, []) now
           | false ↦ now
         ]
 
   -- what holds of each entry whatever its columns are
-  pub each_squeezed : (P : LineAnnotation → Type 0) → ((e f : LineAnnotation) → P f → P (past_middle layout.decor room e f)) → (line : Line) → All P line.0
-      → All P (squeezed layout room line).0
-  each_squeezed P same line all =
+  pub each_squeezed : (P : LineAnnotation → Type 0) → ((e f : LineAnnotation) → P f → P (past_middle layout.decor room e f)) → (es : List LineAnnotation)
+      → All P es → All P (squeezed layout room es).0
+  each_squeezed P same es all =
       squeezed_keeps (λ now. All P now.0)
       (λ now k e each there so. All-map P (past_middle layout.decor room e) now.0 (λ i d within. same e _ (each i d within)))
-      line all
+      es all
 
   -- whether any passes a test that doesn't ask for columns
-  pub any_squeezed : (p : LineAnnotation → Bool) → ((e f : LineAnnotation) → p (past_middle layout.decor room e f) ≡ p f) → (line : Line)
-      → list_any p (squeezed layout room line).0 ≡ list_any p line.0
-  any_squeezed p same line =
-      squeezed_keeps (λ now. list_any p now.0 ≡ list_any p line.0)
-      (λ now k e is there so. list_any-map p (past_middle layout.decor room e) now.0 ∙ alike e now.0 ∙ is) line refl
+  pub any_squeezed : (p : LineAnnotation → Bool) → ((e f : LineAnnotation) → p (past_middle layout.decor room e f) ≡ p f) → (es : List LineAnnotation)
+      → list_any p (squeezed layout room es).0 ≡ list_any p es
+  any_squeezed p same es =
+      squeezed_keeps (λ now. list_any p now.0 ≡ list_any p es)
+      (λ now k e is there so. list_any-map p (past_middle layout.decor room e) now.0 ∙ alike e now.0 ∙ is) es refl
     where
-      alike : (e : LineAnnotation) (es : List LineAnnotation) → list_any (λ f. p (past_middle layout.decor room e f)) es ≡ list_any p es
+      alike : (e : LineAnnotation) (fs : List LineAnnotation) → list_any (λ f. p (past_middle layout.decor room e f)) fs ≡ list_any p fs
       alike e [] = refl
-      alike e (f ∷ es) = ap (λ b. b || list_any (λ x. p (past_middle layout.decor room e x)) es) (same e f) ∙ ap (λ b. p f || b) (alike e es)
-
-  pub count_squeezed : (line : Line) → length (squeezed layout room line).0 ≡ length line.0
-  count_squeezed line =
-      squeezed_keeps (λ now. length now.0 ≡ length line.0) (λ now k e is there so. length-map now.0 (past_middle layout.decor room e) ∙ is) line refl
+      alike e (f ∷ fs) = ap (λ b. b || list_any (λ x. p (past_middle layout.decor room e x)) fs) (same e f) ∙ ap (λ b. p f || b) (alike e fs)
 
   -- its entries can be drawn
-  pub drawable_past : (line : Line) (e : LineAnnotation) → gives line e ≡ true → AreDrawable layout line.0 → AreDrawable layout (cut_out line e).0
-  drawable_past line e so can =
+  pub drawable_past : (es : List LineAnnotation) (e : LineAnnotation) → gives es e ≡ true → AreDrawable layout es
+      → AreDrawable layout (map (past_middle layout.decor room e) es)
+  drawable_past es e so can =
       let past : LineAnnotation → LineAnnotation = past_middle layout.decor room e in
-      let parts = gives_parts line e so in
+      let parts = gives_parts es e so in
       record {
-        columns = All-map HasPlace past line.0 (λ i d within. past_place layout.decor room e parts.0 (get_or line.0 i d) (parts.1 i d within)
+        columns = All-map HasPlace past es (λ i d within. past_place layout.decor room e parts.0 (get_or es i d) (parts.1 i d within)
             (can.columns i d within));
-        bar_cells = All-map (HasBarCell layout) past line.0 can.bar_cells;
-        labels = All-map (λ f. IfSome f.label TextFits) past line.0 can.labels;
+        bar_cells = All-map (HasBarCell layout) past es can.bar_cells;
+        labels = All-map (λ f. IfSome f.label TextFits) past es can.labels;
       }
 
-  pub drawable_squeezed : (line : Line) → AreDrawable layout line.0 → AreDrawable layout (squeezed layout room line).0
-  drawable_squeezed line can = squeezed_keeps (λ now. AreDrawable layout now.0) (λ now k e is there so. drawable_past now e so is) line can
+  pub drawable_squeezed : (es : List LineAnnotation) → AreDrawable layout es → AreDrawable layout (squeezed layout room es).0
+  drawable_squeezed es can = squeezed_keeps (λ now. AreDrawable layout now.0) (λ now k e is there so. drawable_past now.0 e so is) es can
 
-  -- its row is cut, once at most for each entry that is wide no more
-  pub record IsSqueezed (line now : Line) : Type 0 where
-    pub cuts : ℕ
-    pub few : cuts + wide_entries room layout.decor now.0 ≤ wide_entries room layout.decor line.0
-    pub cut : IsCut layout cuts line.1 now.1
-
-  pub line_squeezed : (line : Line) → IsSqueezed line (squeezed layout room line)
-  line_squeezed line =
-      squeezed_keeps (IsSqueezed line) next line (record { cuts = 0; few = omega arith; cut = IsCut-none layout 0 line.1 })
+  -- each entry that is cut is wide no more
+  pub few_squeezed : (es : List LineAnnotation)
+      → (let line = squeezed layout room es in length line.1 + wide_entries room layout.decor line.0 ≤ wide_entries room layout.decor es)
+  few_squeezed es = squeezed_keeps (λ now. length now.1 + count_by wide now.0 ≤ count_by wide es) next es (omega arith)
     where
-      next : (now : Line) (k : ℕ) (e : LineAnnotation) → IsSqueezed line now → slice_get now.0 k ≡ Some e → gives now e ≡ true
-          → IsSqueezed line (cut_out now e)
-      next now k e is there so =
-          let parts = gives_parts now e so in
+      next : (now : Line) (k : ℕ) (e : LineAnnotation) → length now.1 + count_by wide now.0 ≤ count_by wide es → slice_get now.0 k ≡ Some e
+          → gives now.0 e ≡ true → length (now.1 ++ e ∷ []) + count_by wide (map (past_middle layout.decor room e) now.0) ≤ count_by wide es
+      next now k e few there so =
+          let parts = gives_parts now.0 e so in
           let past : LineAnnotation → LineAnnotation = past_middle layout.decor room e in
           let less = fewer wide past now.0 k e (λ i d within. past_wide layout.decor room e parts.0 (get_or now.0 i d) (parts.1 i d within)) there parts.0
           (past_itself layout.decor room e parts.0) in
-          record {
-            cuts = is.cuts + 1;
-            few = omega (arith, less, is.few);
-            cut = IsCut-more layout is.cuts 1 line.1 now.1 (middle_replaced layout room e now.1) is.cut
-                (IsCut-replaced layout _ _ now.1 (omega arith));
-          }
+          omega (arith, less, few, length_push now.1 e)
+
+  -- a source row is cut once at most for each of them
+  pub row_squeezed : (cut : List LineAnnotation) (source : List Cell) → IsCut layout (length cut) source (middles_replaced layout room cut source)
+  row_squeezed [] source = IsCut-none layout 0 source
+  row_squeezed (e ∷ cut) source =
+      let now = middle_replaced layout room e source in
+      let whole = middles_replaced layout room cut now in
+      let count : 1 + length cut ≡ length (e ∷ cut) = omega arith in
+      subst (λ n. IsCut layout n source whole) count
+      (IsCut-more layout 1 (length cut) source now whole (IsCut-replaced layout _ _ source (omega arith)) (row_squeezed cut now))
 
   -- ---- one entry
 
   -- a line without the middle of the entry at a place: where it gives way, and where it doesn't
-  pub without_gives : (line : Line) (k : ℕ) (e : LineAnnotation) → slice_get line.0 k ≡ Some e → gives line e ≡ true
+  pub without_gives : (line : Line) (k : ℕ) (e : LineAnnotation) → slice_get line.0 k ≡ Some e → gives line.0 e ≡ true
       → without_middle layout room line k ≡ cut_out line e
   without_gives line k e there so =
-      ap (λ found. option_map_or (λ x. if gives line x then cut_out line x else line) found line) there ∙ cond-true (gives line e) (cut_out line e) line so
-
-  pub without_stays : (line : Line) (k : ℕ) (e : LineAnnotation) → slice_get line.0 k ≡ Some e → gives line e ≡ false
-      → without_middle layout room line k ≡ line
-  without_stays line k e there other =
-      ap (λ found. option_map_or (λ x. if gives line x then cut_out line x else line) found line) there ∙ cond-false (gives line e) (cut_out line e) line other
+      ap (λ found. option_map_or (λ x. if gives line.0 x then cut_out line x else line) found line) there
+      ∙ cond-true (gives line.0 e) (cut_out line e) line so
 
   -- ---- a line that isn't squeezed
 
-  none_at : {X : Type 0} (p : X → Bool) (xs : List X) (k : ℕ) (x : X) → list_any p xs ≡ false → slice_get xs k ≡ Some x → p x ≡ false
-  none_at p [] k x none is = cc
-  none_at p (y ∷ xs) zero x none is =
-      let same : y ≡ x = cc in
-      ap p (sym same) ∙ (or_parts (p y) (list_any p xs) none).0
-  none_at p (y ∷ xs) (suc k) x none is = none_at p xs k x (or_parts (p y) (list_any p xs) none).1 is
-
-  step_same : (line : Line) (k : ℕ) → list_any (gives line) line.0 ≡ false → without_middle layout room line k ≡ line
-  step_same line k none = by_entry (slice_get line.0 k) refl
+  pub squeezed_same : (es : List LineAnnotation) → length (squeezed layout room es).1 ≡ 0 → squeezed layout room es ≡ (es, [])
+  squeezed_same es none = squeezed_keeps (λ now. length now.1 ≡ 0 → now ≡ (es, [])) next es (λ empty. refl) none
     where
-      by_entry : (found : Option LineAnnotation) → slice_get line.0 k ≡ found
-          → option_map_or (λ e. if gives line e then cut_out line e else line) found line ≡ line
-      by_entry None is = refl
-      by_entry (Some e) is = cond-false (gives line e) (cut_out line e) line (none_at (gives line) line.0 k e none is)
+      next : (now : Line) (k : ℕ) (e : LineAnnotation) → (length now.1 ≡ 0 → now ≡ (es, [])) → slice_get now.0 k ≡ Some e → gives now.0 e ≡ true
+          → length (now.1 ++ e ∷ []) ≡ 0 → cut_out now e ≡ (es, [])
+      next now k e is there so empty = absurd (omega (arith, empty, length_push now.1 e))
 
-  fold_same : (ks : List ℕ) (line : Line) → list_any (gives line) line.0 ≡ false → fold (without_middle layout room) line ks ≡ line
-  fold_same [] line none = refl
-  fold_same (k ∷ ks) line none = ap (λ l. fold (without_middle layout room) l ks) (step_same line k none) ∙ fold_same ks line none
-
-  pub squeezed_same : (line : Line) → is_squeezed layout room line.0 ≡ false → squeezed layout room line ≡ line
-  squeezed_same line none = by_labels (breaks_labels layout) none
-    where
-      by_labels : (b : Bool) → (b && list_any (gives line) line.0) ≡ false
-          → cond b (fold (without_middle layout room) line (range_with_len 0 (length line.0))) line ≡ line
-      by_labels true is = fold_same (range_with_len 0 (length line.0)) line is
-      by_labels false is = refl
+  pub unbroken_same : (es : List LineAnnotation) → breaks_labels layout ≡ false → squeezed layout room es ≡ (es, [])
+  unbroken_same es unbroken = cond-false (breaks_labels layout) _ _ unbroken
 
   -- without a wide entry none is
-  pub narrow_same : (es : List LineAnnotation) → wide_entries room layout.decor es ≡ 0 → is_squeezed layout room es ≡ false
-  narrow_same es narrow = ap (λ b. breaks_labels layout && b) (none es narrow) ∙ and-false (breaks_labels layout)
-    where
-      zero_parts : (b : Bool) (n : ℕ) → cond b 1 0 + n ≡ 0 → (b ≡ false) × (n ≡ 0)
-      zero_parts true n zero_sum = absurd (omega (arith, zero_sum))
-      zero_parts false n zero_sum = (refl, omega (arith, zero_sum))
+  pub narrow_same : (es : List LineAnnotation) → wide_entries room layout.decor es ≡ 0 → length (squeezed layout room es).1 ≡ 0
+  narrow_same es narrow = omega (arith, few_squeezed es, narrow)
 
-      none : (fs : List LineAnnotation) → wide_entries room layout.decor fs ≡ 0 → list_any (gives_way layout.decor room es) fs ≡ false
-      none [] zero_wide = refl
-      none (f ∷ fs) zero_wide =
-          let parts = zero_parts (wide f) (wide_entries room layout.decor fs) (sym (sum_by-cons (λ x. cond (wide x) 1 0) f fs) ∙ zero_wide) in
-          ap (λ b. b && is_even f && list_all (is_clear_of room f) es || list_any (gives_way layout.decor room es) fs) parts.0 ∙ none fs parts.1
+  -- nor one that has none where no column is dropped
+  pub narrow_whole : (dropped : ℕ) (es : List LineAnnotation) → list_any wide es ≡ false → length (squeezed layout room (map (shifted dropped) es)).1 ≡ 0
+  narrow_whole dropped es narrow = narrow_same (map (shifted dropped) es) (none es narrow)
+    where
+      wide_shifted : (e : LineAnnotation) → wide e ≡ false → wide (shifted dropped e) ≡ false
+      wide_shifted e other =
+          let less : e.end.display - dropped - (e.start.display - dropped) ≤ e.end.display - e.start.display = omega arith in
+          grind (arith, nat_tests, less, other)
+
+      none : (fs : List LineAnnotation) → list_any wide fs ≡ false → count_by wide (map (shifted dropped) fs) ≡ 0
+      none [] all = refl
+      none (f ∷ fs) all =
+          let one : LineAnnotation → ℕ = λ x. unit (wide x) in
+          let parts = or_parts (wide f) (list_any wide fs) all in
+          omega (
+            arith,
+            sum_by-cons one (shifted dropped f) (map (shifted dropped) fs),
+            ap unit (wide_shifted f parts.0),
+            none fs parts.1,
+          )
 
 -- ---- the row
 
@@ -327,46 +314,16 @@ row_without layout room e above source row start end text old new last old_is st
     (code_cell layout e.end.display - end_columns room) (text_cells LineNumber cs)) text_is
     ∙ cells_replaced_here above [] source (text_cells LineNumber (placeholder_of layout.decor)) row _ _ here
 
+-- what holds whatever a call gives
+pub on_ok_from : {X Y : Type 0} {P : Type 0} (r : Result X Y) → P → OnOk r P
+on_ok_from (Ok x) holds = holds
+on_ok_from (Err e) holds = tt
+
 -- so many numbers and one more
 pub range_more : (a n : ℕ) → range_with_len a (n + 1) ≡ range_with_len a n ++ (a + n) ∷ []
 range_more a n = sym (map-id _) ∙ map-range_with_len_more (λ k. k) a n (a + n) refl ∙ ap (λ ks. ks ++ (a + n) ∷ []) (map-id _)
 
--- ---- entries that are shifted
-
--- an entry is wide where columns are dropped only if it was so
-wide_shifted : (room plen dropped : ℕ) (e : LineAnnotation) → is_wide_entry room plen (shifted dropped e) ≡ true → is_wide_entry room plen e ≡ true
-wide_shifted room plen dropped e is =
-    let less : e.end.display - dropped - (e.start.display - dropped) ≤ e.end.display - e.start.display = omega arith in
-    grind (arith, nat_tests, less)
-
-narrow_shifted : (room plen dropped : ℕ) (e : LineAnnotation) → is_wide_entry room plen e ≡ false → is_wide_entry room plen (shifted dropped e) ≡ false
-narrow_shifted room plen dropped e narrow =
-    elim (cases_Bool (is_wide_entry room plen (shifted dropped e))) [
-      | inl so ↦ absurd (false≢true (sym narrow ∙ wide_shifted room plen dropped e so))
-      | inr other ↦ other
-    ]
-
--- a line that has no wide entry, or of which no label is broken, isn't squeezed
-pub narrow_whole : (layout : Layout) (room dropped : ℕ) (es : List LineAnnotation)
-    → list_any (is_wide_entry room (length (placeholder_of layout.decor))) es ≡ false → is_squeezed layout room (map (shifted dropped) es) ≡ false
-narrow_whole layout room dropped es narrow = ap (λ b. breaks_labels layout && b) (none es narrow) ∙ and-false (breaks_labels layout)
-  where
-    wide : LineAnnotation → Bool
-    wide = is_wide_entry room (length (placeholder_of layout.decor))
-
-    none : (fs : List LineAnnotation) → list_any wide fs ≡ false
-        → list_any (gives_way layout.decor room (map (shifted dropped) es)) (map (shifted dropped) fs) ≡ false
-    none [] all = refl
-    none (f ∷ fs) all =
-        let parts = or_parts (wide f) (list_any wide fs) all in
-        let rest = list_any (gives_way layout.decor room (map (shifted dropped) es)) (map (shifted dropped) fs) in
-        ap (λ b. b && is_even (shifted dropped f) && list_all (is_clear_of room (shifted dropped f)) (map (shifted dropped) es) || rest)
-        (narrow_shifted room (length (placeholder_of layout.decor)) dropped f parts.0) ∙ none fs parts.1
-
-pub unbroken_whole : (layout : Layout) (room : ℕ) (es : List LineAnnotation) → breaks_labels layout ≡ false → is_squeezed layout room es ≡ false
-unbroken_whole layout room es unbroken = ap (λ b. b && list_any (gives_way layout.decor room es) es) unbroken
-
--- none are where no column is dropped
+-- no entry is shifted where no column is dropped
 pub shifted_none : (es : List LineAnnotation) → map (shifted 0) es ≡ es
 shifted_none [] = refl
 shifted_none (e ∷ es) = ap (λ x. x ∷ map (shifted 0) es) (one e) ∙ ap (λ xs. e ∷ xs) (shifted_none es)
@@ -377,44 +334,3 @@ shifted_none (e ∷ es) = ap (λ x. x ∷ map (shifted 0) es) (one e) ∙ ap (λ
         let end : f.end.display - 0 ≡ f.end.display = omega arith in
         ap (λ n. record f { start = record f.start { display = n }; end = record f.end { display = f.end.display - 0 } }) start
         ∙ ap (λ n. record f { end = record f.end { display = n } }) end
-
--- ---- entries alone
-
-module _ (layout : Layout) (room : ℕ) where
-  -- what becomes of entries doesn't depend on the row
-  abbrev entries_without : List LineAnnotation → ℕ → List LineAnnotation
-  entries_without es k =
-      option_map_or (λ e. if gives_way layout.decor room es e then map (past_middle layout.decor room e) es else es) (slice_get es k) es
-
-  step_entries : (line : Line) (k : ℕ) → (without_middle layout room line k).0 ≡ entries_without line.0 k
-  step_entries line k = by_entry (slice_get line.0 k)
-    where
-      by_entry : (found : Option LineAnnotation)
-          → (option_map_or (λ e. if gives layout room line e then cut_out layout room line e else line) found line).0
-          ≡ option_map_or (λ e. if gives_way layout.decor room line.0 e then map (past_middle layout.decor room e) line.0 else line.0) found line.0
-      by_entry None = refl
-      by_entry (Some e) = by_test (gives layout room line e)
-        where
-          by_test : (b : Bool) → (cond b (cut_out layout room line e) line).0 ≡ cond b (map (past_middle layout.decor room e) line.0) line.0
-          by_test true = refl
-          by_test false = refl
-
-  fold_entries : (ks : List ℕ) (line : Line) → (fold (without_middle layout room) line ks).0 ≡ fold entries_without line.0 ks
-  fold_entries [] line = refl
-  fold_entries (k ∷ ks) line =
-      fold_entries ks (without_middle layout room line k) ∙ ap (λ es. fold entries_without es ks) (step_entries line k)
-
-  pub squeezed_entries : (es : List LineAnnotation) (a b : List Cell) → (squeezed layout room (es, a)).0 ≡ (squeezed layout room (es, b)).0
-  squeezed_entries es a b = by_labels (breaks_labels layout)
-    where
-      ks : List ℕ
-      ks = range_with_len 0 (length es)
-
-      by_labels : (b_is : Bool) → (cond b_is (fold (without_middle layout room) (es, a) ks) (es, a)).0
-          ≡ (cond b_is (fold (without_middle layout room) (es, b) ks) (es, b)).0
-      by_labels true = fold_entries ks (es, a) ∙ sym (fold_entries ks (es, b))
-      by_labels false = refl
-
--- rows of which one is the last
-pub last_of : (rows : List (List Cell)) (n : ℕ) → length rows ≡ n + 1 → rows ≡ take n rows ++ get_or rows n [] ∷ []
-last_of rows n last = sym (take_all (n + 1) rows (omega (arith, last))) ∙ take_more rows n [] (omega (arith, last))

@@ -3,8 +3,8 @@ use Rattle.snippet_strokes.proofs.Common.{◌≡◌, ◌∙◌, ℕ, ◌+◌, Bo
 use Rattle.snippet_strokes.proofs.Common.{Layout, arith, and_from, sum_by-cons, list_all, zip, placed_of, PlacedEntry, is_wide_entry, LineAnnotation}
 use Rattle.snippet_strokes.proofs.Common.{placeholder_of, DecorStyle, Ascii, Primary, Context, is_cut, overlapped, with_blocks, painting_order, is_uncut}
 use Rattle.snippet_strokes.proofs.Common.{cut_pairs}
-use Rattle.snippet_strokes.proofs.Common.{is_squeezed}
-use Rattle.std.specs.Prelude.{◌&&◌}
+use Rattle.snippet_strokes.proofs.Common.{nat_tests, squeezed}
+use Rattle.std.specs.Prelude.{◌==◌, ◌&&◌}
 use Rattle.snippet_strokes.proofs.BegunLemmas.{wide_entries-order}
 use Rattle.snippet_strokes.proofs.Examples.{entry, layout}
 use Rattle.snippet_strokes.proofs.PlacedOf.{placed_of_are}
@@ -32,8 +32,8 @@ none_cut room decor (e ∷ es) (flag ∷ flags) narrow =
 pub narrow_uncut : (room : ℕ) (drawn : Layout) (es : List LineAnnotation) → wide_entries room drawn.decor es ≡ 0 → is_uncut room drawn es ≡ true
 narrow_uncut room drawn es narrow =
     let placed = placed_of drawn es in
-    and_from (not (is_squeezed drawn room es)) (list_all (λ pair. not (is_cut room drawn.decor pair)) (cut_pairs drawn placed))
-    (ap not (narrow_same drawn room es narrow)) (none_cut room drawn.decor (painting_order placed)
+    and_from (length (squeezed drawn room es).1 == 0) (list_all (λ pair. not (is_cut room drawn.decor pair)) (cut_pairs drawn placed))
+    (grind (arith, nat_tests, narrow_same drawn room es narrow)) (none_cut room drawn.decor (painting_order placed)
     (with_blocks drawn (painting_order placed) (overlapped placed)) (wide_entries-order drawn room drawn.decor es placed (placed_of_are drawn es) ∙ narrow))
 
 -- four spans that overlap one another: in twenty columns all are wide, and none is cut

@@ -13,7 +13,7 @@ use Rattle.snippet_strokes.proofs.Common.{slice_index_or-text_cells, IsFreeCell,
 use Rattle.snippet_strokes.proofs.Common.{fold-append, ElementStyle, strokes_of, is_primary, stroke_role, first_glyph, mark_end, stretch_of, common_steps}
 use Rattle.snippet_strokes.proofs.Common.{rules, code_cell, label_place, pieces_at, row_at-cells_written_same, written}
 use Rattle.std.proofs.Common.{chars}
-use Rattle.snippet_strokes.specs.Squeezed.{squeezed}
+use Rattle.snippet_strokes.specs.Squeezed.{middles_replaced, squeezed}
 use Rattle.snippet_strokes.proofs.CellLemmas.{with_parts, cut_row, role_in_source, begun_rows, drawn_strokes, written_by, drawn_mark}
 use Rattle.snippet_strokes.proofs.CutWords.{cuts_of}
 use Rattle.snippet_strokes.proofs.DrawnCells.{DrawsFrom, MarksStarts, StandsFrom}
@@ -268,7 +268,8 @@ pub record AreOwnRows (layout : Layout) (room : ℕ) (closes : Bool) (text : Lis
   pub whole : is_whole_line text es ≡ true → rows ≡ with_parts layout Top (ends_of_bars es) source ∷ []
   pub none : es ≡ [] → rows ≡ source ∷ (if closes then closing_row layout.decor layout.gutter ∷ [] else [])
   pub strokes : is_whole_line text es ≡ false → 0 < length es
-      → (let line = squeezed layout room (map (shifted dropped) es, source) in StrokesPainted layout room closes line.0 line.1 rows)
+      → (let line = squeezed layout room (map (shifted dropped) es) in
+      StrokesPainted layout room closes line.0 (middles_replaced layout room line.1 source) rows)
 
 -- the rows of a line, where these bars are open above it: its own, and over each of them the bars that run past
 pub record AreLineRows (layout : Layout) (room : ℕ) (closes : Bool) (text : List ℕ) (dropped : ℕ) (open_bars : List OpenBar) (es : List LineAnnotation)

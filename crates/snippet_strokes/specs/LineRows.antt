@@ -7,7 +7,7 @@ use Rattle.snippet_strokes.specs.declared.bars.OpenBar.{OpenBar}
 use Rattle.snippet_grid.specs.Layout.{Layout}
 use Rattle.snippet_strokes.specs.Bars.{bars_apart, ends_of_bars, is_beside, with_bars}
 use Rattle.snippet_labels.specs.PlacedEntries.{shifted}
-use Rattle.snippet_strokes.specs.Squeezed.{squeezed}
+use Rattle.snippet_strokes.specs.Squeezed.{middles_replaced, squeezed}
 use Rattle.snippet_strokes.specs.Strokes.{stroke_rows}
 use Rattle.std.specs.List.{list_all}
 
@@ -19,7 +19,8 @@ own_rows layout room closes text dropped [] source =
     source ∷ (if closes then closing_row layout.decor layout.gutter ∷ [] else [])
 own_rows layout room closes text dropped (e ∷ es) source =
     if list_all (is_beside text) (e ∷ es) then with_bars layout (λ strokes. strokes.whole_line) (ends_of_bars (e ∷ es)) source ∷ []
-    else (let line = squeezed layout room (map (shifted dropped) (e ∷ es), source) in stroke_rows layout room closes line.0 line.1)
+    else (let line = squeezed layout room (map (shifted dropped) (e ∷ es)) in
+    stroke_rows layout room closes line.0 (middles_replaced layout room line.1 source))
 
 -- the rows of a line, where these bars are open above it: its own, and over each of them the bars that run past, which are drawn last
 abbrev pub line_rows : Layout → ℕ → Bool → List ℕ → ℕ → List OpenBar → List LineAnnotation → List Cell → List (List Cell)

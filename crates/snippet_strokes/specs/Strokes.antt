@@ -17,7 +17,7 @@ use Rattle.snippet_strokes.specs.Painting.{mark_of, painting_order, stroke_role}
 use Rattle.snippet_labels.specs.Positions.{has_label, has_stem, label_place, pieces_of, placed_of, is_start_part, takes_space}
 use Rattle.snippet_strokes.specs.Cuts.{cut_middle, is_cut, overlapped, with_blocks}
 use Rattle.snippet_strokes.specs.SourceRows.{bare_row}
-use Rattle.snippet_strokes.specs.Squeezed.{is_squeezed}
+use Rattle.snippet_strokes.specs.Squeezed.{squeezed}
 use Rattle.std.specs.Option.{option_map_or}
 use Rattle.snippet_strokes.specs.Bars.{bar_at}
 
@@ -94,7 +94,7 @@ cut_pairs layout placed = zip (painting_order placed) (with_blocks layout (paint
 -- whether no entry of a line is cut, before labels have their places or after
 abbrev pub is_uncut : ℕ → Layout → List LineAnnotation → Bool
 is_uncut room layout es =
-    not (is_squeezed layout room es) && list_all (λ pair. not (is_cut room layout.decor pair)) (cut_pairs layout (placed_of layout es))
+    length (squeezed layout room es).1 == 0 && list_all (λ pair. not (is_cut room layout.decor pair)) (cut_pairs layout (placed_of layout es))
 
 -- the rows of a line with the strokes of these entries, of which this is the source row. All strokes are painted over this row and those below
 -- it, of which there are as many as the entries ask for: separators, with the last row as the window closes or goes on. Of the first two, the

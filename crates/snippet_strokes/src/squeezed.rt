@@ -1,5 +1,5 @@
 //! Lines of which the middles of wide spans are cut out before anything is placed, where labels are broken.
-ghost use Rattle.std.specs.Prelude.{◌≡◌, ◌+◌, ◌-◌, ◌<◌, ◌++◌, ◌∷◌, ◌||◌, [], true, All, List, IfOk, OnOk};
+ghost use Rattle.std.specs.Prelude.{◌≡◌, ◌+◌, ◌-◌, ◌==◌, ◌<◌, ◌++◌, ◌∷◌, ◌||◌, [], true, All, List, IfOk, OnOk};
 ghost use Rattle.std.specs.Prelude.{if◌then◌else◌, length, map, nat_lt};
 ghost use Rattle.std.specs.List.{list_all};
 ghost use Rattle.snippet_style.specs.Cell.{Cell};
@@ -30,6 +30,7 @@ use std::alloc::{AllocError, Global};
 /// # Errors
 ///
 /// There is no memory for the row or the list.
+#[inline(never)]
 pub(crate) fn squeezed_line<'a>(
     buffer: &mut StyledBuffer,
     layout: Layout,
@@ -44,10 +45,11 @@ pub(crate) fn squeezed_line<'a>(
     ensures drawable { IfOk result (λ line. AreDrawable layout line.items) }
     ensures count { IfOk result (λ line. length line.items ≡ length entries.now) }
     ensures last { OnOk result (length buffer.new ≡ row + 1) }
-    ensures value { IfOk result (λ line. (above : List (List Cell)) (source : List Cell)
-        → buffer.old ≡ above ++ source ∷ []
-        → let whole = spec.squeezed layout room (map (shifted dropped) entries.now, source) in
-        (line.items ≡ whole.0) × (buffer.new ≡ above ++ whole.1 ∷ [])) }
+    ensures value { IfOk result (λ line. line.items
+        ≡ (spec.squeezed layout room (map (shifted dropped) entries.now)).0) }
+    ensures row { OnOk result ((above : List (List Cell)) (source : List Cell) → buffer.old ≡ above ++ source ∷ []
+        → buffer.new ≡ above ++ spec.middles_replaced layout room
+        (spec.squeezed layout room (map (shifted dropped) entries.now)).1 source ∷ []) }
 {
     let alloc = buffer.allocator();
     let mut line = shifted_entries(alloc, dropped, entries)?;
@@ -95,10 +97,12 @@ fn without_middle<'a>(
     ensures drawable { IfOk result (λ line. AreDrawable layout line.items) }
     ensures count { IfOk result (λ line. length line.items ≡ length entries.entry.items) }
     ensures last { OnOk result (length buffer.new ≡ row + 1) }
-    ensures value { IfOk result (λ line. (above : List (List Cell)) (source : List Cell)
-        → buffer.old ≡ above ++ source ∷ []
-        → let cut = spec.without_middle layout room (entries.entry.items, source) k in
-        (line.items ≡ cut.0) × (buffer.new ≡ above ++ cut.1 ∷ [])) }
+    ensures value { IfOk result (λ line. (cut : List LineAnnotation)
+        → line.items ≡ (spec.without_middle layout room (entries.entry.items, cut) k).0) }
+    ensures row { OnOk result ((cut : List LineAnnotation) (above : List (List Cell)) (source : List Cell)
+        → buffer.old ≡ above ++ spec.middles_replaced layout room cut source ∷ []
+        → buffer.new ≡ above ++ spec.middles_replaced layout room
+        (spec.without_middle layout room (entries.entry.items, cut) k).1 source ∷ []) }
 {
     let entry = &entries[k];
     if !gives_way(layout.decor, room, entry, &entries) {
@@ -128,7 +132,8 @@ fn gives_way(
 /// Whether an entry has as many columns as characters.
 fn is_even(entry: &LineAnnotation) -> bool
     requires own { HasPlace entry.now }
-    ensures value { result ≡ spec.is_even entry.now }
+    ensures value { result ≡ (entry.now.end.display - entry.now.start.display
+        == entry.now.end.char - entry.now.start.char) }
 {
     let columns = entry.end.display - entry.start.display;
     columns == entry.end.char.saturating_sub(entry.start.char)

@@ -1,13 +1,15 @@
 //! All that stands below the source row of a line, and the bars beside it of spans that begin or end there.
-ghost use Rattle.std.specs.Prelude.{◌≡◌, ◌+◌, ◌<◌, ◌++◌, ◌∷◌, [], ℕ, if◌then◌else◌, All, IfOk, List, OnOk};
+ghost use Rattle.std.specs.Prelude.{◌≡◌, ◌+◌, ◌<◌, ◌++◌, ◌∷◌, [], ℕ, if◌then◌else◌, All, IfOk, IfSome, List, OnOk};
 ghost use Rattle.std.specs.Prelude.{◌-◌, false, length, map, replicate, true};
 ghost use Rattle.std.specs.List.{list_any};
+ghost use Rattle.std.specs.Option.{option_map_or};
+ghost use Rattle.std.specs.Global.{Vec};
 ghost use Rattle.snippet_labels.specs.PlacedEntries.{shifted};
 ghost use Rattle.snippet_labels.specs.Placing.{ArePlaced, HasPlace};
 ghost use Rattle.snippet_parts.specs.Entries.{is_wide_entry};
 ghost use Rattle.snippet_style.specs.Glyphs.{placeholder_of};
 ghost use Rattle.snippet_labels.specs.Pieces.{breaks_labels};
-ghost use Rattle.snippet_strokes.specs.Squeezed.{squeezed};
+ghost use Rattle.snippet_strokes.specs.Squeezed.{middles_replaced, squeezed};
 ghost use Rattle.snippet_strokes.specs.Drawable.{AreDrawable, IsReady};
 ghost use Rattle.snippet_strokes.specs.LineRows.{own_rows};
 ghost use Rattle.snippet_style.specs.Cell.{Cell};
@@ -111,50 +113,46 @@ fn placed_line<'a>(
     requires last { length buffer.old ≡ place.row + 1 }
     requires entries { AreDrawable layout entries.now }
     ensures placed { IfOk result (λ placed. ArePlaced layout
-        (squeezed layout place.room (map (shifted place.dropped) entries.now, [])).0 placed.items) }
+        (squeezed layout place.room (map (shifted place.dropped) entries.now)).0 placed.items) }
     ensures low { IfOk result (λ placed. All (λ e. IsRowNumber e.position) placed.items) }
     ensures last { OnOk result (length buffer.new ≡ place.row + 1) }
     ensures row { OnOk result ((above : List (List Cell)) (source : List Cell) → buffer.old ≡ above ++ source ∷ []
-        → buffer.new ≡ above
-        ++ (squeezed layout place.room (map (shifted place.dropped) entries.now, source)).1 ∷ []) }
+        → buffer.new ≡ above ++ middles_replaced layout place.room
+        (squeezed layout place.room (map (shifted place.dropped) entries.now)).1 source ∷ []) }
 {
-    if breaks_labels(layout) && has_wide_entry(place.room, layout.decor, entries) {
-        return placed_squeezed(buffer, layout, place, entries);
-    }
-    placed_entries(buffer.allocator(), place.dropped, layout, entries)
+    let alloc = buffer.allocator();
+    let squeezed = squeezed_if_wide(buffer, layout, place, entries)?;
+    let dropped = if squeezed.is_some() { 0 } else { place.dropped };
+    let line = squeezed.as_deref().unwrap_or(entries);
+    placed_entries(alloc, dropped, layout, line)
 }
 
-/// Whether one of these entries is wide, in a room of this many columns.
-fn has_wide_entry(room: usize, decor: DecorStyle, entries: &[LineAnnotation]) -> bool
-    requires columns { All HasPlace entries.now }
-    ensures value { result ≡ list_any (is_wide_entry room (length (placeholder_of decor))) entries.now }
-{
-    entries.iter().any(|entry| is_wide(room, decor, entry))
-}
-
-/// The same where labels are broken.
+/// The entries of a line as far left as its columns are dropped, without the middles of wide ones, which are cut out of
+/// its source row; none, if nothing is cut out of the line.
 ///
 /// # Errors
 ///
-/// There is no memory for the row, the labels or the lists of entries.
-#[inline(never)]
-fn placed_squeezed<'a>(
+/// There is no memory for the row or the list.
+#[inline(always)]
+fn squeezed_if_wide<'a>(
     buffer: &mut StyledBuffer,
     layout: Layout,
     place: StrokePlace,
     entries: &[LineAnnotation<'a>],
-) -> Result<Vec<PlacedEntry<'a>>, AllocError>
-    requires broken { breaks_labels layout ≡ true }
+) -> Result<Option<Vec<LineAnnotation<'a>>>, AllocError>
     requires last { length buffer.old ≡ place.row + 1 }
     requires entries { AreDrawable layout entries.now }
-    ensures placed { IfOk result (λ placed. ArePlaced layout
-        (squeezed layout place.room (map (shifted place.dropped) entries.now, [])).0 placed.items) }
-    ensures low { IfOk result (λ placed. All (λ e. IsRowNumber e.position) placed.items) }
+    ensures value { IfOk result (λ line. let es = map (shifted place.dropped) entries.now in
+        option_map_or (λ (l : Vec LineAnnotation). l.items) line es ≡ (squeezed layout place.room es).0) }
+    ensures drawable { IfOk result (λ line. IfSome line (λ l. AreDrawable layout l.items)) }
     ensures last { OnOk result (length buffer.new ≡ place.row + 1) }
     ensures row { OnOk result ((above : List (List Cell)) (source : List Cell) → buffer.old ≡ above ++ source ∷ []
-        → buffer.new ≡ above
-        ++ (squeezed layout place.room (map (shifted place.dropped) entries.now, source)).1 ∷ []) }
+        → buffer.new ≡ above ++ middles_replaced layout place.room
+        (squeezed layout place.room (map (shifted place.dropped) entries.now)).1 source ∷ []) }
 {
+    if !(breaks_labels(layout) && has_wide_entry(place.room, layout.decor, entries)) {
+        return Ok(None);
+    }
     let line = squeezed_line(
         buffer,
         layout,
@@ -163,7 +161,15 @@ fn placed_squeezed<'a>(
         place.dropped,
         entries,
     )?;
-    placed_entries(buffer.allocator(), 0, layout, &line)
+    Ok(Some(line))
+}
+
+/// Whether one of these entries is wide, in a room of this many columns.
+fn has_wide_entry(room: usize, decor: DecorStyle, entries: &[LineAnnotation]) -> bool
+    requires columns { All HasPlace entries.now }
+    ensures value { result ≡ list_any (is_wide_entry room (length (placeholder_of decor))) entries.now }
+{
+    entries.iter().any(|entry| is_wide(room, decor, entry))
 }
 
 /// Begins so many rows for the strokes of a line below its source row, which is the last one, and draws the strokes.

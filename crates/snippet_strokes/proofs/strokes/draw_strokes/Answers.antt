@@ -16,17 +16,17 @@ use Rattle.snippet_strokes.proofs.CellLemmas.{drawn_strokes}
 use Rattle.snippet_strokes.proofs.EveryMark.{strokes_painted}
 use Rattle.snippet_strokes.proofs.LineFromValue.{own_none, own_strokes, painted_added}
 use Rattle.snippet_strokes.proofs.ShiftLemmas.{drawable_shifted}
-use Rattle.snippet_strokes.proofs.SqueezedLemmas.{Line, drawable_squeezed, shifted_none, squeezed_entries}
-use Rattle.snippet_strokes.proofs.Common.{append_assoc, squeezed, stroke_rows}
+use Rattle.snippet_strokes.proofs.SqueezedLemmas.{Line, drawable_squeezed, shifted_none}
+use Rattle.snippet_strokes.proofs.Common.{append_assoc, middles_replaced, squeezed, stroke_rows}
 use Rattle.snippet_labels.specs.Positions.{pieces_of}
 use Rattle.snippet_strokes.proofs.strokes.draw_strokes.Goals as goal
 
 -- the entries of the line, as they are drawn
 abbrev line_of : Layout → ℕ → ℕ → List LineAnnotation → List LineAnnotation
-line_of layout room dropped es = (squeezed layout room (map (shifted dropped) es, [])).0
+line_of layout room dropped es = (squeezed layout room (map (shifted dropped) es)).0
 
 can : (layout : Layout) (room dropped : ℕ) (es : List LineAnnotation) → AreDrawable layout es → AreDrawable layout (line_of layout room dropped es)
-can layout room dropped es drawable = drawable_squeezed layout room (map (shifted dropped) es, []) (drawable_shifted layout dropped es drawable)
+can layout room dropped es drawable = drawable_squeezed layout room (map (shifted dropped) es) (drawable_shifted layout dropped es drawable)
 
 are_from : {layout : Layout} {placed : List PlacedEntry} (es : List LineAnnotation) → ArePlaced layout es placed → ArePlaced layout (map (shifted 0)
     es) placed
@@ -195,8 +195,8 @@ returns c =
     omega (arith, c.in_ok-placed.ensures.last, ap length old_is, length_push above source) in
     record {
       value = on_ok_weaker c.cut_wide.result (λ value text above given other given_is.
-          let line : Line = squeezed layout c.args.place.room (map (shifted c.args.place.dropped) c.args.entries.now, given) in
-          let source : List Cell = line.1 in
+          let line : Line = squeezed layout c.args.place.room (map (shifted c.args.place.dropped) c.args.entries.now) in
+          let source : List Cell = middles_replaced layout c.args.place.room line.1 given in
           let old_is = c.in_ok-placed.ensures.row above given given_is in
           let all_rows : length new ≡ all = c.in_ok-draw_rows.ensures.count ∙ sym whole ∙ long in
           let is_wide : PlacedEntry → Bool = is_wide_at c.args.place.room layout.decor in
@@ -213,8 +213,7 @@ returns c =
           begun_is)
           flags_are (final_is (value ∙ sym (entries_cut layout c.args.place.room row c.deref-4.result.now c.deref-5.result.now new)))
           ∙ ap (λ xs. above ++ stroke_rows layout c.args.place.room closes xs source)
-          (shifted_none (line_of layout c.args.place.room c.args.place.dropped c.args.entries.now) ∙ squeezed_entries layout c.args.place.room
-          (map (shifted c.args.place.dropped) c.args.entries.now) [] given)
+          (shifted_none (line_of layout c.args.place.room c.args.place.dropped c.args.entries.now))
           ∙ ap (λ rows. above ++ rows)
           (sym (own_strokes layout c.args.place.room closes text c.args.place.dropped c.args.entries.now given other some)))
           c.cut_wide.ensures.value;
