@@ -16,6 +16,7 @@ headed_as d old new is keeps = record {
     is = ap string_bytes keeps.message ∙ is.heading.is;
   };
   code = ap (option_map code_seen) keeps.code ∙ is.code;
+  gone = keeps.gone ∙ is.gone;
 }
 
 shows_homes : (first : Bool) (text : Option (List ℕ)) (old new : Diagnostic) (homes : Vec (String Global)) → IsShownBy first text old new
@@ -29,11 +30,11 @@ shows_homes first (Some text) old new homes shows = (
 
 pub reads_homes : (d : Data) (diagnostic : Diagnostic) (homes : Vec (String Global)) → IsReadAs d diagnostic → IsReadAs d (record diagnostic { homes = homes })
 reads_homes d diagnostic homes reads = record {
-  headed = record { heading = reads.headed.heading; code = reads.headed.code };
+  headed = record { heading = reads.headed.heading; code = reads.headed.code; gone = reads.headed.gone };
   reader = reads.reader;
   told = record reads.told { homes = homes };
   tells = record {
-    headed = record { heading = reads.tells.headed.heading; code = reads.tells.headed.code };
+    headed = record { heading = reads.tells.headed.heading; code = reads.tells.headed.code; gone = reads.tells.headed.gone };
     places = reads.tells.places;
     children = reads.tells.children;
   };

@@ -281,3 +281,4 @@ pub record IsFindingOf (hand : AtHand) (d : Diagnostic) (f : Finding) : Type 0 w
   pub code : option_map (λ (c : Bor Code). c.now) f.code ≡ d.code
   pub marks : AllZip (IsMarkOf hand) d.spans.items f.marks.items
   pub remarks : AllZip (IsRemarkOf hand) d.children.items f.remarks.items
+  pub gone : f.shows_gone ≡ d.shows_gone

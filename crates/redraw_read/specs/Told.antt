@@ -78,9 +78,11 @@ code_told d = code_in (given (codes "code") d)
 pub record IsHeaded (d : Data) (diagnostic : Diagnostic) : Type 0 where
   pub heading : IsHeading d diagnostic.severity (string_bytes diagnostic.message)
   pub code : option_map code_seen diagnostic.code ≡ code_told d
+  pub gone : diagnostic.shows_gone ≡ false
 
 -- a diagnostic has the level, the message and the code of another
 pub record KeepsHeading (old new : Diagnostic) : Type 0 where
   pub severity : new.severity ≡ old.severity
   pub message : new.message ≡ old.message
   pub code : new.code ≡ old.code
+  pub gone : new.shows_gone ≡ old.shows_gone

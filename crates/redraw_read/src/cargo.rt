@@ -38,6 +38,7 @@ fn with_homes(node: &Node<'_, '_>, diagnostic: Diagnostic) -> Result<Diagnostic,
         spans: diagnostic.spans,
         children: diagnostic.children,
         homes,
+        shows_gone: diagnostic.shows_gone,
     })
 }
 

@@ -151,6 +151,7 @@ pub fn finding_in<'a>(
         code: diagnostic.code.as_ref(),
         marks,
         remarks,
+        shows_gone: diagnostic.shows_gone,
     })
 }
 

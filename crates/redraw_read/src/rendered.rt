@@ -268,6 +268,7 @@ fn as_shown(
         spans,
         children,
         homes: diagnostic.homes,
+        shows_gone: diagnostic.shows_gone,
     })
 }
 

@@ -204,6 +204,7 @@ fn told_diagnostic(node: &Node<'_, '_>, reader: &Reader) -> Result<Diagnostic, F
         spans,
         children,
         homes: Vec::new(node.alloc),
+        shows_gone: false,
     })
 }
 

@@ -100,6 +100,7 @@ fn apart_by(alloc: Global, text: &str, diagnostic: Diagnostic) -> Result<Diagnos
         spans,
         children,
         homes: diagnostic.homes,
+        shows_gone: diagnostic.shows_gone,
     })
 }
 

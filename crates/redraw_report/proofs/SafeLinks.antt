@@ -1,6 +1,6 @@
 -- A report leads nowhere but to addresses that may be links.
 use Rattle.std.proofs.Common.{◌≡◌, ℕ, Bool, true, false, List, [], ◌∷◌, map, if◌then◌else◌, subst, sym, rules}
-use Rattle.std.specs.Prelude.{Option, None, Some, IfSome, IsTrue, option_and_then, option_map, string_bytes}
+use Rattle.std.specs.Prelude.{◌&&◌, Option, None, Some, IfSome, IsTrue, option_and_then, option_map, string_bytes}
 use Rattle.std.specs.Borrow.{Bor}
 use Rattle.std.specs.List.{All}
 use Rattle.std.proofs.lemmas.List.Elements.{All-cons, All-nil}
@@ -32,8 +32,8 @@ safe-code None = tt
 safe-code (Some code) = safe-address (option_map string_bytes code.now.url)
 
 -- the group of a remark leads nowhere
-safe-remark : (r : Remark) → LeadsSafely (remark_section r)
-safe-remark r =
+safe-remark : (gone : Bool) (r : Remark) → LeadsSafely (remark_section gone r)
+safe-remark gone r =
     elim (r.goes_on)
     as (λ b. IfSome (option_and_then (λ (named : Named). named.url) (option_and_then (λ (headed : Headed). headed.name)
     (if b then None else Some (remark_headed r)))) (λ address. IsTrue (is_link_address address))) [
@@ -42,19 +42,21 @@ safe-remark r =
     ]
 
 -- the groups of remarks lead nowhere
-safe-sections : (s : Section) → LeadsSafely s → (rs : List Remark) → All LeadsSafely (sections_from s rs)
-safe-sections s safe [] = All-cons LeadsSafely s [] safe (All-nil LeadsSafely)
-safe-sections s safe (r ∷ rs) =
+safe-sections : (gone : Bool) (s : Section) → LeadsSafely s → (rs : List Remark) → All LeadsSafely (sections_from gone s rs)
+safe-sections gone s safe [] = All-cons LeadsSafely s [] safe (All-nil LeadsSafely)
+safe-sections gone s safe (r ∷ rs) =
+    let own = remark_section gone r in
     elim (is_bare r)
-    as (λ b. All LeadsSafely (if b then sections_from (with_message s r) rs else s ∷ sections_from (remark_section r) rs)) [
-      | true ↦ safe-sections (with_message s r) safe rs
-      | false ↦ All-cons LeadsSafely s (sections_from (remark_section r) rs) safe (safe-sections (remark_section r) (safe-remark r) rs)
+    as (λ b. All LeadsSafely (if b then sections_from gone (with_message s r) rs else s ∷ sections_from gone own rs)) [
+      | true ↦ safe-sections gone (with_message s r) safe rs
+      | false ↦ All-cons LeadsSafely s (sections_from gone own rs) safe (safe-sections gone own (safe-remark gone r) rs)
     ]
 
 -- the groups of a finding
-safe-report : (f : Finding) → All LeadsSafely (report_of f)
-safe-report f = safe-sections (section_of (headed_of f) (marked_parts f.marks.items)) (safe-code f.code) f.remarks.items
+safe-report : (has_room : Bool) (f : Finding) → All LeadsSafely (report_of has_room f)
+safe-report has_room f =
+    safe-sections (has_room && f.shows_gone) (section_of (headed_of f) (marked_parts f.marks.items)) (safe-code f.code) f.remarks.items
 
 -- the report of a finding
-pub safe-groups : (groups : List Group) (f : Finding) → map section_view groups ≡ report_of f → HasSafeLinks groups
-safe-groups groups f told = subst (λ (ss : List Section). All LeadsSafely ss) (sym told) (safe-report f)
+pub safe-groups : (groups : List Group) (has_room : Bool) (f : Finding) → map section_view groups ≡ report_of has_room f → HasSafeLinks groups
+safe-groups groups has_room f told = subst (λ (ss : List Section). All LeadsSafely ss) (sym told) (safe-report has_room f)

@@ -1,4 +1,5 @@
 -- The vocabulary of reports that are made from what tools tell.
+pub mod Gone
 pub mod Links
 pub mod Region
 pub mod Report

@@ -3,7 +3,7 @@ use Rattle.std.specs.Prelude.{string_bytes, ℕ, ◌-◌, Bool, true, false, nat
 use Rattle.std.specs.Prelude.{take, not, if◌then◌else◌}
 use Rattle.std.specs.List.{filter, flat_map, list_any, repeat}
 use Rattle.std.specs.Fmt.{decimal}
-use Rattle.std.specs.Option.{option_map}
+use Rattle.std.specs.Option.{option_map, option_map_or}
 use Rattle.std.specs.Borrow.{Bor}
 use Rattle.snippet_style.specs.declared.role.LevelInner.TheVariants as kind
 use Rattle.snippet_text.specs.Normalized.{norm}
@@ -21,6 +21,8 @@ use Rattle.redraw_report.specs.declared.finding.MarkedSpan.{MarkedSpan}
 use Rattle.redraw_report.specs.declared.finding.Offer.{Offer}
 use Rattle.redraw_report.specs.declared.finding.Remark.{Remark}
 use Rattle.redraw_report.specs.declared.finding.Shown.{Shown}
+use Rattle.redraw_report.specs.declared.shown_text.ShownText.{ShownText}
+use Rattle.redraw_report.specs.Gone.{gone_lines}
 use Rattle.redraw_report.specs.Links.{safe_address}
 use Rattle.redraw_report.specs.SameSource.{same_source}
 use Rattle.redraw_report.specs.ShownText.{shown_text}
@@ -114,16 +116,34 @@ marked_parts marks = flat_map (source_parts marks) (sources_of marks)
 abbrev pub edited_of : Replacement → Edited
 edited_of c = record { start = c.start; end = c.end; text = c.text.now }
 
--- an offer: the lines of its source with all of its edits; nothing where the source has no lines
-abbrev pub edits_on : Offer → Content → List Part
-edits_on offer (content.Lines text first_line) =
-    Edits (file_lines offer.source.path.now (shown_text text) first_line offer.is_folded) (map edited_of offer.changes.items) ∷ []
-edits_on offer (content.Nothing line column) = []
-edits_on offer (content.Blank line column) = []
+-- the lines of an offer's source, as they are shown
+abbrev pub offered_lines : Offer → ShownText → ℕ → Lines
+offered_lines offer text first_line = file_lines offer.source.path.now (shown_text text) first_line offer.is_folded
+
+-- the lines that the only one of these edits takes out, if those that it puts in don't tell: as an edit that takes them out
+abbrev pub gone_edits : List ℕ → List Replacement → List Edited
+gone_edits text [] = []
+gone_edits text (c ∷ []) = option_map_or (λ at. record { start = at.0; end = at.1; text = [] } ∷ []) (gone_lines text c) []
+gone_edits text (c ∷ d ∷ cs) = []
+
+-- the same, shown by themselves
+abbrev pub gone_parts : Lines → List Replacement → List Part
+gone_parts lines changes =
+    let gone = gone_edits lines.text changes in
+    if length gone == 0 then [] else Edits lines gone ∷ []
+
+-- an offer: the lines of its source with all of its edits; nothing where the source has no lines. Above them stand the lines that go,
+-- if they are to be shown too
+abbrev pub edits_on : Bool → Offer → Content → List Part
+edits_on shows_gone offer (content.Lines text first_line) =
+    let lines = offered_lines offer text first_line in
+    (if shows_gone then gone_parts lines offer.changes.items else []) ++ Edits lines (map edited_of offer.changes.items) ∷ []
+edits_on shows_gone offer (content.Nothing line column) = []
+edits_on shows_gone offer (content.Blank line column) = []
 
 -- the same of the source as it is shown
-abbrev pub offered : Offer → List Part
-offered offer = edits_on offer offer.source.content
+abbrev pub offered : Bool → Offer → List Part
+offered shows_gone offer = edits_on shows_gone offer offer.source.content
 
 -- how many offers there are beside those that are shown
 abbrev pub more_text : ℕ → List ℕ
@@ -134,9 +154,10 @@ more_text more =
 abbrev pub more_parts : ℕ → List Part
 more_parts more = if nat_lt 0 more then Says (level_of Plain) (chars (more_text more)) ∷ [] else []
 
--- the first four of some offers, and how many more there are
-abbrev pub offers_parts : List Offer → List Part
-offers_parts offers = flat_map offered (take 4 offers) ++ more_parts (length offers - 4)
+-- the first four of some offers, and how many more there are. The lines that an edit takes out are shown too, if they are to be and there
+-- is no other offer that they could be taken for
+abbrev pub offers_parts : Bool → List Offer → List Part
+offers_parts shows_gone offers = flat_map (offered (shows_gone && length offers == 1)) (take 4 offers) ++ more_parts (length offers - 4)
 
 -- the name of a rule, and its address, where that may be a link
 abbrev pub named_of : Code → Named
@@ -166,12 +187,12 @@ abbrev pub remark_title : Remark → Option Headed
 remark_title r = if r.goes_on then None else Some (remark_headed r)
 
 -- the group of a remark: what is shown of its places, and the edits that it offers
-abbrev pub remark_section : Remark → Section
-remark_section r =
+abbrev pub remark_section : Bool → Remark → Section
+remark_section shows_gone r =
     record {
       kind = (level_of r.severity).kind;
       title = remark_title r;
-      parts = marked_parts r.marks.items ++ offers_parts r.offers.items;
+      parts = marked_parts r.marks.items ++ offers_parts shows_gone r.offers.items;
     }
 
 -- whether a remark has neither places nor edits
@@ -184,11 +205,14 @@ with_message section r =
     record section { parts = section.parts ++ said r.severity r.message.now ∷ [] }
 
 -- a group, and the groups of some remarks: one without places and edits is a message of the group before it
-abbrev pub sections_from : Section → List Remark → List Section
-sections_from section [] = section ∷ []
-sections_from section (r ∷ rs) =
-    if is_bare r then sections_from (with_message section r) rs else section ∷ sections_from (remark_section r) rs
+abbrev pub sections_from : Bool → Section → List Remark → List Section
+sections_from shows_gone section [] = section ∷ []
+sections_from shows_gone section (r ∷ rs) =
+    if is_bare r then sections_from shows_gone (with_message section r) rs
+    else section ∷ sections_from shows_gone (remark_section shows_gone r) rs
 
--- the report of a finding: the group of its message and places, then those of what else is said
-abbrev pub report_of : Finding → List Section
-report_of f = sections_from (section_of (headed_of f) (marked_parts f.marks.items)) f.remarks.items
+-- the report of a finding: the group of its message and places, then those of what else is said. The lines that edits take out are shown
+-- too where a form has room for them, unless the finding isn't to show them
+abbrev pub report_of : Bool → Finding → List Section
+report_of has_room f =
+    sections_from (has_room && f.shows_gone) (section_of (headed_of f) (marked_parts f.marks.items)) f.remarks.items

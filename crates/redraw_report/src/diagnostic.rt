@@ -17,6 +17,9 @@ pub struct Diagnostic {
     /// path that can't be found is looked for below the folders of the files too, and upwards; a path below one of the
     /// folders below that of all files.
     pub homes: Vec<String>,
+    /// Whether of an edit of several lines those that go are shown too, as in a diff. They aren't where the report has
+    /// to be what its tool prints.
+    pub shows_gone: bool,
 }
 
 /// How severe something is.

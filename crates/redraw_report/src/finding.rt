@@ -47,6 +47,8 @@ pub struct Finding<'a> {
     pub marks: Vec<MarkedSpan<'a>>,
     /// What else is said of it.
     pub remarks: Vec<Remark<'a>>,
+    /// Whether of an edit of several lines those that go are shown too.
+    pub shows_gone: bool,
 }
 
 /// A place that is spoken of.

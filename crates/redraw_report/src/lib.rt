@@ -4,6 +4,7 @@
 
 pub mod diagnostic;
 pub mod finding;
+mod gone;
 pub mod locate;
 mod marks;
 mod offers;

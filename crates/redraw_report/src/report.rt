@@ -26,11 +26,15 @@ fn group_of<'a>(title: Title<'a>, elements: Vec<Element<'a>>) -> Group<'a>
 }
 
 /// The group of a remark that has places or edits.
-fn remark_group<'a>(alloc: Global, remark: &Remark<'a>) -> Result<Group<'a>, AllocError>
-    ensures value { IfOk result (λ group. section_view group ≡ remark_section remark.now) }
+fn remark_group<'a>(
+    alloc: Global,
+    remark: &Remark<'a>,
+    shows_gone: bool,
+) -> Result<Group<'a>, AllocError>
+    ensures value { IfOk result (λ group. section_view group ≡ remark_section shows_gone remark.now) }
 {
     let title = title_if(alloc, remark)?;
-    let elements = remark_elements(alloc, remark)?;
+    let elements = remark_elements(alloc, remark, shows_gone)?;
     Ok(Group {
         level: kind_of(remark.severity),
         title,
@@ -50,12 +54,16 @@ fn title_if<'a>(alloc: Global, remark: &Remark<'a>) -> Result<Option<Title<'a>>,
 }
 
 /// What stands below the title of such a remark: its places, and the edits that it offers.
-fn remark_elements<'a>(alloc: Global, remark: &Remark<'a>) -> Result<Vec<Element<'a>>, AllocError>
+fn remark_elements<'a>(
+    alloc: Global,
+    remark: &Remark<'a>,
+    shows_gone: bool,
+) -> Result<Vec<Element<'a>>, AllocError>
     ensures value { IfOk result (λ elements. map part_view elements.items
-        ≡ marked_parts remark.now.marks.items ++ offers_parts remark.now.offers.items) }
+        ≡ marked_parts remark.now.marks.items ++ offers_parts shows_gone remark.now.offers.items) }
 {
     let mut elements = marked_elements(alloc, &remark.marks)?;
-    add_offers(alloc, &mut elements, &remark.offers)?;
+    add_offers(alloc, &mut elements, &remark.offers, shows_gone)?;
     Ok(elements)
 }
 
@@ -94,16 +102,18 @@ fn add_remark<'a>(
     groups: &mut Vec<Group<'a>>,
     group: Group<'a>,
     remark: &Remark<'a>,
+    shows_gone: bool,
 ) -> Result<Group<'a>, AllocError>
     ensures taken { IfOk result (λ g. (rest : List Remark)
-        → map section_view groups.new.items ++ sections_from (section_view g) rest
-        ≡ map section_view groups.old.items ++ sections_from (section_view group.entry) (remark.now ∷ rest)) }
+        → map section_view groups.new.items ++ sections_from shows_gone (section_view g) rest
+        ≡ map section_view groups.old.items
+        ++ sections_from shows_gone (section_view group.entry) (remark.now ∷ rest)) }
 {
     if is_bare(remark) {
         with_message(alloc, group, remark)
     } else {
         groups.push(group)?;
-        remark_group(alloc, remark)
+        remark_group(alloc, remark, shows_gone)
     }
 }
 
@@ -113,24 +123,31 @@ fn add_remarks<'a>(
     groups: &mut Vec<Group<'a>>,
     mut group: Group<'a>,
     remarks: &[Remark<'a>],
+    shows_gone: bool,
 ) -> Result<Group<'a>, AllocError>
     ensures taken { IfOk result (λ g. map section_view groups.new.items ++ section_view g ∷ []
-        ≡ map section_view groups.old.items ++ sections_from (section_view group.entry) remarks.now) }
+        ≡ map section_view groups.old.items ++ sections_from shows_gone (section_view group.entry) remarks.now) }
 {
     for remark in remarks {
-        group = add_remark(alloc, groups, group, remark)?;
+        group = add_remark(alloc, groups, group, remark, shows_gone)?;
     }
     Ok(group)
 }
 
-/// The report of a finding. It links to nothing but addresses that may be links.
-pub fn report<'a>(alloc: Global, finding: &Finding<'a>) -> Result<Vec<Group<'a>>, AllocError>
-    ensures told { IfOk result (λ groups. map section_view groups.items ≡ report_of finding.now) }
+/// The report of a finding, for a form that has room for the lines that edits take out, or for one that hasn't. It
+/// links to nothing but addresses that may be links.
+pub fn report<'a>(
+    alloc: Global,
+    finding: &Finding<'a>,
+    has_room: bool,
+) -> Result<Vec<Group<'a>>, AllocError>
+    ensures told { IfOk result (λ groups. map section_view groups.items ≡ report_of has_room finding.now) }
     ensures safe { IfOk result (λ groups. HasSafeLinks groups.items) }
 {
     let mut groups = Vec::new(alloc);
     let first = first_group(alloc, finding)?;
-    let last = add_remarks(alloc, &mut groups, first, &finding.remarks)?;
+    let shows_gone = has_room && finding.shows_gone;
+    let last = add_remarks(alloc, &mut groups, first, &finding.remarks, shows_gone)?;
     groups.push(last)?;
     Ok(groups)
 }

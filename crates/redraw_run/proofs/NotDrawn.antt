@@ -70,25 +70,25 @@ speaking = record plain_settings { no_graphics = true }
 abbrev BeginsTitled : Headed → List Section → Type 0
 BeginsTitled h sections = (first : Section) × (rest : List Section) × (sections ≡ first ∷ rest) × (first.title ≡ Some h)
 
-by_remark : (h : Headed) (s : Section) (r : Remark) (rs : List Remark) (bare : Bool) → is_bare r ≡ bare → s.title ≡ Some h
-    → BeginsTitled h (sections_from (with_message s r) rs) → BeginsTitled h (sections_from s (r ∷ rs))
-by_remark h s r rs true e is (first, rest, split, titled) = (
+by_remark : (gone : Bool) (h : Headed) (s : Section) (r : Remark) (rs : List Remark) (bare : Bool) → is_bare r ≡ bare → s.title ≡ Some h
+    → BeginsTitled h (sections_from gone (with_message s r) rs) → BeginsTitled h (sections_from gone s (r ∷ rs))
+by_remark gone h s r rs true e is (first, rest, split, titled) = (
   first,
   rest,
-  ap (λ (b : Bool). if b then sections_from (with_message s r) rs else s ∷ sections_from (remark_section r) rs) e ∙ split,
+  ap (λ (b : Bool). if b then sections_from gone (with_message s r) rs else s ∷ sections_from gone (remark_section gone r) rs) e ∙ split,
   titled,
 )
-by_remark h s r rs false e is below = (
+by_remark gone h s r rs false e is below = (
   s,
-  sections_from (remark_section r) rs,
-  ap (λ (b : Bool). if b then sections_from (with_message s r) rs else s ∷ sections_from (remark_section r) rs) e,
+  sections_from gone (remark_section gone r) rs,
+  ap (λ (b : Bool). if b then sections_from gone (with_message s r) rs else s ∷ sections_from gone (remark_section gone r) rs) e,
   is,
 )
 
 -- the group that a report begins with has the title of the finding
-begins_titled : (h : Headed) (s : Section) (rs : List Remark) → s.title ≡ Some h → BeginsTitled h (sections_from s rs)
-begins_titled h s [] is = (s, [], refl, is)
-begins_titled h s (r ∷ rs) is = by_remark h s r rs (is_bare r) refl is (begins_titled h (with_message s r) rs is)
+begins_titled : (gone : Bool) (h : Headed) (s : Section) (rs : List Remark) → s.title ≡ Some h → BeginsTitled h (sections_from gone s rs)
+begins_titled gone h s [] is = (s, [], refl, is)
+begins_titled gone h s (r ∷ rs) is = by_remark gone h s r rs (is_bare r) refl is (begins_titled gone h (with_message s r) rs is)
 
 -- what the text form of a title begins with, and what comes after it
 abbrev titled_text : Level → Title → List FormPiece → List FormPiece → List ℕ
@@ -129,7 +129,7 @@ pub nothing_drawn : (files : List File) (d : Diagnostic) → d.severity ≡ Erro
     → ShowsFinding record { settings = speaking; markup = Bare; is_workflow = false } files d [] → ⊥
 nothing_drawn files d error shown =
     let f : Finding = shown.finding in
-    let (first, rest, split, titled) = begins_titled (headed_of f) (section_of (headed_of f) (marked_parts f.marks.items)) f.remarks.items refl in
+    let (first, rest, split, titled) = begins_titled false (headed_of f) (section_of (headed_of f) (marked_parts f.marks.items)) f.remarks.items refl in
     by_groups f shown.groups first rest (shown.told ∙ split) titled (shown.is.severity ∙ error)
     (unset-shows _ _ _ _ shown.shows refl).are.0
 

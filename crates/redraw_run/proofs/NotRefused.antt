@@ -1,5 +1,5 @@
 -- What isn't refused: why wrong bodies give no text for small findings and inputs contradicts what a reason is.
-use Rattle.std.proofs.Common.{◌≡◌, ◌∙◌, ◌++◌, ℕ, Bool, false, true, List, [], ◌∷◌, Option, None, Some, ap, ap₂, map, refl, sym}
+use Rattle.std.proofs.Common.{◌&&◌, ◌≡◌, ◌∙◌, ◌++◌, ℕ, Bool, false, true, List, [], ◌∷◌, Option, None, Some, ap, ap₂, map, refl, sym}
 use Rattle.std.specs.List.{AllZip}
 use Rattle.std.specs.Option.{option_or}
 use Rattle.std.specs.Prelude.{Err, if◌then◌else◌}
@@ -21,7 +21,7 @@ use Rattle.redraw_report.specs.declared.finding.Finding.{Finding}
 use Rattle.redraw_report.specs.declared.finding.MarkedSpan.{MarkedSpan}
 use Rattle.redraw_report.specs.declared.finding.Remark.{Remark}
 use Rattle.redraw_run.specs.Deeds.{Happens, State}
-use Rattle.redraw_run.specs.DrawnFinding.{RefusesFinding, refusal_by}
+use Rattle.redraw_run.specs.DrawnFinding.{RefusesFinding, has_room, refusal_by}
 use Rattle.redraw_run.specs.Fates.{Halts, IsFateOfPiece}
 use Rattle.redraw_run.specs.declared.look.ReportRenderer.{ReportRenderer}
 
@@ -72,7 +72,8 @@ bare_finding_refused r files d why graphics long spans children h =
     let remarks : f.remarks.items ≡ [] = none_zipped _ d.children.items f.remarks.items children h.is.remarks in
     let graphic : form_of r.settings ≡ Graphic = rw (graphics, long) refl in
     let told : map section_view h.groups ≡ section_of (headed_of f) [] ∷ [] = h.told
-    ∙ ap₂ (λ (ms : List MarkedSpan) (rs : List Remark). sections_from (section_of (headed_of f) (marked_parts ms)) rs) marks remarks in
+    ∙ ap₂ (λ (ms : List MarkedSpan) (rs : List Remark). sections_from (has_room r && f.shows_gone) (section_of (headed_of f) (marked_parts ms)) rs)
+    marks remarks in
     by_groups r h.groups (section_of (headed_of f) []) why graphic told refl h.refused
 
 -- ---- an input in UTF-16

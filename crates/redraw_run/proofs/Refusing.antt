@@ -16,7 +16,8 @@ use Rattle.redraw_report.specs.Report.{report_of}
 use Rattle.redraw_report.specs.View.{section_view}
 use Rattle.redraw_report.specs.declared.diagnostic.Diagnostic.{Diagnostic}
 use Rattle.redraw_report.specs.declared.finding.Finding.{Finding}
-use Rattle.redraw_run.specs.DrawnFinding.{DrawsFinding, IsCounted, IsLeftOut, IsPrintedAs, IsRefusalOf, IsUndrawn, Refuses, ShowsFinding, ending_after}
+use Rattle.redraw_run.specs.DrawnFinding.{DrawsFinding, IsCounted, IsLeftOut, IsPrintedAs, IsRefusalOf, IsUndrawn, Refuses, ShowsFinding}
+use Rattle.redraw_run.specs.DrawnFinding.{ending_after, has_room}
 use Rattle.redraw_run.specs.Article.{IsPlaced}
 use Rattle.std.specs.declared.alloc.AllocError.{AllocError}
 use Rattle.redraw_command.specs.Tally.{one_more}
@@ -29,7 +30,7 @@ use Rattle.redraw_run.proofs.Done.{does_refused, does_told, shown_refused}
 
 undrawn_by : (r : ReportRenderer) (files : List File) (d : Diagnostic) (finding : Finding) (groups : List Group) (why : RenderError)
     → IsFindingOf record { files = files; home = home_of d.homes.items; is_short = r.settings.short_message } d finding
-    → map section_view groups ≡ report_of finding → IsRefusalOf r groups why → IsUndrawn r files d why
+    → map section_view groups ≡ report_of (has_room r) finding → IsRefusalOf r groups why → IsUndrawn r files d why
 undrawn_by r files d finding groups why is told (inl refused) =
     inl record { finding = finding; is = is; groups = groups; told = told; refused = refused }
 undrawn_by r files d finding groups why is told (inr memory) = inr memory
@@ -38,7 +39,7 @@ undrawn_by r files d finding groups why is told (inr memory) = inr memory
 pub undrawn_of : {T : Type 0} (r : ReportRenderer) (files : List File) (d : Diagnostic) (finding : Finding) (groups : List Group)
     (result : Result T RenderError)
     → IsFindingOf record { files = files; home = home_of d.homes.items; is_short = r.settings.short_message } d finding
-    → map section_view groups ≡ report_of finding → IfErr result (IsRefusalOf r groups) → IfErr result (IsUndrawn r files d)
+    → map section_view groups ≡ report_of (has_room r) finding → IfErr result (IsRefusalOf r groups) → IfErr result (IsUndrawn r files d)
 undrawn_of r files d finding groups (Ok text) is told h = tt
 undrawn_of r files d finding groups (Err why) is told h = undrawn_by r files d finding groups why is told h
 

@@ -1,5 +1,5 @@
 -- What is drawn of a finding, and what is written of it.
-use Rattle.std.specs.Prelude.{◌≡◌, ◌⊎◌, ℕ, Bool, List, [], ◌∷◌, ◌++◌, Option, Some, None, alloc_error, map, if◌then◌else◌}
+use Rattle.std.specs.Prelude.{◌≡◌, ◌||◌, not, ◌⊎◌, ℕ, Bool, List, [], ◌∷◌, ◌++◌, Option, Some, None, alloc_error, map, if◌then◌else◌}
 use Rattle.annotate_snippets.specs.Laws.Forms.{HasLaws}
 use Rattle.annotate_snippets.specs.Forms.{ShowsReport}
 use Rattle.annotate_snippets.specs.Fault.{first_refusal, refusal_in}
@@ -49,6 +49,10 @@ HasLawsAs Bare r groups text = HasLaws r groups r.stylesheet text
 abbrev pub refusal_by : ReportRenderer → List Group → Option RenderError
 refusal_by r groups = if is_html r.markup then refusal_in Graphic groups else first_refusal r.settings groups
 
+-- whether a form has room for the lines that edits take out: the text form would read them as an edit of their own
+abbrev pub has_room : ReportRenderer → Bool
+has_room r = is_html r.markup || not r.settings.no_graphics
+
 -- the text shows the report of the finding that the diagnostic reports, its places looked for in these files; and it has the laws of
 -- that report's text. The report leads nowhere but to addresses that may be links, and by these laws the text links to what the report
 -- leads to: so whatever a log says, inside the code of a link stands such an address
@@ -56,7 +60,7 @@ pub record ShowsFinding (r : ReportRenderer) (files : List File) (d : Diagnostic
   pub finding : Finding
   pub is : IsFindingOf record { files = files; home = home_of d.homes.items; is_short = r.settings.short_message } d finding
   pub groups : List Group
-  pub told : map section_view groups ≡ report_of finding
+  pub told : map section_view groups ≡ report_of (has_room r) finding
   pub safe : HasSafeLinks groups
   pub shows : ShowsAs r.markup r.settings groups text
   pub laws : HasLawsAs r.markup r.settings groups text
@@ -73,7 +77,7 @@ pub record RefusesFinding (r : ReportRenderer) (files : List File) (d : Diagnost
   pub finding : Finding
   pub is : IsFindingOf record { files = files; home = home_of d.homes.items; is_short = r.settings.short_message } d finding
   pub groups : List Group
-  pub told : map section_view groups ≡ report_of finding
+  pub told : map section_view groups ≡ report_of (has_room r) finding
   pub refused : refusal_by r groups ≡ Some why
 
 -- for some reason

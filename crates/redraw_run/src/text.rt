@@ -2,6 +2,7 @@
 ghost use Rattle.std.specs.Prelude.{◌≡◌, IfErr, IfOk, string_bytes};
 ghost use Rattle.redraw_read.specs.Counted.{capped, clamped_in, undrawn_in};
 ghost use Rattle.redraw_read.specs.Placed.{hand_for};
+ghost use Rattle.redraw_run.specs.DrawnFinding as drawn;
 ghost use Rattle.redraw_run.specs.DrawnFinding.{HasLawsAs, IsRefusalOf, IsUndrawn, ShowsAs, ShowsFinding};
 
 use crate::look::ReportRenderer;
@@ -46,12 +47,19 @@ pub fn drawn_of<S: SourceFiles + Drop>(
 {
     let mut placing = Placing::new(alloc);
     let finding = placing.finding(sources, diagnostic, renderer.settings.short_message)?;
-    let groups = report(alloc, &finding)?;
+    let groups = report(alloc, &finding, has_room(renderer))?;
     Ok(FindingText {
         text: render_fitting(alloc, renderer, &groups),
         clamped: placing.clamped,
         undrawn: placing.undrawn,
     })
+}
+
+/// Whether the form has room for the lines that edits take out: the text form would read them as an edit of their own.
+fn has_room(renderer: &ReportRenderer) -> bool
+    ensures value { result ≡ drawn.has_room renderer.now }
+{
+    renderer.markup.is_html() || !renderer.settings.no_graphics
 }
 
 /// The text of a report, in HTML what stands in its article; refused as if for memory where one of its texts is longer

@@ -84,6 +84,7 @@ finding_by path d = record {
   places = places_in path d;
   remarks = remarks_in path d;
   homes = [];
+  shows_gone = true;
 }
 
 -- the same of a message that is an object, in the file of `filePath`

@@ -81,6 +81,7 @@ pub record Found : Type 0 where
   pub places : List Place
   pub remarks : List Remark
   pub homes : List (List ℕ)
+  pub shows_gone : Bool
 
 abbrev pub found_view : Diagnostic → Found
 found_view d = record {
@@ -90,6 +91,7 @@ found_view d = record {
   places = map place_view d.spans.items;
   remarks = map remark_view d.children.items;
   homes = map string_bytes d.homes.items;
+  shows_gone = d.shows_gone;
 }
 
 -- the help that suggests some edits, all of which are to be made

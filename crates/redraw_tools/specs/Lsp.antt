@@ -93,6 +93,7 @@ finding_by document d = record {
   places = places_in document d;
   remarks = [];
   homes = [];
+  shows_gone = false;
 }
 
 -- the same of one that is an object

@@ -1,5 +1,5 @@
 -- What a report of a SARIF log's result has: its level, its name, its message, and its places.
-use Rattle.std.specs.Prelude.{◌≡◌, List, codes, string_bytes}
+use Rattle.std.specs.Prelude.{◌≡◌, List, codes, string_bytes, true}
 use Rattle.serde_json.specs.Data.{Data}
 use Rattle.json_lines.specs.Lenient.{object_at}
 use Rattle.redraw_report.specs.declared.diagnostic.Diagnostic.{Diagnostic}
@@ -15,13 +15,14 @@ abbrev pub ArePlacesAndSteps : Data → Unit → Data → List FileSpan → Type
 ArePlacesAndSteps run unit result spans =
     (own : List FileSpan) × ArePlaces run unit result own × GoesOn own spans
 
--- the same and its level, name and message, by its rule, if it has one
+-- the same and its level, name and message, by its rule, if it has one; the lines that its fixes take out are shown too
 pub record IsTold (run : Data) (unit : Unit) (result : Data) (told : Diagnostic) : Type 0 where
   pub level : told.severity ≡ level_of result (rule_in run result)
   pub name : code_view told.code ≡ name_of told.severity result (rule_in run result)
   pub message : string_bytes told.message
       ≡ message_of (part_with_rule run result) (rule_in run result) (object_at (codes "message") result)
   pub places : ArePlacesAndSteps run unit result told.spans.items
+  pub gone : told.shows_gone ≡ true
 
 -- the same where the columns of the run count in this unit
 abbrev pub IsResultOf : Data → Unit → Data → Diagnostic → Type 0

@@ -57,6 +57,7 @@ finding_by unit l s = record {
   places = places_of l s unit;
   remarks = [];
   homes = [];
+  shows_gone = false;
 }
 
 abbrev pub finding_of : Unit → Line → Found

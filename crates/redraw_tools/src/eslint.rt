@@ -35,6 +35,7 @@ pub fn eslint_finding(
         spans: spans_of(alloc, path, reported, problems)?,
         children: fixes_of(alloc, path, reported, problems)?,
         homes: Vec::new(alloc),
+        shows_gone: true,
     }))
 }
 

@@ -166,6 +166,7 @@ fn finding_of(alloc: Global, heading: &Heading<'_>, unit: Unit) -> Result<Diagno
         spans: spans_of(alloc, heading, &said, unit)?,
         children: Vec::new(alloc),
         homes: Vec::new(alloc),
+        shows_gone: false,
     })
 }
 

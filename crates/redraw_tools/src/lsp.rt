@@ -35,6 +35,7 @@ pub fn lsp_finding(
         spans: spans_of(alloc, document, reported, problems)?,
         children: Vec::new(alloc),
         homes: Vec::new(alloc),
+        shows_gone: false,
     }))
 }
 

@@ -129,6 +129,7 @@ fn diagnostic_of(
         spans: told.spans,
         children: told.children,
         homes: bases_of(context.alloc, context.run)?,
+        shows_gone: true,
     })
 }
 

@@ -7,4 +7,4 @@ use Rattle.redraw_report.proofs.offers.add_each_offer.Given as goal
 -- what was added so far
 abbrev pub invariant-loop-offer : goal.invariant-loop-offer
 invariant-loop-offer l =
-    map part_view l.elements.items ≡ map part_view l.initial.elements.items ++ flat_map offered (take l.offer-index l.offers)
+    map part_view l.elements.items ≡ map part_view l.initial.elements.items ++ flat_map (offered l.shows_gone) (take l.offer-index l.offers)

@@ -12,9 +12,11 @@ returns-in_ok-push c =
     let new = c.push.new.self.items in
     let last = c.args.group in
     let r = c.args.remark.now in
+    let gone = c.args.shows_gone in
     record {
-      taken = IfOk-weaker c.remark_group.result (λ g. section_view g ≡ remark_section r)
-          (λ g. (rest : List Remark) → map section_view new ++ sections_from (section_view g) rest
-          ≡ map section_view old ++ sections_from (section_view last) (r ∷ rest))
-          (λ g is. own-group old new last g r c.in_ok-push.ensures.items (sym c.is_bare.ensures.value ∙ c.if-is_bare.false) is) c.remark_group.ensures.value;
+      taken = IfOk-weaker c.remark_group.result (λ g. section_view g ≡ remark_section gone r)
+          (λ g. (rest : List Remark) → map section_view new ++ sections_from gone (section_view g) rest
+          ≡ map section_view old ++ sections_from gone (section_view last) (r ∷ rest))
+          (λ g is. own-group gone old new last g r c.in_ok-push.ensures.items (sym c.is_bare.ensures.value ∙ c.if-is_bare.false) is)
+          c.remark_group.ensures.value;
     }

@@ -7,5 +7,5 @@ use Rattle.redraw_report.proofs.report.report.Goals as goal
 
 pub returns-clause-safe : goal.returns-clause-safe
 returns-clause-safe c =
-    let told : map section_view c.push.new.self.items ≡ report_of c.args.finding.now = first_of (search rules, grind (arith, common_steps)) in
-    safe-groups c.push.new.self.items c.args.finding.now told
+    let told : map section_view c.push.new.self.items ≡ report_of c.args.has_room c.args.finding.now = first_of (search rules, grind (arith, common_steps)) in
+    safe-groups c.push.new.self.items c.args.has_room c.args.finding.now told
