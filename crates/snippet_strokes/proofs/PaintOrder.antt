@@ -1,7 +1,7 @@
 -- The order that entries are painted in.
 use Rattle.std.proofs.lemmas.Grind.{common_steps}
 use Rattle.snippet_strokes.proofs.Common.{◌≡◌, ℕ, zero, suc, ◌==◌, ◌&&◌, ◌||◌, nat_lt, not, Bool, true, false, List, [], ◌∷◌, map}
-use Rattle.snippet_strokes.proofs.Common.{refl, All, ◌<◌, ◌++◌, ◌∙◌, ap, sym, subst, arith, inl, inr, nat_cmp, is_lt, reverse, IsStrictWeakOrder}
+use Rattle.snippet_strokes.proofs.Common.{refl, length, ◌≤◌, All, ◌<◌, ◌++◌, ◌∙◌, ap, sym, subst, arith, inl, inr, nat_cmp, is_lt, reverse, IsStrictWeakOrder}
 use Rattle.snippet_strokes.proofs.Common.{IsPermutation, IsSortedBy, IsStableBy, ordering_then, bool_cmp, Reverse, cases_Bool, cond-false, cond-true, nat_tests}
 use Rattle.snippet_strokes.proofs.Common.{reverse-append, All-cons, All-nil, All-head, All-tail, All-permutation, IsPermutation-cons, IsPermutation-middle}
 use Rattle.snippet_strokes.proofs.Common.{IsPermutation-refl, IsPermutation-sym, IsPermutation-trans, ordered_by, put_in, All-put_in, map-ordered_by}
@@ -122,6 +122,12 @@ IsPermutation-ordered_by before (x ∷ xs) =
 -- it is an order of the same entries
 pub IsPermutation-painting_order : (placed : List PlacedEntry) → IsPermutation placed (painting_order placed)
 IsPermutation-painting_order placed = IsPermutation-ordered_by (λ e f. is_painted_before e.entry f.entry) placed
+
+-- one alone is in order
+pub alone_ordered : (placed : List PlacedEntry) → length placed ≤ 1 → placed ≡ painting_order placed
+alone_ordered [] few = refl
+alone_ordered (e ∷ []) few = refl
+alone_ordered (e ∷ f ∷ es) few = absurd (omega (arith, few))
 
 -- ---- entries that stand the other way round
 

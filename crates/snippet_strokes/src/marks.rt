@@ -37,7 +37,10 @@ pub fn draw_marks<C: Canvas>(
         ≡ painted (flat_map (mark_of layout row) placed.new.items) (C.rows buffer.old)) }
     ensures order { OnOk result (placed.new.items ≡ painting_order placed.old.items) }
 {
-    sort_for_painting(placed)?;
+    // Most lines have one entry, which is in order.
+    if placed.len() > 1 {
+        sort_for_painting(placed)?;
+    }
     paint_entries(buffer, layout, row, placed)
 }
 
