@@ -11,15 +11,15 @@ abbrev pub gone : List ℕ → Replacement → List ℕ
 gone text c = slice_range text c.start c.end
 
 -- whether some bytes end with a line feed
-abbrev pub ends_line : List ℕ → Bool
-ends_line bytes = is_lf (last_byte bytes)
+abbrev pub ends_with_feed : List ℕ → Bool
+ends_with_feed bytes = is_lf (last_byte bytes)
 
 abbrev pub has_feed : List ℕ → Bool
 has_feed bytes = list_any is_lf bytes
 
 -- what comes, without the line feed at its end that what goes has too
 abbrev pub before_end : List ℕ → List ℕ → List ℕ
-before_end gone comes = if ends_line gone && ends_line comes then take (length comes - 1) comes else comes
+before_end gone comes = if ends_with_feed gone && ends_with_feed comes then take (length comes - 1) comes else comes
 
 -- whether a byte is no blank and no line end
 abbrev pub is_seen : ℕ → Bool
@@ -35,7 +35,7 @@ hides_gone text c = nat_lt c.start c.end && nat_le c.end (length text) && is_rep
 
 -- a byte of the last line that goes: the last one of what goes, or the one after it, if its line is joined to the last one that comes
 abbrev pub last_gone : List ℕ → Replacement → ℕ
-last_gone text c = if ends_line (gone text c) && not (ends_line c.text.now) then c.end else c.end - 1
+last_gone text c = if ends_with_feed (gone text c) && not (ends_with_feed c.text.now) then c.end else c.end - 1
 
 -- from where to where the lines are that an edit takes out and that those which come don't tell, the end of the last line not counted
 abbrev pub gone_lines : List ℕ → Replacement → Option (ℕ × ℕ)
