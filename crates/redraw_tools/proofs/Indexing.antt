@@ -1,6 +1,6 @@
 -- Numbers of rules that are put under their ids.
 use Rattle.std.proofs.Common.{◌≡◌, ◌∙◌, ℕ, zero, suc, ◌+◌, ◌<◌, Bool, true, false, List, [], ◌∷◌, ◌++◌, Option, Some, None}
-use Rattle.std.proofs.Common.{ap, arith, get_or, refl, subst, sym, length, is_some, map, take}
+use Rattle.std.proofs.Common.{ap, arith, get_or, refl, sym, length, is_some, map, take}
 use Rattle.std.specs.Cmp.{nat_cmp_is}
 use Rattle.std.specs.List.{AllZip, slice_get}
 use Rattle.std.specs.declared.cmp.Ordering.TheVariants.{Equal}

@@ -1,5 +1,7 @@
+pub mod Adding
 pub mod Bases
 pub mod Cutting
+pub mod FixLemmas
 pub mod GoingOn
 pub mod Indexing
 pub mod LastChanged
@@ -7,4 +9,5 @@ pub mod LinkLemmas
 pub mod ListLemmas
 pub mod Listed
 pub mod Naming
+pub mod NotTold
 pub mod Rows

@@ -2,7 +2,7 @@
 use Rattle.std.proofs.Common.{◌≡◌, ℕ, ◌+◌, ◌<◌, List, [], ◌∷◌, ◌++◌, Option, Some, None, append_assoc, get_or, length, map, take, refl, sym, ap, ◌∙◌}
 use Rattle.std.specs.Prelude.{option_and_then}
 use Rattle.std.specs.List.{filter_map, flat_map}
-use Rattle.std.proofs.lemmas.List.{append-nil, map_more}
+use Rattle.std.proofs.lemmas.List.{map_more}
 use Rattle.std.proofs.lemmas.List.Elements.{filter_map-append}
 use Rattle.std.proofs.lemmas.Grind.{flat_map-append}
 use Rattle.serde_json.specs.Data.{Data, null, boolean, number, string, array, object}
@@ -62,13 +62,3 @@ keeps_more f vs i v w old now new within is same before added =
     let rest = filter_map f (map view (take i vs)) in
     added ∙ ap (λ u. now ++ filter_map f (view u ∷ [])) same ∙ ap (λ ys. ys ++ filter_map f (view v ∷ [])) before
     ∙ append_assoc old rest (filter_map f (view v ∷ [])) ∙ ap (λ ys. old ++ ys) (sym (kept_more f vs i v within is))
-
--- the same of what each value gives
-pub gives_more : {Y : Type 0} (f : Data → List Y) (vs : List Value) (i : ℕ) (v w : Value) (old now new : List Y) → i < length vs
-    → v ≡ get_or vs i v → w ≡ v → now ≡ old ++ flat_map f (map view (take i vs)) → new ≡ now ++ f (view w)
-    → new ≡ old ++ flat_map f (map view (take (i + 1) vs))
-gives_more f vs i v w old now new within is same before added =
-    let rest = flat_map f (map view (take i vs)) in
-    added ∙ ap (λ u. now ++ f (view u)) same ∙ ap (λ ys. ys ++ f (view v)) before
-    ∙ append_assoc old rest (f (view v)) ∙ ap (λ ys. old ++ (rest ++ ys)) (sym (append-nil (f (view v))))
-    ∙ ap (λ ys. old ++ ys) (sym (mapped_more f vs i v within is))

@@ -3,6 +3,7 @@ pub mod Edits
 pub mod Eslint
 pub mod Excerpt
 pub mod Filling
+pub mod Fixes
 pub mod Found
 pub mod Heading
 pub mod Links

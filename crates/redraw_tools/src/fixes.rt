@@ -1,10 +1,15 @@
 //! The fixes that a result suggests.
-ghost use Rattle.std.specs.Prelude.{◌≡◌, ◌++◌, ◌∷◌, [], IfOk, IfSome, OnOk, map, option_map};
+ghost use Rattle.std.specs.Prelude.{◌≡◌, ◌<◌, ◌++◌, ◌∷◌, [], IfOk, IfSome, OnOk, length, map, option_map};
+ghost use Rattle.std.specs.Prelude.{string_bytes, true};
 ghost use Rattle.std.specs.List.{filter_map};
 ghost use Rattle.serde_json.specs.View.{view};
 ghost use Rattle.json_lines.specs.Field.{lent_text};
 ghost use Rattle.redraw_tools.specs.Edits as spec;
 ghost use Rattle.redraw_tools.specs.Edits.{edit_in, edit_view, edits_if_named, edits_of_change, edits_of_fix};
+ghost use Rattle.redraw_tools.specs.Fixes as said;
+ghost use Rattle.redraw_tools.specs.Found.{changes_view, remark_view};
+ghost use Rattle.redraw_tools.specs.Fixes.{AddsFix, AddsFixes, Describes, remarks, with_fix};
+ghost use Rattle.redraw_tools.specs.Rule.{part_data, rule_data};
 
 use crate::location::Context;
 use crate::message::part_text_in;
@@ -24,7 +29,10 @@ pub fn add_fixes(
     fixes: &List<'_, '_>,
     context: &Context<'_, '_>,
     problems: &mut Problems,
-) -> Result<(), AllocError> {
+) -> Result<(), AllocError>
+    ensures added { OnOk result (AddsFixes (view context.now.run.now) context.now.unit (part_data context.now.rule)
+        (rule_data context.now.rule) (map view fixes.now.items.now) (remarks children.old) (remarks children.new)) }
+{
     for (index, value) in fixes.items.iter().enumerate() {
         take_fix(children, &fixes.node(index, value), context, problems)?;
     }
@@ -37,7 +45,10 @@ fn take_fix(
     fix: &LenientNode<'_, '_>,
     context: &Context<'_, '_>,
     problems: &mut Problems,
-) -> Result<(), AllocError> {
+) -> Result<(), AllocError>
+    ensures added { OnOk result (AddsFix (view context.now.run.now) context.now.unit (part_data context.now.rule)
+        (rule_data context.now.rule) (view fix.now.value.now) (remarks children.old) (remarks children.new)) }
+{
     match edits_of(fix, context, problems)? {
         Some(edits) => {
             let message = description_of(fix, context, problems)?;
@@ -52,7 +63,10 @@ fn description_of(
     fix: &LenientNode<'_, '_>,
     context: &Context<'_, '_>,
     problems: &mut Problems,
-) -> Result<String, AllocError> {
+) -> Result<String, AllocError>
+    ensures is { IfOk result (λ text. Describes (part_data context.now.rule) (rule_data context.now.rule)
+        (view fix.now.value.now) (string_bytes text)) }
+{
     match part_text_in(fix, "description", context, problems)? {
         Some(message) => Ok(message),
         None => String::from_str(context.alloc, UNDESCRIBED),
@@ -65,22 +79,35 @@ fn add_fix(
     message: String,
     edits: Vec<SuggestedEdit>,
     context: &Context<'_, '_>,
-) -> Result<(), AllocError> {
-    match last_said(children, message.as_str()) {
-        Some(last) => last.alternatives.push(edits)?,
-        None => children.push(help_of(context.alloc, message, edits)?)?,
-    };
+) -> Result<(), AllocError>
+    ensures added { OnOk result (remarks children.new
+        ≡ with_fix (string_bytes message) (changes_view edits) (remarks children.old)) }
+{
+    if says_last(children, message.as_str()) {
+        let last = children.len() - 1;
+        children[last].alternatives.push(edits)?;
+    } else {
+        children.push(help_of(context.alloc, message, edits)?)?;
+    }
     Ok(())
 }
 
-/// The last help, if it says this.
-fn last_said<'c>(children: &'c mut Vec<Child>, message: &str) -> Option<&'c mut Child> {
-    match children.last_mut() {
-        Some(last) if last.severity == Severity::Help && last.message.as_str() == message => {
-            Some(last)
-        }
-        _ => None,
+/// Whether the last of some remarks is a help that says this.
+fn says_last(children: &[Child], message: &str) -> bool
+    ensures value { result ≡ said.says_last message.now (map remark_view children.now) }
+    ensures some { result ≡ true → 0 < length children.now }
+{
+    match children.last() {
+        Some(last) => is_help(last.severity) && last.message.as_str() == message,
+        None => false,
     }
+}
+
+/// Whether a level is that of a help.
+fn is_help(severity: Severity) -> bool
+    ensures value { result ≡ said.is_help severity }
+{
+    matches!(severity, Severity::Help)
 }
 
 /// The edits of a fix, in all files; `None` where something is wrong with one of them, which is reported: the others

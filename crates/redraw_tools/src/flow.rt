@@ -1,6 +1,10 @@
 //! How a result comes about: the steps of its first code flow.
-ghost use Rattle.std.specs.Prelude.{◌≡◌, ◌<◌, IfSome, OnOk, length};
-ghost use Rattle.redraw_tools.specs.Places.{GoesOn};
+ghost use Rattle.std.specs.Prelude.{◌≡◌, ◌<◌, IfSome, OnOk, Some, length, option_map, slice_index_or};
+ghost use Rattle.std.specs.Prelude.{string_bytes, true};
+ghost use Rattle.json_lines.specs.Field.{lent_text};
+ghost use Rattle.redraw_report.specs.declared.diagnostic.FileSpan as file_span;
+ghost use Rattle.redraw_tools.specs.Fixes.{AddsNotes, remarks};
+ghost use Rattle.redraw_tools.specs.Places.{GoesOn, SaysNoMore, StillSays};
 
 use crate::location::{Context, message_at, place_at};
 use crate::parts::remark_of;
@@ -27,6 +31,7 @@ pub fn add_steps(
     problems: &mut Problems,
 ) -> Result<(), AllocError>
     ensures kept { OnOk result (GoesOn told.old.spans.items told.new.spans.items) }
+    ensures notes { OnOk result (AddsNotes (remarks told.old.children) (remarks told.new.children)) }
 {
     let flows = reported.list("codeFlows", problems);
     let Some(flow) = first_of(&flows, problems) else {
@@ -60,6 +65,7 @@ fn add_thread(
     problems: &mut Problems,
 ) -> Result<(), AllocError>
     ensures kept { OnOk result (GoesOn told.old.spans.items told.new.spans.items) }
+    ensures notes { OnOk result (AddsNotes (remarks told.old.children) (remarks told.new.children)) }
 {
     let steps = thread.needed_list("locations", problems);
     let count = steps.items.len();
@@ -84,6 +90,7 @@ fn add_step_at(
     problems: &mut Problems,
 ) -> Result<(), AllocError>
     ensures kept { OnOk result (GoesOn told.old.spans.items told.new.spans.items) }
+    ensures notes { OnOk result (AddsNotes (remarks told.old.children) (remarks told.new.children)) }
 {
     match steps.items.get(index) {
         Some(value) => {
@@ -103,6 +110,7 @@ fn add_step(
     problems: &mut Problems,
 ) -> Result<(), AllocError>
     ensures kept { OnOk result (GoesOn told.old.spans.items told.new.spans.items) }
+    ensures notes { OnOk result (AddsNotes (remarks told.old.children) (remarks told.new.children)) }
 {
     if !step.is_object(problems) {
         return Ok(());
@@ -119,13 +127,15 @@ fn add_step(
     }
 }
 
-/// Marks the place of a step. A place that is marked already, and says nothing or the same, is marked once.
+/// Marks the place of a step, whose label is its message after its number. A place that is marked already, and says
+/// nothing or the same, is marked once.
 fn mark_step(
     spans: &mut Vec<FileSpan>,
     place: FileSpan,
     message: Option<String>,
     label: String,
 ) -> Result<(), AllocError>
+    requires label { StillSays (option_map string_bytes message) (Some (string_bytes label)) }
     ensures kept { OnOk result (GoesOn spans.old.items spans.new.items) }
 {
     match marked_at(spans, &place, &message) {
@@ -145,6 +155,8 @@ fn mark_step(
 /// The index of the place where this one is marked already, and says nothing or the same.
 fn marked_at(spans: &[FileSpan], place: &FileSpan, message: &Option<String>) -> Option<usize>
     ensures within { IfSome result (λ at. at < length spans.now) }
+    ensures same { IfSome result (λ at. (d : file_span.FileSpan) → SaysNoMore (slice_index_or spans.now at d)
+        (option_map string_bytes message.now)) }
 {
     for (at, span) in spans.iter().enumerate() {
         if is_same_place(span, place) && says_no_more(span, message) {
@@ -160,12 +172,16 @@ fn is_same_place(one: &FileSpan, other: &FileSpan) -> bool {
 }
 
 /// Whether a place has no label, or this one.
-fn says_no_more(span: &FileSpan, message: &Option<String>) -> bool {
+fn says_no_more(span: &FileSpan, message: &Option<String>) -> bool
+    ensures yes { result ≡ true → SaysNoMore span.now (option_map string_bytes message.now) }
+{
     span.label.is_none() || text_of(&span.label) == text_of(message)
 }
 
 /// A text, if there is one.
-fn text_of(text: &Option<String>) -> Option<&str> {
+fn text_of(text: &Option<String>) -> Option<&str>
+    ensures value { lent_text result ≡ option_map string_bytes text.now }
+{
     match text {
         Some(text) => Some(text.as_str()),
         None => None,
@@ -175,6 +191,7 @@ fn text_of(text: &Option<String>) -> Option<&str> {
 /// Adds a note.
 fn add_note(told: &mut Told, message: String, context: &Context<'_, '_>) -> Result<(), AllocError>
     ensures kept { told.new.spans ≡ told.old.spans }
+    ensures notes { OnOk result (AddsNotes (remarks told.old.children) (remarks told.new.children)) }
 {
     told.children
         .push(remark_of(context.alloc, Severity::Note, message))?;

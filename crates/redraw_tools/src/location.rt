@@ -1,12 +1,13 @@
 //! The places that a result names.
-ghost use Rattle.std.specs.Prelude.{◌≡◌, ◌++◌, ◌∷◌, [], IfOk, IfSome, OnOk, codes, false, map, option_map};
+ghost use Rattle.std.specs.Prelude.{◌≡◌, ◌++◌, ◌∷◌, [], IfOk, OnOk, codes, false, map, option_map};
 ghost use Rattle.std.specs.Prelude.{string_bytes};
 ghost use Rattle.std.specs.List.{filter_map, flat_map};
 ghost use Rattle.serde_json.specs.View.{view};
 ghost use Rattle.json_lines.specs.Lenient.{object_at};
 ghost use Rattle.redraw_tools.specs.Message.{MaySay};
 ghost use Rattle.redraw_tools.specs.Places as spec;
-ghost use Rattle.redraw_tools.specs.Places.{annotation_in, annotations_of, part_of, place_in, placed, span_view};
+ghost use Rattle.redraw_tools.specs.Places.{Adds, IsMarkedIf, annotation_in, annotations_of, part_of, place_in, placed};
+ghost use Rattle.redraw_tools.specs.Places.{span_view};
 ghost use Rattle.redraw_tools.specs.Rule.{part_data, rule_data};
 
 use crate::message::part_text_in;
@@ -40,9 +41,9 @@ pub fn add_spans(
     is_primary: bool,
     problems: &mut Problems,
 ) -> Result<(), AllocError>
-    ensures added { OnOk result (map span_view spans.new.items ≡ map span_view spans.old.items
-        ++ filter_map (place_in (view context.now.run.now) context.now.unit is_primary)
-        (map view locations.now.items.now)) }
+    ensures added { OnOk result (Adds (part_data context.now.rule) (rule_data context.now.rule)
+        (filter_map (place_in (view context.now.run.now) context.now.unit is_primary)
+        (map view locations.now.items.now)) spans.old.items spans.new.items) }
 {
     for (index, value) in locations.items.iter().enumerate() {
         let span = span_of(&locations.node(index, value), context, is_primary, problems)?;
@@ -53,8 +54,7 @@ pub fn add_spans(
 
 /// Adds a place, if there is one.
 fn add_span(spans: &mut Vec<FileSpan>, span: Option<FileSpan>) -> Result<(), AllocError>
-    ensures added { OnOk result (map span_view spans.new.items ≡ map span_view spans.old.items
-        ++ filter_map (λ o. o) (option_map span_view span ∷ [])) }
+    ensures added { OnOk result (spans.new.items ≡ spans.old.items ++ filter_map (λ o. o) (span ∷ [])) }
 {
     if let Some(span) = span {
         spans.push(span)?;
@@ -69,11 +69,8 @@ fn span_of(
     is_primary: bool,
     problems: &mut Problems,
 ) -> Result<Option<FileSpan>, AllocError>
-    ensures value { IfOk result (λ span. option_map span_view span
-        ≡ place_in (view context.now.run.now) context.now.unit is_primary (view location.now.value.now)) }
-    ensures label { IfOk result (λ span. IfSome span (λ place.
-        MaySay (part_data context.now.rule) (rule_data context.now.rule)
-        (object_at (codes "message") (view location.now.value.now)) (option_map string_bytes place.label))) }
+    ensures is { IfOk result (IsMarkedIf (part_data context.now.rule) (rule_data context.now.rule)
+        (place_in (view context.now.run.now) context.now.unit is_primary (view location.now.value.now))) }
 {
     if !location.is_object(problems) {
         return Ok(None);
@@ -96,9 +93,9 @@ pub fn add_annotations(
     context: &Context<'_, '_>,
     problems: &mut Problems,
 ) -> Result<(), AllocError>
-    ensures added { OnOk result (map span_view spans.new.items ≡ map span_view spans.old.items
-        ++ flat_map (annotations_of (view context.now.run.now) context.now.unit)
-        (map view locations.now.items.now)) }
+    ensures added { OnOk result (Adds (part_data context.now.rule) (rule_data context.now.rule)
+        (flat_map (annotations_of (view context.now.run.now) context.now.unit)
+        (map view locations.now.items.now)) spans.old.items spans.new.items) }
 {
     for (index, value) in locations.items.iter().enumerate() {
         add_annotations_at(spans, &locations.node(index, value), context, problems)?;
@@ -113,8 +110,9 @@ fn add_annotations_at(
     context: &Context<'_, '_>,
     problems: &mut Problems,
 ) -> Result<(), AllocError>
-    ensures added { OnOk result (map span_view spans.new.items ≡ map span_view spans.old.items
-        ++ annotations_of (view context.now.run.now) context.now.unit (view location.now.value.now)) }
+    ensures added { OnOk result (Adds (part_data context.now.rule) (rule_data context.now.rule)
+        (annotations_of (view context.now.run.now) context.now.unit (view location.now.value.now))
+        spans.old.items spans.new.items) }
 {
     let annotations = location.list("annotations", problems);
     for (index, value) in annotations.items.iter().enumerate() {
@@ -133,12 +131,9 @@ fn annotation_of(
     context: &Context<'_, '_>,
     problems: &mut Problems,
 ) -> Result<Option<FileSpan>, AllocError>
-    ensures value { IfOk result (λ span. option_map span_view span
-        ≡ annotation_in (view context.now.run.now) context.now.unit (view location.now.value.now)
-        (view region.now.value.now)) }
-    ensures label { IfOk result (λ span. IfSome span (λ place.
-        MaySay (part_data context.now.rule) (rule_data context.now.rule)
-        (object_at (codes "message") (view region.now.value.now)) (option_map string_bytes place.label))) }
+    ensures is { IfOk result (IsMarkedIf (part_data context.now.rule) (rule_data context.now.rule)
+        (annotation_in (view context.now.run.now) context.now.unit (view location.now.value.now)
+        (view region.now.value.now))) }
 {
     let Some(place) = place_at(location, context, problems)? else {
         return Ok(None);

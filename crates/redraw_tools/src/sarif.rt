@@ -7,7 +7,8 @@ ghost use Rattle.json_lines.specs.Lenient.{list_at, object_at};
 ghost use Rattle.redraw_tools.specs.Message as message;
 ghost use Rattle.redraw_tools.specs.Message.{description};
 ghost use Rattle.redraw_tools.specs.Places.{ArePlaces};
-ghost use Rattle.redraw_tools.specs.Result.{ArePlacesAndSteps, IsResultOf, IsTold};
+ghost use Rattle.redraw_tools.specs.Fixes.{remarks};
+ghost use Rattle.redraw_tools.specs.Result.{ArePlacesAndSteps, IsAdvised, IsResultOf, IsTold};
 ghost use Rattle.redraw_tools.specs.Rule.{part_data, part_with_rule, rule_data, rule_in};
 ghost use Rattle.redraw_tools.specs.RuleIndex.{AreIndexesOf};
 ghost use Rattle.redraw_tools.specs.Units as units;
@@ -162,7 +163,10 @@ fn told_of(
     problems: &mut Problems,
 ) -> Result<Told, AllocError>
     ensures are { IfOk result (λ told. ArePlacesAndSteps (view context.now.run.now) context.now.unit
-        (view reported.now.value.now) told.spans.items) }
+        (part_data context.now.rule) (rule_data context.now.rule) (view reported.now.value.now) told.spans.items) }
+    ensures advised { IfOk result (λ told. IsAdvised (view context.now.run.now) context.now.unit
+        (part_data context.now.rule) (rule_data context.now.rule) (view reported.now.value.now)
+        (remarks told.children)) }
 {
     let spans = spans_of(reported, context, problems)?;
     let children = Vec::new(context.alloc);
@@ -180,7 +184,7 @@ fn spans_of(
     problems: &mut Problems,
 ) -> Result<Vec<FileSpan>, AllocError>
     ensures are { IfOk result (λ spans. ArePlaces (view context.now.run.now) context.now.unit
-        (view reported.now.value.now) spans.items) }
+        (part_data context.now.rule) (rule_data context.now.rule) (view reported.now.value.now) spans.items) }
 {
     let mut spans = Vec::new(context.alloc);
     let own = reported.list("locations", problems);

@@ -1,6 +1,5 @@
-use Rattle.std.proofs.Common.{Some, length}
+use Rattle.std.proofs.Common.{length}
 use Rattle.std.proofs.lemmas.Map.Text.{btree_map_updates_str}
-use Rattle.redraw_tools.specs.RuleIndex.{has_length}
 use Rattle.redraw_tools.proofs.Indexing.{put-indexed, put-measured}
 use Rattle.redraw_tools.proofs.rules.RuleNumbers.put.Goals as goal
 

@@ -1,0 +1,8 @@
+use Rattle.redraw_tools.proofs.GoingOn.{going-none}
+use Rattle.redraw_tools.proofs.flow.add_steps.Goals as goal
+
+pub returns-in_default-clause-kept : goal.returns-in_default-clause-kept
+returns-in_default-clause-kept c = going-none c.args.told.now.spans.items
+
+pub returns-in-None-clause-kept : goal.returns-in-None-clause-kept
+returns-in-None-clause-kept c = going-none c.args.told.now.spans.items
