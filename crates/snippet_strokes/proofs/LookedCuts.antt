@@ -3,8 +3,9 @@ use Rattle.std.proofs.lemmas.Grind.{common_steps}
 use Rattle.snippet_strokes.proofs.Common.{◌≡◌, ◌∙◌, ℕ, zero, suc, ◌+◌, ◌-◌, ◌≤◌, Bool, true, false, ◌&&◌, ◌||◌, List, []}
 use Rattle.snippet_strokes.proofs.Common.{◌∷◌, ◌++◌, take, drop, length, map, refl, sym, ap, inl, inr, arith, enumerate_from, list_any, append_assoc}
 use Rattle.snippet_strokes.proofs.Common.{length-append, get_or-append_seam, cases_lt, nat_tests, PlacedEntry, do_overlap, overlapped, sees, is_met, look_ends}
-use Rattle.snippet_strokes.proofs.Common.{meets, overlapped_by}
-use Rattle.std.specs.Prelude.{nat_le, nat_lt}
+use Rattle.snippet_strokes.proofs.Common.{entry_width, is_wide_entry, meets, overlapped_by}
+use Rattle.std.specs.Prelude.{◌*◌, nat_le, nat_lt}
+use Rattle.snippet_parts.specs.Entries.{is_single_part}
 
 -- ---- tests of a list
 
@@ -102,3 +103,16 @@ flags_from placed front k (e ∷ es) parts count =
 -- what the code finds is the rule
 pub overlapped_looked : (placed : List PlacedEntry) → overlapped_by placed (look_ends 0 placed) 0 placed ≡ overlapped placed
 overlapped_looked placed = flags_from placed [] 0 placed refl refl
+
+-- ---- which entries are wide
+
+narrow : (room n width : ℕ) (is_single : Bool) → nat_lt room width ≡ false → (is_single && nat_lt (2 * room) width && nat_lt (10 + n) width) ≡ false
+narrow room n width true none = grind (arith, nat_tests)
+narrow room n width false none = refl
+
+-- none is wide, where none is wider than the room
+pub none_wide : (room n : ℕ) (es : List PlacedEntry) → list_any (λ e. nat_lt room (entry_width e.entry)) es ≡ false
+    → list_any (λ e. is_wide_entry room n e.entry) es ≡ false
+none_wide room n [] none = refl
+none_wide room n (e ∷ es) none =
+    grind (arith, narrow room n (entry_width e.entry) (is_single_part e.entry.annotation_type), none_wide room n es)

@@ -11,6 +11,7 @@ ghost use Rattle.snippet_style.specs.declared.role.ElementStyle.TheVariants.{Lin
 ghost use Rattle.snippet_strokes.specs.Cuts as rule;
 ghost use Rattle.snippet_strokes.specs.LookedCuts as spec;
 ghost use Rattle.snippet_strokes.specs.LookedCuts.{is_wide_at};
+ghost use Rattle.snippet_labels.specs.PlacedEntries.{entry_width};
 ghost use Rattle.snippet_labels.specs.Pieces.{breaks_labels};
 ghost use Rattle.snippet_labels.specs.Placing.{HasPlace};
 ghost use Rattle.snippet_grid.specs.Calls.{cells_replaced};
@@ -65,7 +66,24 @@ fn has_wide(room: usize, decor: DecorStyle, placed: &[PlacedEntry]) -> bool
     requires columns { All (λ e. HasPlace e.entry) placed.now }
     ensures value { result ≡ list_any (is_wide_at room decor) placed.now }
 {
-    placed.iter().any(|p| is_wide(room, decor, &p.entry))
+    // Seldom is one wider than the room. The width of the placeholder is looked at only then.
+    has_wider(room, placed) && placed.iter().any(|p| is_wide(room, decor, &p.entry))
+}
+
+/// Whether one of these entries covers more columns than the room has.
+fn has_wider(room: usize, placed: &[PlacedEntry]) -> bool
+    requires columns { All (λ e. HasPlace e.entry) placed.now }
+    ensures value { result ≡ list_any (λ e. nat_lt room (entry_width e.entry)) placed.now }
+{
+    placed.iter().any(|p| covers_more(room, &p.entry))
+}
+
+/// Whether an entry covers more columns than the room has.
+fn covers_more(room: usize, entry: &LineAnnotation) -> bool
+    requires columns { HasPlace entry.now }
+    ensures value { result ≡ nat_lt room (entry_width entry.now) }
+{
+    entry.end.display - entry.start.display > room
 }
 
 /// For each entry before which place those stand that were looked at while the place of its label was sought, from the
